@@ -1,0 +1,4 @@
+pub mod Part
+pub mod Ascii
+pub mod Same
+pub mod Table

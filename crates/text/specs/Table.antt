@@ -1,0 +1,39 @@
+-- A rule of a table, proved at all of its entries by one test that antt computes, one entry after the other.
+-- Assumes nothing.
+use mathlib.Core.Bool.{Bool, true, false, _&&_}
+use mathlib.Core.List.{List, [], _∷_}
+use mathlib.Core.Path.{_≡_, _∙_, subst, sym}
+use Prim.Native.Nat.{ℕ, zero, suc, _+_, _<_}
+use native.Mathlib.Nat.{add-zero, zero-add, add-suc, suc-add, le-of-suc-le-suc, not-suc-le-zero}
+use lib.Dec.{T, eqb, eqb→eq}
+use lib.ListN.{length, getD}
+
+-- both tests of a pair pass
+pub first-of : (a b : Bool) → T (a && b) → T a
+first-of true b t = tt
+first-of false b t = t
+
+pub second-of : (a b : Bool) → T (a && b) → T b
+second-of true b t = t
+second-of false b t = absurd t
+
+module _ {A : Type 0} where
+  -- the test f passes at each entry of the list and its place, counted from i
+  abbrev pub every : (ℕ → A → Bool) → ℕ → List A → Bool
+  every f i [] = true
+  every f i (x ∷ xs) = f i x && every f (suc i) xs
+
+  from : (f : ℕ → A → Bool) (xs : List A) (d : A) (i : ℕ) → T (every f i xs) → (k : ℕ) → k < length xs → T (f (i + k) (getD xs k d))
+  from f [] d i t k h = absurd (not-suc-le-zero h)
+  from f (x ∷ xs) d i t zero h = subst (λ (m : ℕ). T (f m x)) (sym (add-zero i)) (first-of (f i x) (every f (suc i) xs) t)
+  from f (x ∷ xs) d i t (suc k) h =
+      subst (λ (m : ℕ). T (f m (getD xs k d))) (suc-add i k ∙ sym (add-suc i k))
+      (from f xs d (suc i) (second-of (f i x) (every f (suc i) xs) t) k (le-of-suc-le-suc h))
+
+  pub at : (f : ℕ → A → Bool) (xs : List A) (d : A) → T (every f 0 xs) → (k : ℕ) → k < length xs → T (f k (getD xs k d))
+  at f xs d t k h = subst (λ (m : ℕ). T (f m (getD xs k d))) (zero-add k) (from f xs d 0 t k h)
+
+-- The table of a function: its length and its entries are computed.
+pub table-at : (f : ℕ → ℕ) (xs : List ℕ) (n : ℕ) → length xs ≡ n → T (every (λ k x. eqb x (f k)) 0 xs) → (k : ℕ) → k < n → getD xs k 0 ≡ f k
+table-at f xs n e t k h =
+    eqb→eq (getD xs k 0) (f k) (at (λ k x. eqb x (f k)) xs 0 t k (subst (λ (m : ℕ). k < m) (sym e) h))
