@@ -2,11 +2,16 @@
 -- Assumes nothing.
 use mathlib.Core.Bool.{Bool, true, false, _&&_}
 use mathlib.Core.List.{List, [], _∷_}
-use mathlib.Core.Path.{_≡_, _∙_, subst, sym}
+use mathlib.Core.Path.{_≡_, refl, _∙_, subst, sym}
 use Prim.Native.Nat.{ℕ, zero, suc, _+_, _<_}
 use native.Mathlib.Nat.{add-zero, zero-add, add-suc, suc-add, le-of-suc-le-suc, not-suc-le-zero}
 use lib.Dec.{T, eqb, eqb→eq}
 use lib.ListN.{length, getD}
+
+-- a test that passes is true
+pub is-true : (b : Bool) → T b → b ≡ true
+is-true true t = refl
+is-true false t = absurd t
 
 -- both tests of a pair pass
 pub first-of : (a b : Bool) → T (a && b) → T a
@@ -16,6 +21,16 @@ first-of false b t = t
 pub second-of : (a b : Bool) → T (a && b) → T b
 second-of true b t = t
 second-of false b t = absurd t
+
+-- all tests of a list pass, and so does each
+abbrev pub all : List Bool → Bool
+all [] = true
+all (b ∷ bs) = b && all bs
+
+pub each : (bs : List Bool) → T (all bs) → (i : ℕ) → T (getD bs i true)
+each [] t i = tt
+each (b ∷ bs) t zero = first-of b (all bs) t
+each (b ∷ bs) t (suc i) = each bs (second-of b (all bs) t) i
 
 module _ {A : Type 0} where
   -- the test f passes at each entry of the list and its place, counted from i

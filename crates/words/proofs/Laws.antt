@@ -1,0 +1,125 @@
+-- The rules of the constants against the lists of words, each computed once over the whole table, and what the proofs cite of them.
+-- Assumes nothing.
+use mathlib.Core.Bool.{Bool, true}
+use mathlib.Core.List.{List, [], _∷_, _++_, map}
+use mathlib.Core.Path.{_≡_, refl, sym, _∙_, ap, subst}
+use Prim.Native.Nat.{ℕ, _+_, _*_, _%_, _≤_, _<_}
+use native.Mathlib.Omega.{arith}
+use lib.Dec.{T, eqb, leb, eqb→eq, leb→le}
+use lib.ListN.{length, getD, take, drop}
+use lib.Seq.{getD-take, getD-drop}
+use Rattle.text.specs.Ascii.{ascii, asciiFrom}
+use Rattle.text.specs.Same.{same, same-true}
+use Rattle.text.specs.Table.{every, at, table-at, all, each, is-true}
+use Rattle.words.specs.Words.{FUNCTION_RESERVED, KEYWORDS, MACROS, MODULE_RESERVED, RULE_NAMES, BOOLEANS, RULE_WORDS, UINT_TYPES, BUILTIN_ALIASES, BOOL, TYPE_NAMES}
+use Rattle.words.specs.Layout.{tables, entries, letters, slotOf}
+use Rattle.words.specs.Lies.{Lies, Only}
+use Rattle.words.specs.Right.{Says}
+use Rattle.words.specs.declared.Found.the-variants.{Plain}
+use Rattle.words.proofs.Constants.{starts, sizes, bases, counts, slots}
+
+-- ---- one test for each word of each table
+
+-- the test passes at each table's number, each word's number and the word
+abbrev everyWord : (ℕ → ℕ → List ℕ → Bool) → Bool
+everyWord f = every (λ t ws. every (f t) 0 ws) 0 tables
+
+word-at : (f : ℕ → ℕ → List ℕ → Bool) → T (everyWord f) → (t k : ℕ) → t < length tables → k < length (getD tables t []) → T (f t k (getD (getD tables t []) k []))
+word-at f test t k h l = at (f t) (getD tables t []) [] (at (λ t ws. every (f t) 0 ws) tables [] test t h) k l
+
+table-count : length tables ≡ 6
+unfolding tables
+table-count = refl
+
+-- what is tested of word k of table t, whose bytes are w: it has from 2 to 14 bytes, its slot holds its number, its entry is the word
+abbrev tests : ℕ → ℕ → List ℕ → List Bool
+tests t k w =
+    leb 2 (length w) ∷
+    leb (length w) 14 ∷
+    eqb (getD slots (t * 128 + slotOf w) 0) k ∷
+    leb (getD bases t 0 + k + 1) 77 ∷
+    same (getD entries (getD bases t 0 + k) []) w ∷ []
+
+words-pass : T (everyWord (λ t k w. all (tests t k w)))
+unfolding same tables entries slotOf slots bases FUNCTION_RESERVED KEYWORDS MACROS MODULE_RESERVED RULE_NAMES BOOLEANS RULE_WORDS UINT_TYPES BUILTIN_ALIASES BOOL TYPE_NAMES ascii asciiFrom
+words-pass = tt
+
+module _ (t k : ℕ) (h : t < 6) (l : k < length (getD tables t [])) where
+  pass : (i : ℕ) → T (getD (tests t k (getD (getD tables t []) k [])) i true)
+  pass = each (tests t k (getD (getD tables t []) k [])) (word-at (λ t k w. all (tests t k w)) words-pass t k (omega (arith, table-count)) l)
+
+  pub word-long : 2 ≤ length (getD (getD tables t []) k [])
+  word-long = leb→le _ _ (pass 0)
+
+  pub word-short : length (getD (getD tables t []) k []) ≤ 14
+  word-short = leb→le _ _ (pass 1)
+
+  slot-holds : getD slots (t * 128 + slotOf (getD (getD tables t []) k [])) 0 ≡ k
+  slot-holds = eqb→eq _ _ (pass 2)
+
+  pub entry-in : getD bases t 0 + k < 77
+  entry-in = let b = leb→le (getD bases t 0 + k + 1) 77 (pass 3) in omega arith
+
+  pub entry-is : getD entries (getD bases t 0 + k) [] ≡ getD (getD tables t []) k []
+  entry-is = same-true _ _ (is-true _ (pass 4))
+
+-- bytes of another length are no word
+module _ (t : ℕ) (h : t < 6) (p : List ℕ) where
+  pub too-short : length p < 2 → Says (getD tables t []) p Plain
+  too-short s k l e = omega (arith, word-long t k h l, ap length e)
+
+  pub too-long : 14 < length p → Says (getD tables t []) p Plain
+  too-long s k l e = omega (arith, word-short t k h l, ap length e)
+
+-- p can be no other word of table t than the one that its slot holds
+pub only-at : (t : ℕ) → t < 6 → (p : List ℕ) → Only (getD tables t []) p (getD slots (t * 128 + slotOf p) 0)
+only-at t h p = record { is = λ k l e. ap (λ x. getD slots (t * 128 + slotOf x) 0) (sym e) ∙ slot-holds t k h l }
+
+pub slot-below : (p : List ℕ) → slotOf p < 128
+unfolding slotOf
+slot-below p = omega arith
+
+pub count-at : (t : ℕ) → t < 6 → getD counts t 0 ≡ length (getD tables t [])
+unfolding counts tables FUNCTION_RESERVED KEYWORDS MACROS MODULE_RESERVED RULE_NAMES BOOLEANS RULE_WORDS UINT_TYPES BUILTIN_ALIASES BOOL TYPE_NAMES
+count-at = table-at (λ t. length (getD tables t [])) counts 6 refl tt
+
+-- ---- one test for each entry
+
+letter-count : length letters ≡ 359
+unfolding letters ascii asciiFrom
+letter-count = refl
+
+entry-count : length entries ≡ 77
+unfolding entries FUNCTION_RESERVED KEYWORDS MACROS MODULE_RESERVED RULE_NAMES BOOLEANS RULE_WORDS UINT_TYPES BUILTIN_ALIASES BOOL TYPE_NAMES
+entry-count = refl
+
+-- what is tested of entry e, whose bytes are w: its size, and that it stands among the letters
+abbrev entry-tests : ℕ → List ℕ → List Bool
+entry-tests e w =
+    eqb (getD sizes e 0) (length w) ∷
+    leb (getD starts e 0 + length w) 359 ∷
+    same (take (length w) (drop (getD starts e 0) letters)) w ∷ []
+
+entries-pass : T (every (λ e w. all (entry-tests e w)) 0 entries)
+unfolding same entries letters sizes starts FUNCTION_RESERVED KEYWORDS MACROS MODULE_RESERVED RULE_NAMES BOOLEANS RULE_WORDS UINT_TYPES BUILTIN_ALIASES BOOL TYPE_NAMES ascii asciiFrom
+entries-pass = tt
+
+module _ (e : ℕ) (h : e < 77) where
+  entry-pass : (i : ℕ) → T (getD (entry-tests e (getD entries e [])) i true)
+  entry-pass = each (entry-tests e (getD entries e [])) (at (λ e w. all (entry-tests e w)) entries [] entries-pass e (omega (arith, entry-count)))
+
+  pub size-at : getD sizes e 0 ≡ length (getD entries e [])
+  size-at = eqb→eq _ _ (entry-pass 0)
+
+  pub start-at : Lies (getD starts e 0) (getD entries e [])
+  start-at =
+      let i = leb→le (getD starts e 0 + length (getD entries e [])) 359 (entry-pass 1) in
+      record { inside = omega (arith, letter-count); spelt = same-true _ _ (is-true _ (entry-pass 2)) }
+
+-- what the loop over a word's bytes wants of it
+module _ {r : ℕ} {w : List ℕ} (v : Lies r w) (j : ℕ) (l : j < length w) where
+  pub inside : r + j < 359
+  inside = omega (arith, letter-count, v .inside)
+
+  pub spelt : getD letters (r + j) 0 ≡ getD w j 0
+  spelt = sym (getD-drop r letters j 0) ∙ sym (getD-take (length w) (drop r letters) j 0 l) ∙ ap (λ x. getD x j 0) (v .spelt)

@@ -1,0 +1,4 @@
+pub mod Words
+pub mod Right
+pub mod Layout
+pub mod Lies

@@ -1,0 +1,26 @@
+#!/usr/bin/env bash
+# All tests: generated files are what their scripts write, the layout, then `rt ci` (every crate proved, every must-fail edit
+# refused, every program run). The last line, 'N passed, 0 failed', is printed only where everything passed.
+set -euo pipefail
+cd "$(dirname "$0")/.."
+passed=0
+log=$(mktemp)
+trap 'rm -f "$log"' EXIT
+
+run() {
+    echo "test: $*"
+    "$@" || { echo "test: failed: $*"; exit 1; }
+    passed=$((passed + 1))
+}
+
+for script in tools/words.py tools/words_cases.py; do
+    run python3 "$script" --check
+done
+run rt fmt --check
+
+# The last line of rt ci is held back, and printed below with what passed here added.
+echo "test: rt ci"
+rt ci 2>&1 | tee "$log" | grep -vE '^[0-9]+ passed, [0-9]+ failed$' || { tail -n 1 "$log"; exit 1; }
+last=$(tail -n 1 "$log")
+[[ $last =~ ^([0-9]+)\ passed,\ 0\ failed$ ]] || { echo "test: failed: rt ci: $last"; exit 1; }
+echo "$((passed + BASH_REMATCH[1])) passed, 0 failed"

@@ -1,0 +1,124 @@
+#!/usr/bin/env python3
+"""Writes the constants of crate words (src/layout.rt; the same lists for its proofs, proofs/Constants.antt) and their description
+(specs/Layout.antt) from the lists of specs/Words.antt.
+
+Nothing here needs trust: the crate's proofs compute each rule of the constants against those lists.
+    tools/words.py            write the files
+    tools/words.py --check    exit 1 if a file is not what would be written
+A word is looked up by one candidate: its length, first, second and last byte give a slot of its table, which names the only word that it can be.
+"""
+import itertools, pathlib, re, sys
+
+root = pathlib.Path(__file__).resolve().parent.parent / "crates/words"
+SLOTS = 128  # slots a table; the multipliers below are searched for until no two words of a table share one
+
+
+def lists(text):
+    """The lists of words of specs/Words.antt by name, and the order of the tables."""
+    found = {}
+    for name, body in re.findall(r"^(\w+) =(.*(?:\n    .+)*)", text, re.M):
+        words = []
+        for quoted, ref in re.findall(r'"([^"]+)"|(?<![\w"])([A-Z]\w+)(?![\w"])', body):
+            words += [quoted] if quoted else found.get(ref, [])
+        if words:
+            found[name] = words
+    tables = re.findall(r"^wordsOf (\w+) = (\w+)", text, re.M)
+    return found, tables
+
+
+def slot(word, m):
+    b = word.encode()
+    return (len(b) + b[0] + m[0] * b[1] + m[1] * b[-1]) % SLOTS
+
+
+def multipliers(tables):
+    for m in itertools.product(range(1, SLOTS), repeat=2):
+        if all(len({slot(w, m) for w in t}) == len(t) for t in tables):
+            return m
+    sys.exit("no multipliers found: raise SLOTS")
+
+
+def main():
+    found, order = lists((root / "specs/Words.antt").read_text())
+    tables = [found[name] for _, name in order]
+    entries, bases = [], []
+    for t in sorted(tables, key=len, reverse=True):  # a table that lies in a longer one takes no entries of its own
+        if not any(entries[i:i + len(t)] == t for i in range(len(entries))):
+            entries += t
+    for t in tables:
+        bases.append(next(i for i in range(len(entries)) if entries[i:i + len(t)] == t))
+    letters, starts = "", []
+    for w in sorted(entries, key=len, reverse=True):
+        letters += "" if w in letters else w
+    starts = [letters.index(w) for w in entries]
+    m = multipliers(tables)
+    slots = []
+    for t in tables:
+        row = [255] * SLOTS
+        for k, w in enumerate(t):
+            row[slot(w, m)] = k
+        slots += row
+    lengths = [len(w) for w in entries]
+
+    def array(name, kind, values):
+        return f"pub const {name}: [{kind}; {len(values)}] = [\n" + "".join(f"    {v},\n" for v in values) + "];\n"
+
+    code = "// The words in one constant byte string, and where each lies. Made by tools/words.py from the lists of specs/Words.antt.\n"
+    code += f'pub const LETTERS: [u8; {len(letters)}] =\n    *b"{letters}";\n\n'
+    code += "// Where each entry starts in LETTERS, and its length.\n" + array("STARTS", "usize", starts) + "\n" + array("SIZES", "usize", lengths) + "\n"
+    code += "// The first entry of each table, and how many words it has.\n" + array("BASES", "usize", bases) + "\n" + array("COUNTS", "usize", [len(t) for t in tables]) + "\n"
+    code += f"// The multipliers of a word's second and last byte in its slot.\npub const SECOND: usize = {m[0]};\n\npub const LAST: usize = {m[1]};\n\n"
+    code += f"// For each table {SLOTS} slots: the word whose length and bytes lead there, 255 where there is none.\n" + array("SLOTS", "u8", slots)
+    code = re.sub(r"\[usize; (\d+)\] = \[\n((?:    \d+,\n)+)\]", lambda x: f"[usize; {x.group(1)}] = [" + ", ".join(x.group(2).replace(",", "").split()) + "]" if int(x.group(1)) < 14 else x.group(0), code)
+
+    used = [n for _, n in order]
+    parts, at = [], 0
+    while at < len(entries):
+        t, n = max(((tables[i], used[i]) for i in range(len(tables)) if bases[i] == at), key=lambda x: len(x[0]))
+        parts.append(n)
+        at += len(t)
+    spec = f"""-- How the words of Words.antt lie in the constants of the crate. Only the crate's own proofs need it. Made by tools/words.py.
+-- Assumes nothing.
+use mathlib.Core.List.{{List, [], _∷_, _++_}}
+use Prim.Native.Nat.{{ℕ, _+_, _*_, _-_, _%_}}
+use lib.ListN.{{length, getD}}
+use Rattle.text.specs.Ascii.{{ascii}}
+use Rattle.words.specs.Words.{{{", ".join(dict.fromkeys(used))}}}
+
+-- the tables in the order of `Table`
+unfoldable pub tables : List (List (List ℕ))
+tables = {" ∷ ".join(used)} ∷ []
+
+-- the entries: every word of every table, a table within another once
+unfoldable pub entries : List (List ℕ)
+entries = {" ++ ".join(parts)}
+
+-- the bytes that hold every entry
+unfoldable pub letters : List ℕ
+letters = ascii "{letters}"
+
+-- the slot of a word in its table
+unfoldable pub slotOf : List ℕ → ℕ
+slotOf w = (length w + getD w 0 0 + {m[0]} * getD w 1 0 + {m[1]} * getD w (length w - 1) 0) % {SLOTS}
+"""
+    def values(name, what, numbers):
+        rows = [" ∷ ".join(map(str, numbers[i:i + 32])) for i in range(0, len(numbers), 32)]
+        return f"\n-- {what}\nunfoldable pub {name} : List ℕ\n{name} =\n    " + " ∷\n    ".join(rows) + " ∷ []\n"
+
+    lists_ = "-- The constants of src/layout.rt as lists. Made by tools/words.py.\n-- Assumes nothing.\nuse mathlib.Core.List.{List, [], _∷_}\nuse Prim.Native.Nat.{ℕ}\n"
+    lists_ += values("starts", "where each entry starts among the letters", starts) + values("sizes", "the length of each entry", lengths)
+    lists_ += values("bases", "the first entry of each table", bases) + values("counts", "how many words each table has", [len(t) for t in tables])
+    lists_ += values("slots", "the word in each slot of each table, 255 where there is none", slots)
+    status = 0
+    for path, text in ((root / "proofs/Constants.antt", lists_), (root / "src/layout.rt", code), (root / "specs/Layout.antt", spec)):
+        if "--check" in sys.argv:
+            if not path.exists() or path.read_text() != text:
+                print(f"{path.name} is not what tools/words.py writes")
+                status = 1
+        else:
+            path.write_text(text)
+    print(f"{len(entries)} entries, {len(letters)} letters, multipliers {m}, lengths {min(lengths)} to {max(lengths)}")
+    sys.exit(status)
+
+
+main()
