@@ -16,6 +16,7 @@ run() {
 for script in tools/words.py tools/words_cases.py; do
     run python3 "$script" --check
 done
+run diff <(python3 tools/num_cases.py) crates/num_cases/stdout
 run rt fmt --check
 
 # The last line of rt ci is held back, and printed below with what passed here added.

@@ -1,0 +1,5 @@
+pub mod Runs
+pub mod Reading
+pub mod Fill
+pub mod Base
+pub mod Ones

@@ -1,0 +1,4 @@
+pub mod Digits
+pub mod Value
+pub mod Bound
+pub mod Examples

@@ -1,0 +1,23 @@
+-- The number of a decimal run, on unbounded numbers, and the answer where 64 bits have to hold it.
+-- Assumes nothing.
+use mathlib.Core.Bool.{cond}
+use mathlib.Core.List.{List, [], _∷_}
+use Prim.Native.Nat.{ℕ, _+_, _-_, _*_}
+use lib.Dec.{leb}
+use Rattle.num.specs.Digits.{plain}
+use Rattle.num.specs.declared.Value.{Value}
+use Rattle.num.specs.declared.Value.the-variants.{Number, TooLarge}
+
+-- The number that the digits make after those of v. The digit of a byte is the byte less 48, so `0` is 0 and `9` is 9;
+-- a byte that is no digit counts likewise: 0 if it is below `0`, else what it is less 48.
+unfoldable pub decimalFrom : ℕ → List ℕ → ℕ
+decimalFrom v [] = v
+decimalFrom v (b ∷ r) = decimalFrom (v * 10 + (b - 48)) r
+
+-- The number, or too large: over the largest 64-bit number.
+unfoldable pub fitted : ℕ → Value
+fitted n = cond (leb n 18446744073709551615) (Number n) TooLarge
+
+-- The number of a decimal run: of its digits with `_` dropped. A run of no digits makes 0.
+unfoldable pub numberOf : List ℕ → Value
+numberOf p = fitted (decimalFrom 0 (plain p))
