@@ -53,6 +53,10 @@ pub says : (ws : List (List ℕ)) (p : List ℕ) → Says ws p (wordOf ws p)
 unfolding wordOf
 says ws p = whole ws p (find p 0 ws) (found ws p 0)
 
+-- The place of a word that was found is one of the list's.
+pub below : (ws : List (List ℕ)) (p : List ℕ) (k : ℕ) → wordOf ws p ≡ Word k → k < length ws
+below ws p k e = subst (λ f. Says ws p f) e (says ws p) .0
+
 -- A word that p is, and that alone it can be, is the answer.
 pub is-word : (ws : List (List ℕ)) (p : List ℕ) (k : ℕ) → Only ws p k → k < length ws → getD ws k [] ≡ p → wordOf ws p ≡ Word k
 is-word ws p k only h e = go (wordOf ws p) (says ws p)

@@ -1,0 +1,13 @@
+pub mod Runs
+pub mod Classes
+pub mod Rest
+pub mod Comments
+pub mod Names
+pub mod Marks
+pub mod Bytes
+pub mod Order
+pub mod Moves
+pub mod Steps
+pub mod Filling
+pub mod Deep
+pub mod TokenClass

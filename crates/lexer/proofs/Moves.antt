@@ -1,0 +1,249 @@
+-- Each lexeme at a place of a draft has at least one byte and stays inside the draft.
+-- Assumes nothing.
+use mathlib.Core.Bool.{Bool, true, false, cond, _&&_, _||_, not}
+use mathlib.Core.List.{List, [], _∷_, _++_}
+use mathlib.Core.Option.{Option, none, some}
+use mathlib.Core.Path.{_≡_, refl}
+use Prim.Native.Nat.{ℕ, suc, _+_, _-_, _≤_}
+use native.Mathlib.Omega.{arith}
+use borrow.Author.Tests.{ltb-true}
+use lib.Dec.{eqb, ltb, leb}
+use lib.ListN.{length, take, drop, length-drop}
+use Rattle.text.specs.Ascii.{ascii, asciiFrom}
+use Rattle.text.specs.Same.{differ}
+use Rattle.words.specs.Words.{KEYWORDS, MACROS, MODULE_RESERVED, wordOf}
+use Rattle.words.specs.declared.Found.{Found}
+use Rattle.words.specs.declared.Found.the-variants.{Word, Plain}
+use Rattle.lexer.specs.Chars.{Range, among, whitespace, lineEnds, plainBytes, binaryDigits, decimalDigits, hexDigits, underscore, nameStarts, nameBytes, first, run, begins}
+use Rattle.lexer.specs.Lexemes.{Lexeme, token, trivia, refused, _orElse_, space, comment, lineComment, Inside, closed, within, inside, more, onward, closing, block, blockComment, nameLength, isName, moduleToken, qualified, macroToken, macro, wordToken, word, digits, hexadecimal, binary, decimal, Mark, marks, mark, noLexeme, lexeme}
+
+-- what is found in m bytes goes on, and stays inside
+abbrev pub Moves : ℕ → Lexeme → Type 0
+Moves m (token k n) = (1 ≤ n) × (n ≤ m)
+Moves m (trivia n) = (1 ≤ n) × (n ≤ m)
+Moves m (refused c n) = Unit {0}
+
+-- the same of a trial, which may find nothing
+abbrev pub Tries : ℕ → Option Lexeme → Type 0
+Tries m none = Unit {0}
+Tries m (some x) = Moves m x
+
+-- what holds of both values holds of the one that the test chooses
+pub cond-if : {A : Type 0} (P : A → Type 0) (b : Bool) {x y : A} → (b ≡ true → P x) → (b ≡ false → P y) → P (cond b x y)
+cond-if P true f g = f refl
+cond-if P false f g = g refl
+
+-- a trial that finds nothing if its test fails
+try-if : (m : ℕ) (b : Bool) (x : Option Lexeme) → (b ≡ true → Tries m x) → Tries m (cond b x none)
+try-if m true x f = f refl
+try-if m false x f = tt
+
+or-else : (m : ℕ) (o : Option Lexeme) (x : Lexeme) → Tries m o → Moves m x → Moves m (o orElse x)
+or-else m none x t v = v
+or-else m (some y) x t v = t
+
+both-left : (a b : Bool) → (a && b) ≡ true → a ≡ true
+both-left true b e = refl
+both-left false b e = differ e
+
+both-right : (a b : Bool) → (a && b) ≡ true → b ≡ true
+both-right true b e = e
+both-right false b e = differ e
+
+-- ---- runs and beginnings
+
+pub run-le : (p : ℕ → Bool) (r : List ℕ) → run p r ≤ length r
+unfolding run
+run-le p [] = omega arith
+run-le p (b ∷ r) = go (p b) (run-le p r)
+  where
+    go : (t : Bool) → run p r ≤ length r → elim t [ true ↦ suc (run p r) | false ↦ 0 ] ≤ suc (length r)
+    go true ih = omega arith
+    go false ih = omega arith
+
+-- a run whose first byte passes the test is not empty
+pub run-first : (p : ℕ → Bool) (b : ℕ) (r : List ℕ) → p b ≡ true → 1 ≤ run p (b ∷ r)
+unfolding run
+run-first p b r e = rw (e, run) (omega arith)
+
+-- a run behind n bytes stays inside
+pub run-behind : (p : ℕ → Bool) (n : ℕ) (r : List ℕ) → n ≤ length r → n + run p (drop n r) ≤ length r
+run-behind p n r h = omega (arith, run-le p (drop n r), length-drop n r)
+
+pub begins-le : (w r : List ℕ) → begins w r ≡ true → length w ≤ length r
+unfolding begins
+begins-le [] r e = omega arith
+begins-le (x ∷ w) [] e = differ e
+begins-le (x ∷ w) (b ∷ r) e = let ih = begins-le w r (both-right (eqb b x) (begins w r) e) in omega arith
+
+-- what begins with w behind n bytes has those n bytes and w
+pub begins-behind : (w : List ℕ) (n : ℕ) (r : List ℕ) → 1 ≤ length w → begins w (drop n r) ≡ true → n + length w ≤ length r
+begins-behind w n r h e = omega (arith, begins-le w (drop n r) e, length-drop n r)
+
+among-append : (a b : List Range) (x : ℕ) → among a x ≡ true → among (a ++ b) x ≡ true
+unfolding among
+among-append [] b x e = differ e
+among-append (s ∷ a) b x e = go (leb (s .least) x && leb x (s .most)) e (among-append a b x)
+  where
+    go : (t : Bool) → (t || among a x) ≡ true → (among a x ≡ true → among (a ++ b) x ≡ true) → (t || among (a ++ b) x) ≡ true
+    go true e ih = refl
+    go false e ih = ih e
+
+or-left : (a b : Bool) → a ≡ true → (a || b) ≡ true
+or-left true b e = refl
+or-left false b e = differ e
+
+-- ---- trivia
+
+comment-moves : (n : ℕ) (r : List ℕ) → 1 ≤ n → n ≤ length r → Moves (length r) (comment n r)
+unfolding comment
+comment-moves n r h k = cond-if (Moves (length r)) (eqb (run (among plainBytes) (take n r)) n) (λ _. (h, k)) (λ _. tt)
+
+-- the end of a comment stays inside
+abbrev Ends : ℕ → Option ℕ → Type 0
+Ends m none = Unit {0}
+Ends m (some n) = n ≤ m
+
+more-ends : (m : ℕ) (o : Option ℕ) → Ends m o → Ends (suc m) (more o)
+more-ends m none e = tt
+more-ends m (some n) e = omega arith
+
+pub closing-ends : (r : List ℕ) (d p : ℕ) → Ends (length r) (closing r d p)
+unfolding closing
+closing-ends [] d p = tt
+closing-ends (b ∷ r) d p = go (inside d p b) (closing-ends r)
+  where
+    go : (x : Inside) → ((d p : ℕ) → Ends (length r) (closing r d p)) → Ends (suc (length r)) (onward x (closing r))
+    go closed ih = omega arith
+    go (within d p) ih = more-ends (length r) (closing r d p) (ih d p)
+
+module _ (r : List ℕ) where
+  line-moves : Tries (length r) (lineComment r)
+  unfolding lineComment ascii asciiFrom
+  line-moves =
+      try-if (length r) (begins (ascii "//") r) _
+      (λ t. let h = begins-le (ascii "//") r t in
+      comment-moves (2 + run (λ b. not (among lineEnds b)) (drop 2 r)) r (omega arith) (run-behind (λ b. not (among lineEnds b)) 2 r h))
+
+  block-moves : (o : Option ℕ) → 2 ≤ length r → Ends (length (drop 2 r)) o → Moves (length r) (block o r)
+  block-moves none h e = tt
+  block-moves (some n) h e = comment-moves (2 + n) r (omega arith) (omega (arith, length-drop 2 r))
+
+  blockComment-moves : Tries (length r) (blockComment r)
+  unfolding blockComment ascii asciiFrom
+  blockComment-moves =
+      try-if (length r) (begins (ascii "/*") r) _
+      (λ t. block-moves (closing (drop 2 r) 0 0) (begins-le (ascii "/*") r t) (closing-ends (drop 2 r) 0 0))
+
+  -- ---- names and words
+
+  module-moves : (f : Found) (n : ℕ) → 1 ≤ n → n ≤ length r → Tries (length r) (moduleToken f n)
+  module-moves (Word k) n h l = (h, l)
+  module-moves Plain n h l = tt
+
+  qualified-moves : Tries (length r) (qualified r)
+  unfolding qualified nameLength ascii asciiFrom
+  qualified-moves =
+      let n = nameLength r in
+      let name = drop (n + 2) r in
+      try-if (length r) (isName r && begins (ascii "::") (drop n r) && isName name) _
+      (λ t. let h = begins-behind (ascii "::") n r (omega arith) (both-right (isName r) (begins (ascii "::") (drop n r)) (both-left (isName r && begins (ascii "::") (drop n r)) (isName name) t)) in
+      let l = run-behind (among nameBytes) (n + 2) r h in
+      module-moves (wordOf MODULE_RESERVED (take n r)) (n + 2 + nameLength name) (omega arith) l)
+
+  macro-found : (f : Found) (n : ℕ) → 1 ≤ n → n ≤ length r → Tries (length r) (macroToken f n)
+  macro-found (Word k) n h l = (h, l)
+  macro-found Plain n h l = tt
+
+  macro-moves : Tries (length r) (macro r)
+  unfolding macro ascii asciiFrom
+  macro-moves =
+      let n = nameLength r + 1 in
+      try-if (length r) (isName r && begins (ascii "!") (drop (nameLength r) r)) _
+      (λ t. let h = begins-behind (ascii "!") (nameLength r) r (omega arith) (both-right (isName r) (begins (ascii "!") (drop (nameLength r) r)) t) in
+      macro-found (wordOf MACROS (take n r)) n (omega arith) h)
+
+  word-found : (f : Found) (n : ℕ) → 1 ≤ n → n ≤ length r → Moves (length r) (wordToken f n)
+  word-found (Word k) n h l =
+      cond-if (Moves (length r)) (eqb k 11) (λ _. tt)
+      (λ _. cond-if (Moves (length r)) (ltb 11 k) (λ _. (h, l)) (λ _. (h, l)))
+  word-found Plain n h l = (h, l)
+
+  -- ---- digits
+
+  digits-moves : (base : List Range) (kind n : ℕ) → 1 ≤ n → n ≤ length r → Tries (length r) (digits base kind n r)
+  unfolding digits
+  digits-moves base kind n h l =
+      try-if (length r) (among base (first (drop n r))) _
+      (λ _. let g = run-behind (λ b. among base b || among underscore b) n r l in (omega arith, g))
+
+  hexadecimal-moves : Tries (length r) (hexadecimal r)
+  unfolding hexadecimal ascii asciiFrom
+  hexadecimal-moves = try-if (length r) (begins (ascii "0x") r) _ (λ t. digits-moves hexDigits 29 2 (omega arith) (begins-le (ascii "0x") r t))
+
+  binary-moves : Tries (length r) (binary r)
+  unfolding binary ascii asciiFrom
+  binary-moves = try-if (length r) (begins (ascii "0b") r) _ (λ t. digits-moves binaryDigits 30 2 (omega arith) (begins-le (ascii "0b") r t))
+
+  -- ---- marks
+
+  -- every mark has a byte
+  abbrev full : List Mark → Bool
+  full [] = true
+  full (m ∷ ms) = ltb 0 (length (ascii (m .text))) && full ms
+
+  mark-moves : (ms : List Mark) → full ms ≡ true → Tries (length r) (mark ms r)
+  unfolding mark
+  mark-moves [] e = tt
+  mark-moves (m ∷ ms) e =
+      cond-if (Tries (length r)) (begins (ascii (m .text)) r)
+      (λ t. (ltb-true 0 (length (ascii (m .text))) (both-left (ltb 0 (length (ascii (m .text)))) (full ms) e), begins-le (ascii (m .text)) r t))
+      (λ _. mark-moves ms (both-right (ltb 0 (length (ascii (m .text)))) (full ms) e))
+
+  marks-full : full marks ≡ true
+  unfolding marks ascii asciiFrom
+  marks-full = refl
+
+  none-moves : (b : ℕ) → Moves (length r) (noLexeme b)
+  unfolding noLexeme
+  none-moves b = cond-if (Moves (length r)) (ltb 127 b) (λ _. tt) (λ _. tt)
+
+-- ---- the trials that look at the first byte
+
+module _ (b : ℕ) (r : List ℕ) where
+  space-moves : Tries (length (b ∷ r)) (space (b ∷ r))
+  unfolding space
+  space-moves = try-if (suc (length r)) (among whitespace b) _ (λ t. (run-first (among whitespace) b r t, run-le (among whitespace) (b ∷ r)))
+
+  decimal-moves : Tries (length (b ∷ r)) (decimal (b ∷ r))
+  unfolding decimal digits
+  decimal-moves =
+      let q : ℕ → Bool = λ x. among decimalDigits x || among underscore x in
+      try-if (suc (length r)) (among decimalDigits b) _
+      (λ t. let h = run-first q b r (or-left (among decimalDigits b) (among underscore b) t) in
+      let l = run-le q (b ∷ r) in
+      (omega arith, omega arith))
+
+  word-moves : Tries (length (b ∷ r)) (word (b ∷ r))
+  unfolding word nameLength nameBytes
+  word-moves =
+      try-if (suc (length r)) (among nameStarts b) _
+      (λ t. word-found (b ∷ r) (wordOf KEYWORDS (take (nameLength (b ∷ r)) (b ∷ r))) (nameLength (b ∷ r)) (run-first (among nameBytes) b r (among-append nameStarts decimalDigits b t)) (run-le (among nameBytes) (b ∷ r)))
+
+  -- the lexeme at the front of a text goes on, and stays inside
+  pub lexeme-moves : Moves (length (b ∷ r)) (lexeme (b ∷ r))
+  unfolding lexeme
+  lexeme-moves =
+      let s = b ∷ r in
+      let m = length s in
+      or-else m (space s) _ space-moves
+      (or-else m (lineComment s) _ (line-moves s)
+      (or-else m (blockComment s) _ (blockComment-moves s)
+      (or-else m (qualified s) _ (qualified-moves s)
+      (or-else m (macro s) _ (macro-moves s)
+      (or-else m (hexadecimal s) _ (hexadecimal-moves s)
+      (or-else m (binary s) _ (binary-moves s)
+      (or-else m (decimal s) _ decimal-moves
+      (or-else m (word s) _ word-moves
+      (or-else m (mark marks s) _ (mark-moves s marks (marks-full s))
+      (none-moves s b))))))))))

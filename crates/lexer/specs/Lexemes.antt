@@ -1,0 +1,194 @@
+-- Document 01, "Lexemes": from the bytes of a draft to its tokens, or the refusal of 2 to 5 with the earliest place.
+-- Assumes nothing.
+use mathlib.Core.Bool.{Bool, cond, _&&_, _||_, not}
+use mathlib.Core.List.{List, [], _∷_}
+use mathlib.Core.Option.{Option, none, some}
+use Prim.Native.Nat.{ℕ, zero, suc, _+_, _-_}
+use Prim.Native.String.{String}
+use lib.Dec.{eqb, ltb, leb}
+use lib.ListN.{length, take, drop}
+use Rattle.text.specs.Ascii.{ascii}
+use Rattle.words.specs.Words.{KEYWORDS, MACROS, MODULE_RESERVED, wordOf}
+use Rattle.words.specs.declared.Found.{Found}
+use Rattle.words.specs.declared.Found.the-variants.{Word, Plain}
+use Rattle.lexer.specs.Chars.{Range, among, whitespace, lineEnds, plainBytes, binaryDigits, decimalDigits, hexDigits, underscore, nameStarts, nameBytes, is, first, run, begins}
+
+-- What stands at the front of a text: a token of a kind and so many bytes, so many bytes of trivia, or a refusal behind so many bytes.
+pub data Lexeme : Type 0 where
+  token : ℕ → ℕ → Lexeme
+  trivia : ℕ → Lexeme
+  refused : ℕ → ℕ → Lexeme
+
+-- "Tried in order": the first trial, and where it finds nothing what the others find
+infixr 20 _orElse_
+abbrev pub _orElse_ : Option Lexeme → Lexeme → Lexeme
+some x orElse y = x
+none orElse y = y
+
+-- ---- trivia
+
+-- whitespace
+unfoldable pub space : List ℕ → Option Lexeme
+space r = cond (among whitespace (first r)) (some (trivia (run (among whitespace) r))) none
+
+-- a comment of n bytes; a byte over 127 in it is refused
+unfoldable pub comment : ℕ → List ℕ → Lexeme
+comment n r = cond (eqb (run (among plainBytes) (take n r)) n) (trivia n) (refused 2 (run (among plainBytes) (take n r)))
+
+-- "`//` runs to before CR, LF or the end."
+unfoldable pub lineComment : List ℕ → Option Lexeme
+lineComment r = cond (begins (ascii "//") r) (some (comment (2 + run (λ b. not (among lineEnds b)) (drop 2 r)) r)) none
+
+-- one byte more inside a block comment: that closes it, or it goes on with d comments open within it and p the byte before, 0 if that belongs to a mark
+pub data Inside : Type 0 where
+  closed : Inside
+  within : ℕ → ℕ → Inside
+
+unfoldable pub inside : ℕ → ℕ → ℕ → Inside
+inside d p b =
+    cond (is "/" p && is "*" b) (within (d + 1) 0)
+    (cond (is "*" p && is "/" b) (cond (eqb d 0) closed (within (d - 1) 0))
+    (within d b))
+
+abbrev pub more : Option ℕ → Option ℕ
+more none = none
+more (some n) = some (suc n)
+
+abbrev pub onward : Inside → (ℕ → ℕ → Option ℕ) → Option ℕ
+onward closed go = some 1
+onward (within d p) go = more (go d p)
+
+-- "`/* */` nests": how many bytes are left of a block comment, none if it is never closed
+unfoldable pub closing : List ℕ → ℕ → ℕ → Option ℕ
+closing [] d p = none
+closing (b ∷ r) d p = onward (inside d p b) (closing r)
+
+abbrev pub block : Option ℕ → List ℕ → Lexeme
+block none r = refused 4 0
+block (some n) r = comment (2 + n) r
+
+unfoldable pub blockComment : List ℕ → Option Lexeme
+blockComment r = cond (begins (ascii "/*") r) (some (block (closing (drop 2 r) 0 0) r)) none
+
+-- ---- names and words
+
+-- how many bytes the name at the front has
+unfoldable pub nameLength : List ℕ → ℕ
+nameLength r = run (among nameBytes) r
+
+abbrev pub isName : List ℕ → Bool
+isName r = among nameStarts (first r)
+
+abbrev pub moduleToken : Found → ℕ → Option Lexeme
+moduleToken (Word k) n = some (token (33 + k) n)
+moduleToken Plain n = none
+
+-- "`jet::`, `witness::` or `param::` with a name, no gap": kinds 33 to 35
+unfoldable pub qualified : List ℕ → Option Lexeme
+qualified r =
+    let n = nameLength r in
+    let name = drop (n + 2) r in
+    cond (isName r && begins (ascii "::") (drop n r) && isName name) (moduleToken (wordOf MODULE_RESERVED (take n r)) (n + 2 + nameLength name)) none
+
+abbrev pub macroToken : Found → ℕ → Option Lexeme
+macroToken (Word k) n = some (token 36 n)
+macroToken Plain n = none
+
+-- "`assert! panic! dbg! list!`": kind 36
+unfoldable pub macro : List ℕ → Option Lexeme
+macro r =
+    let n = nameLength r + 1 in
+    cond (isName r && begins (ascii "!") (drop (nameLength r) r)) (macroToken (wordOf MACROS (take n r)) n) none
+
+-- the keywords are kinds 1 to 12, of which the twelfth, `simc`, is refused; `true` and `false` are kind 31; any other name is kind 32
+abbrev pub wordToken : Found → ℕ → Lexeme
+wordToken (Word k) n = cond (eqb k 11) (refused 5 0) (cond (ltb 11 k) (token 31 n) (token (k + 1) n))
+wordToken Plain n = token 32 n
+
+-- a word
+unfoldable pub word : List ℕ → Option Lexeme
+word r = cond (isName r) (some (wordToken (wordOf KEYWORDS (take (nameLength r) r)) (nameLength r))) none
+
+-- ---- digits
+
+-- "A digit run begins with a digit of its base, then digits or `_`": behind n bytes, a token of this kind
+unfoldable pub digits : List Range → ℕ → ℕ → List ℕ → Option Lexeme
+digits base kind n r =
+    cond (among base (first (drop n r))) (some (token kind (n + run (λ b. among base b || among underscore b) (drop n r)))) none
+
+-- "`0x` digits": kind 29; "`0b` digits": kind 30; decimal: kind 28
+unfoldable pub hexadecimal : List ℕ → Option Lexeme
+hexadecimal r = cond (begins (ascii "0x") r) (digits hexDigits 29 2 r) none
+
+unfoldable pub binary : List ℕ → Option Lexeme
+binary r = cond (begins (ascii "0b") r) (digits binaryDigits 30 2 r) none
+
+unfoldable pub decimal : List ℕ → Option Lexeme
+decimal r = digits decimalDigits 28 0 r
+
+-- ---- marks
+
+pub record Mark : Type 0 where
+  pub text : String
+  pub kind : ℕ
+
+abbrev pub sign : String → ℕ → Mark
+sign t k = record { text = t; kind = k }
+
+-- "a mark, the longer first"
+unfoldable pub marks : List Mark
+marks =
+    sign "->" 13 ∷ sign "=>" 19 ∷ sign "::" 14 ∷ sign "=" 18 ∷ sign ":" 15 ∷ sign ";" 16 ∷ sign "," 17 ∷
+    sign "(" 20 ∷ sign ")" 21 ∷ sign "[" 22 ∷ sign "]" 23 ∷ sign "{" 24 ∷ sign "}" 25 ∷ sign "<" 26 ∷ sign ">" 27 ∷ []
+
+unfoldable pub mark : List Mark → List ℕ → Option Lexeme
+mark [] r = none
+mark (m ∷ ms) r = cond (begins (ascii (m .text)) r) (some (token (m .kind) (length (ascii (m .text))))) (mark ms r)
+
+-- ---- the lexeme at the front of a text, and all of them
+
+-- a byte that starts no lexeme: refused with 2 if it is over 127, else with 3
+unfoldable pub noLexeme : ℕ → Lexeme
+noLexeme b = cond (ltb 127 b) (refused 2 0) (refused 3 0)
+
+unfoldable pub lexeme : List ℕ → Lexeme
+lexeme r =
+    space r orElse lineComment r orElse blockComment r orElse
+    qualified r orElse
+    macro r orElse
+    hexadecimal r orElse
+    binary r orElse
+    decimal r orElse
+    word r orElse
+    mark marks r orElse
+    noLexeme (first r)
+
+-- a token by its kind, its start and the byte after it
+pub record Token : Type 0 where
+  pub kind : ℕ
+  pub start : ℕ
+  pub end : ℕ
+
+-- the tokens of a text, or its first refusal by number and place
+pub data Lexemes : Type 0 where
+  tokens : List Token → Lexemes
+  refusedAt : ℕ → ℕ → Lexemes
+
+abbrev pub with-token : Token → Lexemes → Lexemes
+with-token t (tokens ts) = tokens (t ∷ ts)
+with-token t (refusedAt c p) = refusedAt c p
+
+-- what the lexeme at place i adds; go gives the rest behind so many bytes
+abbrev pub add : Lexeme → ℕ → (ℕ → Lexemes) → Lexemes
+add (token k n) i go = with-token (record { kind = k; start = i; end = i + n }) (go n)
+add (trivia n) i go = go n
+add (refused c n) i go = refusedAt c (i + n)
+
+-- the lexemes of a text at place i, behind the k bytes that are still part of the last one
+unfoldable pub lexemesFrom : List ℕ → ℕ → ℕ → Lexemes
+lexemesFrom [] i k = tokens []
+lexemesFrom (b ∷ r) i zero = add (lexeme (b ∷ r)) i (λ n. lexemesFrom r (i + 1) (n - 1))
+lexemesFrom (b ∷ r) i (suc k) = lexemesFrom r (i + 1) k
+
+unfoldable pub lexemes : List ℕ → Lexemes
+lexemes draft = lexemesFrom draft 0 0

@@ -1,0 +1,10 @@
+pub mod Chars
+pub mod Lexemes
+pub mod Bytes
+pub mod Step
+pub mod Trivia
+pub mod Places
+pub mod Limits
+pub mod Buffer
+pub mod Class
+pub mod Samples

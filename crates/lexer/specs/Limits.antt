@@ -1,0 +1,81 @@
+-- What the lexer hands over within its limits (document 01, "What the reader hands over", rows 1 to 7).
+-- Assumes nothing.
+use mathlib.Core.Bool.{Bool, cond, _||_}
+use mathlib.Core.List.{List, [], _∷_, _++_}
+use mathlib.Core.Option.{Option, none, some}
+use Prim.Native.Nat.{ℕ, _+_, _-_, _*_, _/_, min}
+use lib.Dec.{eqb, ltb}
+use lib.ListN.{length, getD, replicate}
+use Rattle.lexer.specs.Lexemes.{Token, Lexemes, tokens, refusedAt, lexemes}
+use Rattle.lexer.specs.declared.Lexed.{Lexed}
+use Rattle.lexer.specs.declared.Lexed.the-variants.{Tokens, Refused}
+
+-- how many bytes and how many tokens a draft may have
+pub record Limits : Type 0 where
+  pub bytes : ℕ
+  pub tokens : ℕ
+
+-- "each of `( [ { <` adds one and each of `) ] } >` takes one off, never below 0"
+unfoldable pub depthAfter : ℕ → ℕ → ℕ
+depthAfter k d =
+    cond (eqb k 20 || eqb k 22 || eqb k 24 || eqb k 26) (d + 1)
+    (cond (eqb k 21 || eqb k 23 || eqb k 25 || eqb k 27) (d - 1)
+    d)
+
+-- how many `match` tokens stand in a row
+unfoldable pub rowAfter : ℕ → ℕ → ℕ
+rowAfter k m = cond (eqb k 9) (m + 1) 0
+
+-- "over 48 brackets open, or over 8 `match` tokens in a row": the token that passes it
+unfoldable pub tooDeep : ℕ → ℕ → List Token → Option ℕ
+tooDeep d m [] = none
+tooDeep d m (t ∷ ts) =
+    let d′ = depthAfter (t .kind) d in
+    let m′ = rowAfter (t .kind) m in
+    cond (ltb 48 d′ || ltb 8 m′) (some (t .start)) (tooDeep d′ m′ ts)
+
+-- how many tokens fit: the limit, or a third of the buffer's words if that is less
+unfoldable pub room : Limits → ℕ → ℕ
+room l size = min (l .tokens) (size / 3)
+
+abbrev pub noToken : Token
+noToken = record { kind = 0; start = 0; end = 0 }
+
+abbrev pub deep : Option ℕ → ℕ → Lexed
+deep none n = Tokens n
+deep (some p) n = Refused 7 p
+
+-- refusals 2 to 5, then 6, then 7
+abbrev pub judged : Limits → ℕ → Lexemes → Lexed
+judged l size (refusedAt c p) = Refused c p
+judged l size (tokens ts) =
+    cond (ltb (room l size) (length ts)) (Refused 6 (getD ts (room l size) noToken .start)) (deep (tooDeep 0 0 ts) (length ts))
+
+-- the answer for a draft and a token buffer of so many words
+unfoldable pub lexedOf : Limits → List ℕ → ℕ → Lexed
+lexedOf l draft size = cond (ltb (l .bytes) (length draft)) (Refused 1 (l .bytes)) (judged l size (lexemes draft))
+
+-- three words a token
+unfoldable pub tokenWords : List Token → List ℕ
+tokenWords [] = []
+tokenWords (t ∷ ts) = t .kind ∷ t .start ∷ t .end ∷ tokenWords ts
+
+abbrev pub tokensOf : Lexemes → List Token
+tokensOf (tokens ts) = ts
+tokensOf (refusedAt c p) = []
+
+-- what the buffer holds: the tokens and zeros behind them; on a refusal zeros alone
+abbrev pub content : Lexed → List Token → ℕ → List ℕ
+content (Tokens n) ts size = tokenWords ts ++ replicate (size - 3 * length ts) 0
+content (Refused c p) ts size = replicate size 0
+
+unfoldable pub bufferOf : Limits → List ℕ → ℕ → List ℕ
+bufferOf l draft size = content (lexedOf l draft size) (tokensOf (lexemes draft)) size
+
+-- the limits of these bytes and tokens
+abbrev pub limitsOf : ℕ → ℕ → Limits
+limitsOf b t = record { bytes = b; tokens = t }
+
+-- the limits of a draft: "over 16,384 bytes", "over 2,048 tokens"
+abbrev pub draftLimits : Limits
+draftLimits = limitsOf 16384 2048

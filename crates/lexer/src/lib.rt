@@ -1,0 +1,69 @@
+// The lexer: from the bytes of a draft to its tokens.
+ghost use mathlib.Core.Bool.{_||_};
+ghost use mathlib.Core.Path.{_≡_};
+ghost use lib.Dec.{eqb};
+ghost use lib.ListN.{length};
+ghost use Rattle.text.specs.Part.{partOf};
+ghost use Rattle.lexer.specs.Class.{classOf};
+ghost use Rattle.lexer.specs.Limits.{draftLimits, lexedOf, bufferOf};
+use words::Found;
+use words::Table;
+
+mod buffer;
+mod chars;
+mod depth;
+mod limits;
+pub mod scan;
+mod trivia;
+
+// What stands at a place of a draft.
+pub enum Step {
+    // A token of a kind, up to an end.
+    Token { kind: u32, end: usize },
+    // Whitespace or a comment, up to an end.
+    Trivia { end: usize },
+    // A refusal by its number, at a place.
+    Refused { number: u32, place: usize },
+    // The end of the draft.
+    Nothing,
+}
+
+// How many tokens a draft has, or why it is refused.
+pub enum Lexed {
+    Tokens(usize),
+    Refused { number: u32, place: usize },
+}
+
+// Writes the tokens of the draft, three words each, and zeros behind them; on a refusal every word is 0.
+pub fn lex(draft: &[u8], out: &mut [u32]) -> Lexed
+    ensures { λ r. ⌜ r ≡ lexedOf draftLimits (now (draft .entry)) (length (now (out .entry))) ⌝ }
+    ensures { λ r. ⌜ now (out .exit) ≡ bufferOf draftLimits (now (draft .entry)) (length (now (out .entry))) ⌝ }
+{
+    limits::lex_within(draft, out, 16384, 2048)
+}
+
+// Whether a token of this kind may be a word that the rules single out.
+fn may_be_word(kind: u32) -> bool
+    ensures { λ r. ⌜ r ≡ (eqb kind 31 || eqb kind 32 || eqb kind 36) ⌝ }
+{
+    match kind {
+        31 => true,
+        32 => true,
+        36 => true,
+        _ => false,
+    }
+}
+
+// The class of a token for the rules: its kind, or 37 and the place of the word or macro that it is.
+pub fn class(draft: &[u8], kind: u32, start: usize, end: usize) -> u32
+    ensures { λ r. ⌜ r ≡ classOf kind (partOf (now (draft .entry)) start end) ⌝ }
+{
+    if may_be_word(kind) {
+        let f = words::word(Table::RuleWords, draft, start, end);
+        let Found::Word(k) = f else {
+            return kind;
+        };
+        return (37 + k) as u32;
+    }
+    kind
+}

@@ -1,0 +1,115 @@
+// The tokens of a draft within limits: refusals 1 to 7 in their order.
+ghost use mathlib.Core.Bool.{cond};
+ghost use mathlib.Core.List.{_++_};
+ghost use mathlib.Core.Path.{_≡_};
+ghost use Prim.Native.Nat.{_+_, _*_, _-_, _≤_, _<_, _^_, min};
+ghost use lib.Dec.{eqb, ltb};
+ghost use lib.ListN.{length, take, replicate};
+ghost use Rattle.lexer.specs.Lexemes.{lexemes};
+ghost use Rattle.lexer.specs.Limits.{limitsOf, lexedOf, bufferOf, tokensOf};
+ghost use Rattle.lexer.specs.Buffer.{counted, Held};
+use crate::Lexed;
+use crate::Step;
+use crate::buffer;
+use crate::depth;
+use crate::depth::Depth;
+use crate::scan;
+
+fn least(a: usize, b: usize) -> usize
+    ensures { λ r. ⌜ r ≡ min a b ⌝ }
+{
+    if a < b { a } else { b }
+}
+
+// The start of the first token too many: of token number n, if it is that one.
+fn first_over(n: usize, room: usize, start: usize, over: usize) -> usize
+    ensures { λ r. ⌜ r ≡ cond (eqb n room) start over ⌝ }
+{
+    if n == room { start } else { over }
+}
+
+// Refusal 6 at the first token too many; else zeros behind the n tokens.
+fn count(out: &mut [u32], room: usize, n: usize, over: usize) -> Lexed
+    requires { ⌜ 3 * room ≤ length (now out) ⌝ }
+    ensures { λ r. ⌜ r ≡ cond (ltb room n) (Lexed.Refused 6 over) (Lexed.Tokens n) ⌝ }
+    ensures { λ r. ⌜ now (out .exit)
+        ≡ cond (ltb room n) (now (out .entry)) (take (3 * n) (now (out .entry)) ++ replicate (length (now (out .entry)) - 3 * n) 0) ⌝ }
+{
+    if room < n {
+        return Lexed::Refused {
+            number: 6,
+            place: over,
+        };
+    }
+    buffer::clear_behind(out, n);
+    Lexed::Tokens(n)
+}
+
+// Lexes the whole draft: refusals 2 to 5, then 6. Tokens past the room are counted and not written.
+fn fill(draft: &[u8], out: &mut [u32], room: usize) -> Lexed
+    requires { ⌜ (length (now draft) < 2 ^ 32) × (3 * room ≤ length (now out)) ⌝ }
+    ensures { λ r. ⌜ r ≡ counted room (lexemes (now (draft .entry))) ⌝ }
+    ensures { λ r. ⌜ Held r (now (out .exit)) (tokensOf (lexemes (now (draft .entry)))) (length (now (out .entry))) ⌝ }
+{
+    let mut at: usize = 0;
+    let mut n: usize = 0;
+    let mut over: usize = 0;
+    loop {
+        let found = scan::step(draft, at);
+        match found {
+            Step::Token { kind, end } => {
+                buffer::put(out, room, n, kind, at as u32, end as u32);
+                over = first_over(n, room, at, over);
+                n += 1;
+                at = end;
+            }
+            Step::Trivia { end } => {
+                at = end;
+            }
+            Step::Refused { number, place } => {
+                return Lexed::Refused { number, place };
+            }
+            Step::Nothing => {
+                return count(out, room, n, over);
+            }
+        }
+    }
+}
+
+// Refusal 1, then 2 to 6, then 7; the buffer is left as it is on a refusal.
+fn judge(draft: &[u8], out: &mut [u32], bytes: usize, tokens: usize) -> Lexed
+    requires { ⌜ bytes < 2 ^ 32 ⌝ }
+    ensures { λ r. ⌜ r ≡ lexedOf (limitsOf bytes tokens) (now (draft .entry)) (length (now (out .entry))) ⌝ }
+    ensures { λ r. ⌜ Held r (now (out .exit)) (tokensOf (lexemes (now (draft .entry)))) (length (now (out .entry))) ⌝ }
+{
+    if draft.len() > bytes {
+        return Lexed::Refused {
+            number: 1,
+            place: bytes,
+        };
+    }
+    let room = least(tokens, out.len() / 3);
+    let r = fill(draft, out, room);
+    let Lexed::Tokens(n) = r else {
+        return r;
+    };
+    let d = depth::too_deep(out, n);
+    let Depth::TooDeep(place) = d else {
+        return r;
+    };
+    Lexed::Refused { number: 7, place }
+}
+
+// Writes the tokens of a draft of so many bytes and tokens at most, zeros behind them; on a refusal every word is 0.
+pub(crate) fn lex_within(draft: &[u8], out: &mut [u32], bytes: usize, tokens: usize) -> Lexed
+    requires { ⌜ bytes < 2 ^ 32 ⌝ }
+    ensures { λ r. ⌜ r ≡ lexedOf (limitsOf bytes tokens) (now (draft .entry)) (length (now (out .entry))) ⌝ }
+    ensures { λ r. ⌜ now (out .exit) ≡ bufferOf (limitsOf bytes tokens) (now (draft .entry)) (length (now (out .entry))) ⌝ }
+{
+    let r = judge(draft, out, bytes, tokens);
+    let Lexed::Tokens(n) = r else {
+        buffer::clear(out);
+        return r;
+    };
+    Lexed::Tokens(n)
+}

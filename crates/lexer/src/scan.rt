@@ -1,0 +1,268 @@
+// The lexeme at a place: names, numbers, marks, and the step that chooses among them by the class of the first byte.
+ghost use mathlib.Core.Bool.{true};
+ghost use mathlib.Core.Option.{none};
+ghost use mathlib.Core.Path.{_≡_};
+ghost use Prim.Native.Nat.{_+_, _≤_, _<_};
+ghost use lib.ListN.{length, getD, drop};
+ghost use Rattle.lexer.specs.Chars.{among, decimalDigits, nameStarts};
+ghost use Rattle.lexer.specs.Lexemes.{macro, qualified};
+ghost use Rattle.lexer.specs.Bytes.{byteClass};
+ghost use Rattle.lexer.specs.Step.{lexemeAt, stepOf};
+ghost use Rattle.lexer.specs.Places.{Named, Based, keywordAt, decimalAt};
+use crate::Step;
+use crate::chars::byte_class;
+use crate::chars::peek;
+use crate::chars::run_end;
+use crate::trivia;
+use words::Found;
+use words::Table;
+
+fn starts_name(b: u8) -> bool
+    ensures { λ r. ⌜ r ≡ among nameStarts b ⌝ }
+{
+    let c = byte_class(b);
+    if c == 0 {
+        return true;
+    }
+    if c < 3 {
+        return false;
+    }
+    c <= 4
+}
+
+// The keywords are kinds 1 to 12; the twelfth is refused, and the two behind it are the booleans.
+fn keyword(k: usize, i: usize, e: usize) -> Step
+    requires { ⌜ k < 14 ⌝ }
+    ensures { λ r. ⌜ r ≡ keywordAt k i e ⌝ }
+{
+    if k == 11 {
+        return Step::Refused {
+            number: 5,
+            place: i,
+        };
+    }
+    if k > 11 {
+        return Step::Token { kind: 31, end: e };
+    }
+    Step::Token {
+        kind: k as u32 + 1,
+        end: e,
+    }
+}
+
+// The name from i up to e, where it is neither qualified nor a macro.
+fn word(s: &[u8], i: usize, e: usize) -> Step
+    requires { ⌜ Named (now s) i e × (qualified (drop i (now s)) ≡ none) × (macro (drop i (now s)) ≡ none) ⌝ }
+    ensures { λ r. ⌜ r ≡ lexemeAt (now (s .entry)) i ⌝ }
+{
+    match words::word(Table::Keywords, s, i, e) {
+        Found::Word(k) => keyword(k, i, e),
+        Found::Plain => Step::Token { kind: 32, end: e },
+    }
+}
+
+// The name from i up to e, behind which `!` stands.
+fn macro_word(s: &[u8], i: usize, e: usize) -> Step
+    requires { ⌜ Named (now s) i e × (getD (now s) e 0 ≡ 33) ⌝ }
+    ensures { λ r. ⌜ r ≡ lexemeAt (now (s .entry)) i ⌝ }
+{
+    match words::word(Table::Macros, s, i, e + 1) {
+        Found::Word(_) => Step::Token {
+            kind: 36,
+            end: e + 1,
+        },
+        Found::Plain => word(s, i, e),
+    }
+}
+
+// The name from i up to e, behind which `::` and a name stand.
+fn module_word(s: &[u8], i: usize, e: usize) -> Step
+    requires { ⌜ Named (now s) i e × (getD (now s) e 0 ≡ 58) × (getD (now s) (e + 1) 0 ≡ 58) × (among nameStarts (getD (now s) (e + 2) 0) ≡ true) ⌝ }
+    ensures { λ r. ⌜ r ≡ lexemeAt (now (s .entry)) i ⌝ }
+{
+    match words::word(Table::ModuleReserved, s, i, e) {
+        Found::Word(k) => Step::Token {
+            kind: 33 + k as u32,
+            end: run_end(s, e + 2, 0, 4),
+        },
+        Found::Plain => word(s, i, e),
+    }
+}
+
+// The name from i up to e, behind which `:` stands.
+fn colon_word(s: &[u8], i: usize, e: usize) -> Step
+    requires { ⌜ Named (now s) i e × (getD (now s) e 0 ≡ 58) ⌝ }
+    ensures { λ r. ⌜ r ≡ lexemeAt (now (s .entry)) i ⌝ }
+{
+    if peek(s, e + 1) != b':' {
+        return word(s, i, e);
+    }
+    if starts_name(peek(s, e + 2)) {
+        return module_word(s, i, e);
+    }
+    word(s, i, e)
+}
+
+// What stands at the start of a name.
+fn name(s: &[u8], i: usize) -> Step
+    requires { ⌜ (i < length (now s)) × (among nameStarts (getD (now s) i 0) ≡ true) ⌝ }
+    ensures { λ r. ⌜ r ≡ lexemeAt (now (s .entry)) i ⌝ }
+{
+    let e = run_end(s, i, 0, 4);
+    let b = peek(s, e);
+    if b == b':' {
+        return colon_word(s, i, e);
+    }
+    if b == b'!' {
+        return macro_word(s, i, e);
+    }
+    word(s, i, e)
+}
+
+fn decimal(s: &[u8], i: usize) -> Step
+    requires { ⌜ i ≤ length (now s) ⌝ }
+    ensures { λ r. ⌜ r ≡ decimalAt (now (s .entry)) i ⌝ }
+{
+    let e = run_end(s, i, 0, 2);
+    Step::Token { kind: 28, end: e }
+}
+
+// A token of this kind if a digit of its base stands behind the two bytes of its prefix, else a decimal one.
+fn based(s: &[u8], i: usize, kind: u32, most: u8) -> Step
+    requires { ⌜ Based (now s) i kind most ⌝ }
+    ensures { λ r. ⌜ r ≡ lexemeAt (now (s .entry)) i ⌝ }
+{
+    let c = byte_class(peek(s, i + 2));
+    if c == 0 {
+        return decimal(s, i);
+    }
+    if c > most {
+        return decimal(s, i);
+    }
+    Step::Token {
+        kind,
+        end: run_end(s, i + 2, 0, most),
+    }
+}
+
+// What stands at a digit.
+fn number(s: &[u8], i: usize) -> Step
+    requires { ⌜ (i < length (now s)) × (among decimalDigits (getD (now s) i 0) ≡ true) ⌝ }
+    ensures { λ r. ⌜ r ≡ lexemeAt (now (s .entry)) i ⌝ }
+{
+    let b = s[i];
+    if b != b'0' {
+        return decimal(s, i);
+    }
+    let x = peek(s, i + 1);
+    if x == b'x' {
+        return based(s, i, 29, 3);
+    }
+    if x == b'b' {
+        return based(s, i, 30, 1);
+    }
+    decimal(s, i)
+}
+
+// What stands at a mark, or at a byte that starts no lexeme; c is its class.
+fn mark(s: &[u8], i: usize, c: u8) -> Step
+    requires { ⌜ (i < length (now s)) × (c ≡ byteClass (getD (now s) i 0)) × (13 ≤ c) × (c ≤ 28) ⌝ }
+    ensures { λ r. ⌜ r ≡ lexemeAt (now (s .entry)) i ⌝ }
+{
+    let next = peek(s, i + 1);
+    if c == 13 {
+        if next == b'>' {
+            return Step::Token {
+                kind: 13,
+                end: i + 2,
+            };
+        }
+        return Step::Refused {
+            number: 3,
+            place: i,
+        };
+    }
+    if c == 15 {
+        if next == b':' {
+            return Step::Token {
+                kind: 14,
+                end: i + 2,
+            };
+        }
+        return Step::Token {
+            kind: 15,
+            end: i + 1,
+        };
+    }
+    if c == 18 {
+        if next == b'>' {
+            return Step::Token {
+                kind: 19,
+                end: i + 2,
+            };
+        }
+        return Step::Token {
+            kind: 18,
+            end: i + 1,
+        };
+    }
+    if c == 28 {
+        return Step::Refused {
+            number: 3,
+            place: i,
+        };
+    }
+    Step::Token {
+        kind: c as u32,
+        end: i + 1,
+    }
+}
+
+// Whitespace, or a byte over 127; c is the class of the byte at i.
+fn blank(s: &[u8], i: usize, c: u8) -> Step
+    requires { ⌜ (i < length (now s)) × (c ≡ byteClass (getD (now s) i 0)) × (29 ≤ c) ⌝ }
+    ensures { λ r. ⌜ r ≡ lexemeAt (now (s .entry)) i ⌝ }
+{
+    if c > 30 {
+        return Step::Refused {
+            number: 2,
+            place: i,
+        };
+    }
+    let e = run_end(s, i, 29, 30);
+    Step::Trivia { end: e }
+}
+
+// What stands at a letter, a digit or `_`; c is its class.
+fn name_or_number(s: &[u8], i: usize, c: u8) -> Step
+    requires { ⌜ (i < length (now s)) × (c ≡ byteClass (getD (now s) i 0)) × (c ≤ 4) ⌝ }
+    ensures { λ r. ⌜ r ≡ lexemeAt (now (s .entry)) i ⌝ }
+{
+    if c == 0 {
+        return name(s, i);
+    }
+    if c < 3 {
+        return number(s, i);
+    }
+    name(s, i)
+}
+
+// The lexing step: what stands at a place of the draft.
+pub fn step(draft: &[u8], at: usize) -> Step
+    ensures { λ r. ⌜ r ≡ stepOf (now (draft .entry)) at ⌝ }
+{
+    if at >= draft.len() {
+        return Step::Nothing;
+    }
+    let c = byte_class(draft[at]);
+    if c <= 4 {
+        return name_or_number(draft, at, c);
+    }
+    if c == 5 {
+        return trivia::slash(draft, at);
+    }
+    if c >= 29 {
+        return blank(draft, at, c);
+    }
+    mark(draft, at, c)
+}
