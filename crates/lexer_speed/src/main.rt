@@ -1,0 +1,34 @@
+// Lexes the draft on its standard input a thousand times and writes the answer: for measuring, see bench/lexer.
+use lexer::Lexed;
+use libc::STDIN_FILENO;
+use libc::STDOUT_FILENO;
+
+fn write_answer(r: Lexed) {
+    match r {
+        Lexed::Tokens(n) => {
+            io::print_decimal(STDOUT_FILENO, n as u64);
+            io::write_all(STDOUT_FILENO, b" tokens\n");
+        }
+        Lexed::Refused { number, place } => {
+            io::print_decimal(STDOUT_FILENO, number as u64);
+            io::write_all(STDOUT_FILENO, b" at ");
+            io::print_decimal(STDOUT_FILENO, place as u64);
+            io::write_all(STDOUT_FILENO, b"\n");
+        }
+    }
+}
+
+fn lex_often(draft: &[u8], tokens: &mut [u32], times: u32) {
+    let mut i: u32 = 0;
+    while i < times {
+        write_answer(lexer::lex(draft, tokens));
+        i += 1;
+    }
+}
+
+fn main() {
+    let mut buf = io::large_buffer();
+    let n = io::read_full(STDIN_FILENO, &mut buf);
+    let mut tokens = [0u32; 6144];
+    lex_often(&buf[..n], &mut tokens, 1000);
+}
