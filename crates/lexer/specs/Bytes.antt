@@ -4,8 +4,10 @@
 -- Assumes nothing.
 use mathlib.Core.Bool.{Bool, cond, not, _&&_}
 use mathlib.Core.List.{List, [], _∷_}
-use Prim.Native.Nat.{ℕ}
+use mathlib.Core.Path.{_≡_}
+use Prim.Native.Nat.{ℕ, _<_}
 use lib.Dec.{leb}
+use lib.ListN.{getD}
 use Rattle.text.specs.Ascii.{ascii}
 use Rattle.text.specs.Same.{same}
 use Rattle.lexer.specs.Chars.{among, whitespace, lineEnds, plainBytes, binaryDigits, decimalDigits, hexDigits, underscore, nameStarts, is}
@@ -33,3 +35,7 @@ byteClass b =
 -- a byte's class is from least to most
 unfoldable pub inClasses : ℕ → ℕ → ℕ → Bool
 inClasses least most b = leb least (byteClass b) && leb (byteClass b) most
+
+-- a table that gives each byte its class
+pub record ClassTable (t : List ℕ) : Type 0 where
+  pub gives : (b : ℕ) → b < 256 → getD t b 0 ≡ byteClass b

@@ -11,6 +11,7 @@ ghost use Rattle.lexer.specs.Buffer.{counted, Held};
 use crate::Lexed;
 use crate::Step;
 use crate::buffer;
+use crate::chars::class_table;
 use crate::depth;
 use crate::depth::Depth;
 use crate::scan;
@@ -51,11 +52,12 @@ fn fill(draft: &[u8], out: &mut [u32], room: usize) -> Lexed
     ensures { λ r. ⌜ r ≡ counted room (lexemes (now (draft .entry))) ⌝ }
     ensures { λ r. ⌜ Held r (now (out .exit)) (tokensOf (lexemes (now (draft .entry)))) (length (now (out .entry))) ⌝ }
 {
+    let classes = class_table();
     let mut at: usize = 0;
     let mut n: usize = 0;
     let mut over: usize = 0;
     loop {
-        let found = scan::step(draft, at);
+        let found = scan::step_with(&classes, draft, at);
         match found {
             Step::Token { kind, end } => {
                 buffer::put(out, room, n, kind, at as u32, end as u32);

@@ -6,21 +6,23 @@ ghost use Prim.Native.Nat.{_+_, _≤_, _<_};
 ghost use lib.ListN.{length, getD, drop};
 ghost use Rattle.lexer.specs.Chars.{among, decimalDigits, nameStarts};
 ghost use Rattle.lexer.specs.Lexemes.{macro, qualified};
-ghost use Rattle.lexer.specs.Bytes.{byteClass};
+ghost use Rattle.lexer.specs.Bytes.{byteClass, ClassTable};
 ghost use Rattle.lexer.specs.Step.{lexemeAt, stepOf};
 ghost use Rattle.lexer.specs.Places.{Named, Based, keywordAt, decimalAt};
 use crate::Step;
 use crate::chars::byte_class;
+use crate::chars::class_table;
 use crate::chars::peek;
 use crate::chars::run_end;
 use crate::trivia;
 use words::Found;
 use words::Table;
 
-fn starts_name(b: u8) -> bool
+fn starts_name(classes: &[u8; 256], b: u8) -> bool
+    requires { ⌜ ClassTable (now classes) ⌝ }
     ensures { λ r. ⌜ r ≡ among nameStarts b ⌝ }
 {
-    let c = byte_class(b);
+    let c = byte_class(classes, b);
     if c == 0 {
         return true;
     }
@@ -76,42 +78,45 @@ fn macro_word(s: &[u8], i: usize, e: usize) -> Step
 }
 
 // The name from i up to e, behind which `::` and a name stand.
-fn module_word(s: &[u8], i: usize, e: usize) -> Step
+fn module_word(classes: &[u8; 256], s: &[u8], i: usize, e: usize) -> Step
+    requires { ⌜ ClassTable (now classes) ⌝ }
     requires { ⌜ Named (now s) i e × (getD (now s) e 0 ≡ 58) × (getD (now s) (e + 1) 0 ≡ 58) × (among nameStarts (getD (now s) (e + 2) 0) ≡ true) ⌝ }
     ensures { λ r. ⌜ r ≡ lexemeAt (now (s .entry)) i ⌝ }
 {
     match words::word(Table::ModuleReserved, s, i, e) {
         Found::Word(k) => Step::Token {
             kind: 33 + k as u32,
-            end: run_end(s, e + 2, 0, 4),
+            end: run_end(classes, s, e + 2, 0, 4),
         },
         Found::Plain => word(s, i, e),
     }
 }
 
 // The name from i up to e, behind which `:` stands.
-fn colon_word(s: &[u8], i: usize, e: usize) -> Step
+fn colon_word(classes: &[u8; 256], s: &[u8], i: usize, e: usize) -> Step
+    requires { ⌜ ClassTable (now classes) ⌝ }
     requires { ⌜ Named (now s) i e × (getD (now s) e 0 ≡ 58) ⌝ }
     ensures { λ r. ⌜ r ≡ lexemeAt (now (s .entry)) i ⌝ }
 {
     if peek(s, e + 1) != b':' {
         return word(s, i, e);
     }
-    if starts_name(peek(s, e + 2)) {
-        return module_word(s, i, e);
+    if starts_name(classes, peek(s, e + 2)) {
+        return module_word(classes, s, i, e);
     }
     word(s, i, e)
 }
 
 // What stands at the start of a name.
-fn name(s: &[u8], i: usize) -> Step
+fn name(classes: &[u8; 256], s: &[u8], i: usize) -> Step
+    requires { ⌜ ClassTable (now classes) ⌝ }
     requires { ⌜ (i < length (now s)) × (among nameStarts (getD (now s) i 0) ≡ true) ⌝ }
     ensures { λ r. ⌜ r ≡ lexemeAt (now (s .entry)) i ⌝ }
 {
-    let e = run_end(s, i, 0, 4);
+    let e = run_end(classes, s, i, 0, 4);
     let b = peek(s, e);
     if b == b':' {
-        return colon_word(s, i, e);
+        return colon_word(classes, s, i, e);
     }
     if b == b'!' {
         return macro_word(s, i, e);
@@ -119,49 +124,52 @@ fn name(s: &[u8], i: usize) -> Step
     word(s, i, e)
 }
 
-fn decimal(s: &[u8], i: usize) -> Step
+fn decimal(classes: &[u8; 256], s: &[u8], i: usize) -> Step
+    requires { ⌜ ClassTable (now classes) ⌝ }
     requires { ⌜ i ≤ length (now s) ⌝ }
     ensures { λ r. ⌜ r ≡ decimalAt (now (s .entry)) i ⌝ }
 {
-    let e = run_end(s, i, 0, 2);
+    let e = run_end(classes, s, i, 0, 2);
     Step::Token { kind: 28, end: e }
 }
 
 // A token of this kind if a digit of its base stands behind the two bytes of its prefix, else a decimal one.
-fn based(s: &[u8], i: usize, kind: u32, most: u8) -> Step
+fn based(classes: &[u8; 256], s: &[u8], i: usize, kind: u32, most: u8) -> Step
+    requires { ⌜ ClassTable (now classes) ⌝ }
     requires { ⌜ Based (now s) i kind most ⌝ }
     ensures { λ r. ⌜ r ≡ lexemeAt (now (s .entry)) i ⌝ }
 {
-    let c = byte_class(peek(s, i + 2));
+    let c = byte_class(classes, peek(s, i + 2));
     if c == 0 {
-        return decimal(s, i);
+        return decimal(classes, s, i);
     }
     if c > most {
-        return decimal(s, i);
+        return decimal(classes, s, i);
     }
     Step::Token {
         kind,
-        end: run_end(s, i + 2, 0, most),
+        end: run_end(classes, s, i + 2, 0, most),
     }
 }
 
 // What stands at a digit.
-fn number(s: &[u8], i: usize) -> Step
+fn number(classes: &[u8; 256], s: &[u8], i: usize) -> Step
+    requires { ⌜ ClassTable (now classes) ⌝ }
     requires { ⌜ (i < length (now s)) × (among decimalDigits (getD (now s) i 0) ≡ true) ⌝ }
     ensures { λ r. ⌜ r ≡ lexemeAt (now (s .entry)) i ⌝ }
 {
     let b = s[i];
     if b != b'0' {
-        return decimal(s, i);
+        return decimal(classes, s, i);
     }
     let x = peek(s, i + 1);
     if x == b'x' {
-        return based(s, i, 29, 3);
+        return based(classes, s, i, 29, 3);
     }
     if x == b'b' {
-        return based(s, i, 30, 1);
+        return based(classes, s, i, 30, 1);
     }
-    decimal(s, i)
+    decimal(classes, s, i)
 }
 
 // What stands at a mark, or at a byte that starts no lexeme; c is its class.
@@ -219,7 +227,8 @@ fn mark(s: &[u8], i: usize, c: u8) -> Step
 }
 
 // Whitespace, or a byte over 127; c is the class of the byte at i.
-fn blank(s: &[u8], i: usize, c: u8) -> Step
+fn blank(classes: &[u8; 256], s: &[u8], i: usize, c: u8) -> Step
+    requires { ⌜ ClassTable (now classes) ⌝ }
     requires { ⌜ (i < length (now s)) × (c ≡ byteClass (getD (now s) i 0)) × (29 ≤ c) ⌝ }
     ensures { λ r. ⌜ r ≡ lexemeAt (now (s .entry)) i ⌝ }
 {
@@ -229,40 +238,50 @@ fn blank(s: &[u8], i: usize, c: u8) -> Step
             place: i,
         };
     }
-    let e = run_end(s, i, 29, 30);
+    let e = run_end(classes, s, i, 29, 30);
     Step::Trivia { end: e }
 }
 
 // What stands at a letter, a digit or `_`; c is its class.
-fn name_or_number(s: &[u8], i: usize, c: u8) -> Step
+fn name_or_number(classes: &[u8; 256], s: &[u8], i: usize, c: u8) -> Step
+    requires { ⌜ ClassTable (now classes) ⌝ }
     requires { ⌜ (i < length (now s)) × (c ≡ byteClass (getD (now s) i 0)) × (c ≤ 4) ⌝ }
     ensures { λ r. ⌜ r ≡ lexemeAt (now (s .entry)) i ⌝ }
 {
     if c == 0 {
-        return name(s, i);
+        return name(classes, s, i);
     }
     if c < 3 {
-        return number(s, i);
+        return number(classes, s, i);
     }
-    name(s, i)
+    name(classes, s, i)
+}
+
+// What stands at a place of the draft.
+pub(crate) fn step_with(classes: &[u8; 256], draft: &[u8], at: usize) -> Step
+    requires { ⌜ ClassTable (now classes) ⌝ }
+    ensures { λ r. ⌜ r ≡ stepOf (now (draft .entry)) at ⌝ }
+{
+    if at >= draft.len() {
+        return Step::Nothing;
+    }
+    let c = byte_class(classes, draft[at]);
+    if c <= 4 {
+        return name_or_number(classes, draft, at, c);
+    }
+    if c == 5 {
+        return trivia::slash(classes, draft, at);
+    }
+    if c >= 29 {
+        return blank(classes, draft, at, c);
+    }
+    mark(draft, at, c)
 }
 
 // The lexing step: what stands at a place of the draft.
 pub fn step(draft: &[u8], at: usize) -> Step
     ensures { λ r. ⌜ r ≡ stepOf (now (draft .entry)) at ⌝ }
 {
-    if at >= draft.len() {
-        return Step::Nothing;
-    }
-    let c = byte_class(draft[at]);
-    if c <= 4 {
-        return name_or_number(draft, at, c);
-    }
-    if c == 5 {
-        return trivia::slash(draft, at);
-    }
-    if c >= 29 {
-        return blank(draft, at, c);
-    }
-    mark(draft, at, c)
+    let classes = class_table();
+    step_with(&classes, draft, at)
 }

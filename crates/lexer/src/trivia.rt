@@ -3,6 +3,7 @@ ghost use mathlib.Core.Path.{_≡_};
 ghost use mathlib.Core.Bool.{not};
 ghost use Prim.Native.Nat.{_+_, _-_, _^_, _≤_, _<_};
 ghost use lib.ListN.{length, getD, drop};
+ghost use Rattle.lexer.specs.Bytes.{ClassTable};
 ghost use Rattle.lexer.specs.Chars.{among, lineEnds, run};
 ghost use Rattle.lexer.specs.Lexemes.{closing};
 ghost use Rattle.lexer.specs.Step.{commentAt, lexemeAt};
@@ -91,11 +92,12 @@ fn block_end(s: &[u8], i: usize) -> Close
 }
 
 // The comment from i up to e: trivia, unless a byte over 127 stands in it.
-fn comment(s: &[u8], i: usize, e: usize) -> Step
+fn comment(classes: &[u8; 256], s: &[u8], i: usize, e: usize) -> Step
+    requires { ⌜ ClassTable (now classes) ⌝ }
     requires { ⌜ (i ≤ e) × (e ≤ length (now s)) ⌝ }
     ensures { λ r. ⌜ r ≡ commentAt (now (s .entry)) i e ⌝ }
 {
-    let t = run_end(&s[..e], i, 0, 30);
+    let t = run_end(classes, &s[..e], i, 0, 30);
     if t == e {
         return Step::Trivia { end: e };
     }
@@ -105,7 +107,8 @@ fn comment(s: &[u8], i: usize, e: usize) -> Step
     }
 }
 
-fn block(s: &[u8], i: usize) -> Step
+fn block(classes: &[u8; 256], s: &[u8], i: usize) -> Step
+    requires { ⌜ ClassTable (now classes) ⌝ }
     requires { ⌜ (i + 1 < length (now s)) × (getD (now s) i 0 ≡ 47) × (getD (now s) (i + 1) 0 ≡ 42) ⌝ }
     ensures { λ r. ⌜ r ≡ lexemeAt (now (s .entry)) i ⌝ }
 {
@@ -116,21 +119,22 @@ fn block(s: &[u8], i: usize) -> Step
             place: i,
         };
     };
-    comment(s, i, e)
+    comment(classes, s, i, e)
 }
 
 // What stands at a `/`.
-pub(crate) fn slash(s: &[u8], i: usize) -> Step
+pub(crate) fn slash(classes: &[u8; 256], s: &[u8], i: usize) -> Step
+    requires { ⌜ ClassTable (now classes) ⌝ }
     requires { ⌜ (i < length (now s)) × (getD (now s) i 0 ≡ 47) ⌝ }
     ensures { λ r. ⌜ r ≡ lexemeAt (now (s .entry)) i ⌝ }
 {
     let b = peek(s, i + 1);
     if b == b'/' {
         let e = line_end(s, i + 2);
-        return comment(s, i, e);
+        return comment(classes, s, i, e);
     }
     if b == b'*' {
-        return block(s, i);
+        return block(classes, s, i);
     }
     Step::Refused {
         number: 3,

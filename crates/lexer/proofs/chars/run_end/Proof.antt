@@ -12,10 +12,10 @@ use Rattle.lexer.proofs.chars.run_end.Statement.{statement}
 use Rattle.lexer.proofs.chars.run_end.Tie as tie
 
 abbrev Inv-loop : tie.InvT-loop
-Inv-loop s i least most j₀ j = (j ≤ length s) × (runEnd (inClasses least most) s j ≡ runEnd (inClasses least most) s i)
+Inv-loop classes s i least most j₀ j = (j ≤ length s) × (runEnd (inClasses least most) s j ≡ runEnd (inClasses least most) s i)
 
 abbrev μ-loop : tie.MeasureT-loop
-μ-loop s i least most j₀ j = length s - j
+μ-loop classes s i least most j₀ j = length s - j
 
 loop-holds : tie.Need-loop-holds Inv-loop μ-loop
 loop-holds c = (search needs, refl)
@@ -24,7 +24,7 @@ shared-slice-read-byte-class : tie.Need-shared-slice-read-byte-class Inv-loop μ
 shared-slice-read-byte-class c = search needs
 
 byte-class-requires : tie.Need-byte-class-requires Inv-loop μ-loop
-byte-class-requires c κs = search needs
+byte-class-requires c κs = c .before .before .before .before .pre .0
 
 returns : tie.Need-returns Inv-loop μ-loop
 returns c = run-out _ _ _ (c .before .before .before .loop-test .taken) (class-below _ _ _ _ (c .before .byte-class .ensures) (c .if1 .taken)) ∙ c .before .before .before .before .loop .inv .1

@@ -19,7 +19,7 @@ decimal-requires : tie.Need-decimal-requires
 decimal-requires c κs = search needs
 
 returns : tie.Need-returns
-returns c = c .decimal .ensures ∙ at-decimal _ _ (c .before .before .before .before .pre .0) (c .before .before .before .before .pre .1) (simp (ne-eqb _ _ (c .before .if1 .taken))) (simp (ne-eqb _ _ (c .before .if1 .taken)))
+returns c = c .decimal .ensures ∙ at-decimal _ _ (c .before .before .before .before .pre .1 .0) (c .before .before .before .before .pre .1 .1) (simp (ne-eqb _ _ (c .before .if1 .taken))) (simp (ne-eqb _ _ (c .before .if1 .taken)))
 
 add-peek : tie.Need-add-peek
 add-peek c = search needs
@@ -31,7 +31,7 @@ based-requires : tie.Need-based-requires
 based-requires c κs =
     let e = sym (c .before .peek .ensures) ∙ c .if2 .taken in
     let h = there (now (c .before .before .before .before .before .args .s)) (c .before .before .before .before .before .args .i + 1) 119 e in
-    at-hex _ _ (c .before .before .before .before .before .pre .0) (c .before .before .before .before .before .pre .1) (c .before .before .if1 .left) e (omega arith)
+    (c .before .before .before .before .before .pre .0, at-hex _ _ (c .before .before .before .before .before .pre .1 .0) (c .before .before .before .before .before .pre .1 .1) (c .before .before .if1 .left) e (omega arith))
 
 returns-2 : tie.Need-returns-2
 returns-2 c = c .based .ensures
@@ -40,7 +40,7 @@ based-requires-2 : tie.Need-based-requires-2
 based-requires-2 c κs =
     let e = sym (c .before .before .peek .ensures) ∙ c .if3 .taken in
     let h = there (now (c .before .before .before .before .before .before .args .s)) (c .before .before .before .before .before .before .args .i + 1) 97 e in
-    at-binary _ _ (c .before .before .before .before .before .before .pre .0) (c .before .before .before .before .before .before .pre .1) (c .before .before .before .if1 .left) e (omega arith)
+    (c .before .before .before .before .before .before .pre .0, at-binary _ _ (c .before .before .before .before .before .before .pre .1 .0) (c .before .before .before .before .before .before .pre .1 .1) (c .before .before .before .if1 .left) e (omega arith))
 
 returns-3 : tie.Need-returns-3
 returns-3 c = c .based2 .ensures
@@ -51,7 +51,7 @@ decimal-requires-2 c κs = search needs
 returns-4 : tie.Need-returns-4
 returns-4 c =
     c .decimal2 .ensures
-    ∙ at-decimal _ _ (c .before .before .before .before .before .before .before .pre .0) (c .before .before .before .before .before .before .before .pre .1) (simp (ne-eqb _ _ (λ z. c .before .before .if2 .left (c .before .before .before .peek .ensures ∙ z)), and-false)) (simp (ne-eqb _ _ (λ z. c .before .if3 .left (c .before .before .before .peek .ensures ∙ z)), and-false))
+    ∙ at-decimal _ _ (c .before .before .before .before .before .before .before .pre .1 .0) (c .before .before .before .before .before .before .before .pre .1 .1) (simp (ne-eqb _ _ (λ z. c .before .before .if2 .left (c .before .before .before .peek .ensures ∙ z)), and-false)) (simp (ne-eqb _ _ (λ z. c .before .if3 .left (c .before .before .before .peek .ensures ∙ z)), and-false))
 
 pub number-spec : {M : Type 1} → statement M
 number-spec =

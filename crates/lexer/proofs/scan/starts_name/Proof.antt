@@ -7,7 +7,7 @@ use Rattle.lexer.proofs.scan.starts_name.Statement.{statement}
 use Rattle.lexer.proofs.scan.starts_name.Tie as tie
 
 byte-class-requires : tie.Need-byte-class-requires
-byte-class-requires c κs = search needs
+byte-class-requires c κs = c .pre
 
 returns : tie.Need-returns
 returns c = sym (starts-underscore _ _ (c .before .byte-class .ensures) (c .if1 .taken))

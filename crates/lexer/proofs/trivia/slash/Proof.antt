@@ -31,21 +31,21 @@ comment-requires : tie.Need-comment-requires
 comment-requires c κs =
     let h = there (now (c .before .before .before .before .args .s)) (c .before .before .before .before .args .i + 1) 46 (sym (c .before .before .peek .ensures) ∙ c .before .if1 .taken) in
     let w = run-end-within (λ b. not (among lineEnds b)) (now (c .before .before .before .before .args .s)) (c .before .before .before .before .args .i + 2) (omega arith) in
-    (omega (arith, c .line-end .ensures), omega (arith, c .line-end .ensures))
+    (c .before .before .before .before .pre .0, (omega (arith, c .line-end .ensures), omega (arith, c .line-end .ensures)))
 
 returns : tie.Need-returns
-returns c = c .comment .ensures ∙ at-line _ _ _ (c .before .before .before .before .before .pre .0) (c .before .before .before .before .before .pre .1) (c .before .before .before .peek .ensures) (c .before .before .if1 .taken) _ (c .before .line-end .ensures)
+returns c = c .comment .ensures ∙ at-line _ _ _ (c .before .before .before .before .before .pre .1 .0) (c .before .before .before .before .before .pre .1 .1) (c .before .before .before .peek .ensures) (c .before .before .if1 .taken) _ (c .before .line-end .ensures)
 
 block-requires : tie.Need-block-requires
 block-requires c κs =
     let e = sym (c .before .before .peek .ensures) ∙ c .if2 .taken in
-    (there (now (c .before .before .before .before .args .s)) (c .before .before .before .before .args .i + 1) 41 e, c .before .before .before .before .pre .1, e)
+    (c .before .before .before .before .pre .0, (there (now (c .before .before .before .before .args .s)) (c .before .before .before .before .args .i + 1) 41 e, c .before .before .before .before .pre .1 .1, e))
 
 returns-2 : tie.Need-returns-2
 returns-2 c = c .block .ensures
 
 returns-3 : tie.Need-returns-3
-returns-3 c = at-slash _ _ _ (c .before .before .before .before .pre .0) (c .before .before .before .before .pre .1) (c .before .before .peek .ensures) (c .before .if1 .left) (c .if2 .left)
+returns-3 c = at-slash _ _ _ (c .before .before .before .before .pre .1 .0) (c .before .before .before .before .pre .1 .1) (c .before .before .peek .ensures) (c .before .if1 .left) (c .if2 .left)
 
 pub slash-spec : {M : Type 1} → statement M
 slash-spec =

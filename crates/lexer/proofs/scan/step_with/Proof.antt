@@ -7,8 +7,8 @@ use Prim.Native.Nat.{_<_}
 use Rattle.lexer.specs.Step.{stepOf}
 use Rattle.lexer.proofs.Classes.{slash-is, class-gap}
 use borrow.Author.Needs.{needs}
-use Rattle.lexer.proofs.scan.step.Statement.{statement}
-use Rattle.lexer.proofs.scan.step.Tie as tie
+use Rattle.lexer.proofs.scan.step_with.Statement.{statement}
+use Rattle.lexer.proofs.scan.step_with.Tie as tie
 
 returns : tie.Need-returns
 unfolding stepOf
@@ -18,24 +18,24 @@ shared-slice-read-byte-class : tie.Need-shared-slice-read-byte-class
 shared-slice-read-byte-class c = search needs
 
 byte-class-requires : tie.Need-byte-class-requires
-byte-class-requires c κs = search needs
+byte-class-requires c κs = c .before .before .before .pre
 
 name-or-number-requires : tie.Need-name-or-number-requires
-name-or-number-requires c κs = (c .before .before .before .if1 .left, c .before .byte-class .ensures, c .if2 .taken)
+name-or-number-requires c κs = (c .before .before .before .before .before .pre, (c .before .before .before .if1 .left, c .before .byte-class .ensures, c .if2 .taken))
 
 returns-2 : tie.Need-returns-2
 unfolding stepOf
 returns-2 c = c .name-or-number .ensures ∙ simp (lt-ltb _ _ (c .before .before .before .before .if1 .left))
 
 slash-requires : tie.Need-slash-requires
-slash-requires c κs = (c .before .before .before .before .if1 .left, slash-is _ _ (c .before .before .byte-class .ensures) (c .if3 .taken))
+slash-requires c κs = (c .before .before .before .before .before .before .pre, (c .before .before .before .before .if1 .left, slash-is _ _ (c .before .before .byte-class .ensures) (c .if3 .taken)))
 
 returns-3 : tie.Need-returns-3
 unfolding stepOf
 returns-3 c = c .slash .ensures ∙ simp (lt-ltb _ _ (c .before .before .before .before .before .if1 .left))
 
 blank-requires : tie.Need-blank-requires
-blank-requires c κs = (c .before .before .before .before .before .if1 .left, c .before .before .before .byte-class .ensures, c .if4 .taken)
+blank-requires c κs = (c .before .before .before .before .before .before .before .pre, (c .before .before .before .before .before .if1 .left, c .before .before .before .byte-class .ensures, c .if4 .taken))
 
 returns-4 : tie.Need-returns-4
 unfolding stepOf
@@ -50,8 +50,8 @@ returns-5 : tie.Need-returns-5
 unfolding stepOf
 returns-5 c = c .mark .ensures ∙ simp (lt-ltb _ _ (c .before .before .before .before .before .before .if1 .left))
 
-pub step-spec : {M : Type 1} → statement M
-step-spec =
+pub step-with-spec : {M : Type 1} → statement M
+step-with-spec =
     tie.close
     (tie.spec
     returns
