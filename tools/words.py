@@ -6,11 +6,11 @@ Nothing here needs trust: the crate's proofs compute each rule of the constants 
     tools/words.py            write the files
     tools/words.py --check    exit 1 if a file is not what would be written
 A word is looked up by one candidate: its length, first, second and last byte give a slot of its table, which names the only word that it can be.
+The slots of each table are a constant of their own, as small as can be: a constant is laid out anew wherever it is read.
 """
 import itertools, pathlib, re, sys
 
 root = pathlib.Path(__file__).resolve().parent.parent / "crates/words"
-SLOTS = 128  # slots a table; the multipliers below are searched for until no two words of a table share one
 
 
 def lists(text):
@@ -28,14 +28,19 @@ def lists(text):
 
 def slot(word, m):
     b = word.encode()
-    return (len(b) + b[0] + m[0] * b[1] + m[1] * b[-1]) % SLOTS
+    return len(b) + b[0] + m[0] * b[1] + m[1] * b[-1]
 
 
-def multipliers(tables):
-    for m in itertools.product(range(1, SLOTS), repeat=2):
-        if all(len({slot(w, m) for w in t}) == len(t) for t in tables):
-            return m
-    sys.exit("no multipliers found: raise SLOTS")
+def hashing(table):
+    """The fewest slots, a power of two, and the multipliers of the second and the last byte with which no two words share one."""
+    size = 1
+    while size < len(table):
+        size *= 2
+    while True:
+        for m in itertools.product(range(1, 256), repeat=2):
+            if len({slot(w, m) % size for w in table}) == len(table):
+                return size, m
+        size *= 2
 
 
 def main():
@@ -51,13 +56,13 @@ def main():
     for w in sorted(entries, key=len, reverse=True):
         letters += "" if w in letters else w
     starts = [letters.index(w) for w in entries]
-    m = multipliers(tables)
+    hashes = [hashing(t) for t in tables]
     slots = []
-    for t in tables:
-        row = [255] * SLOTS
+    for t, (size, m) in zip(tables, hashes):
+        row = [255] * size
         for k, w in enumerate(t):
-            row[slot(w, m)] = k
-        slots += row
+            row[slot(w, m) % size] = k
+        slots.append(row)
     lengths = [len(w) for w in entries]
 
     def array(name, kind, values):
@@ -65,11 +70,11 @@ def main():
 
     code = "// The words in one constant byte string, and where each lies. Made by tools/words.py from the lists of specs/Words.antt.\n"
     code += f'pub const LETTERS: [u8; {len(letters)}] =\n    *b"{letters}";\n\n'
-    code += "// Where each entry starts in LETTERS, and its length.\n" + array("STARTS", "usize", starts) + "\n" + array("SIZES", "usize", lengths) + "\n"
-    code += "// The first entry of each table, and how many words it has.\n" + array("BASES", "usize", bases) + "\n" + array("COUNTS", "usize", [len(t) for t in tables]) + "\n"
-    code += f"// The multipliers of a word's second and last byte in its slot.\npub const SECOND: usize = {m[0]};\n\npub const LAST: usize = {m[1]};\n\n"
-    code += f"// For each table {SLOTS} slots: the word whose length and bytes lead there, 255 where there is none.\n" + array("SLOTS", "u8", slots)
-    code = re.sub(r"\[usize; (\d+)\] = \[\n((?:    \d+,\n)+)\]", lambda x: f"[usize; {x.group(1)}] = [" + ", ".join(x.group(2).replace(",", "").split()) + "]" if int(x.group(1)) < 14 else x.group(0), code)
+    code += "// Where each entry starts in LETTERS, and its length.\n" + array("STARTS", "u16", starts) + "\n" + array("SIZES", "u8", lengths) + "\n"
+    code += "// The first entry of each table, and how many words it has.\n" + array("BASES", "u8", bases) + "\n" + array("COUNTS", "u8", [len(t) for t in tables]) + "\n"
+    code += "// For each table its slots: the word whose length and bytes lead there, 255 where there is none.\n"
+    code += "\n".join(array(f"{name}_SLOTS", "u8", row) for (_, name), row in zip(order, slots))
+    code = re.sub(r"\[u8; (\d+)\] = \[\n((?:    \d+,\n)+)\]", lambda x: f"[u8; {x.group(1)}] = [" + ", ".join(x.group(2).replace(",", "").split()) + "]" if int(x.group(1)) < 14 else x.group(0), code)
 
     used = [n for _, n in order]
     parts, at = [], 0
@@ -80,7 +85,7 @@ def main():
     spec = f"""-- How the words of Words.antt lie in the constants of the crate. Only the crate's own proofs need it. Made by tools/words.py.
 -- Assumes nothing.
 use mathlib.Core.List.{{List, [], _∷_, _++_}}
-use Prim.Native.Nat.{{ℕ, _+_, _*_, _-_, _%_}}
+use Prim.Native.Nat.{{ℕ, _+_, _*_, _-_}}
 use lib.ListN.{{length, getD}}
 use Rattle.text.specs.Ascii.{{ascii}}
 use Rattle.words.specs.Words.{{{", ".join(dict.fromkeys(used))}}}
@@ -97,9 +102,19 @@ entries = {" ++ ".join(parts)}
 unfoldable pub letters : List ℕ
 letters = ascii "{letters}"
 
--- the slot of a word in its table
-unfoldable pub slotOf : List ℕ → ℕ
-slotOf w = (length w + getD w 0 0 + {m[0]} * getD w 1 0 + {m[1]} * getD w (length w - 1) 0) % {SLOTS}
+-- the slot of a word, by the multipliers of its second and last byte
+unfoldable pub slotOf : ℕ → ℕ → List ℕ → ℕ
+slotOf second last w = length w + getD w 0 0 + second * getD w 1 0 + last * getD w (length w - 1) 0
+
+-- how a table is looked up: how many slots it has, and the multipliers
+pub record Hash : Type 0 where
+  pub size : ℕ
+  pub second : ℕ
+  pub last : ℕ
+
+unfoldable pub hashes : List Hash
+hashes =
+    {(" ∷" + chr(10) + "    ").join(f"record {{ size = {size}; second = {m[0]}; last = {m[1]} }}" for size, m in hashes)} ∷ []
 """
     def values(name, what, numbers):
         rows = [" ∷ ".join(map(str, numbers[i:i + 32])) for i in range(0, len(numbers), 32)]
@@ -108,7 +123,9 @@ slotOf w = (length w + getD w 0 0 + {m[0]} * getD w 1 0 + {m[1]} * getD w (lengt
     lists_ = "-- The constants of src/layout.rt as lists. Made by tools/words.py.\n-- Assumes nothing.\nuse mathlib.Core.List.{List, [], _∷_}\nuse Prim.Native.Nat.{ℕ}\n"
     lists_ += values("starts", "where each entry starts among the letters", starts) + values("sizes", "the length of each entry", lengths)
     lists_ += values("bases", "the first entry of each table", bases) + values("counts", "how many words each table has", [len(t) for t in tables])
-    lists_ += values("slots", "the word in each slot of each table, 255 where there is none", slots)
+    for (_, name), row in zip(order, slots):
+        lists_ += values(name.lower().replace("_", "-") + "-slots", "the word in each slot, 255 where there is none", row)
+    lists_ += "\n-- the slots of each table\nunfoldable pub slots : List (List ℕ)\nslots = " + " ∷ ".join(n.lower().replace("_", "-") + "-slots" for _, n in order) + " ∷ []\n"
     status = 0
     for path, text in ((root / "proofs/Constants.antt", lists_), (root / "src/layout.rt", code), (root / "specs/Layout.antt", spec)):
         if "--check" in sys.argv:
@@ -117,7 +134,7 @@ slotOf w = (length w + getD w 0 0 + {m[0]} * getD w 1 0 + {m[1]} * getD w (lengt
                 status = 1
         else:
             path.write_text(text)
-    print(f"{len(entries)} entries, {len(letters)} letters, multipliers {m}, lengths {min(lengths)} to {max(lengths)}")
+    print(f"{len(entries)} entries, {len(letters)} letters, slots and multipliers {hashes}, lengths {min(lengths)} to {max(lengths)}")
     sys.exit(status)
 
 

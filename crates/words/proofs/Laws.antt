@@ -4,19 +4,20 @@ use mathlib.Core.Bool.{Bool, true}
 use mathlib.Core.List.{List, [], _∷_, _++_, map}
 use mathlib.Core.Path.{_≡_, refl, sym, _∙_, ap, subst}
 use Prim.Native.Nat.{ℕ, _+_, _*_, _%_, _≤_, _<_}
+use native.Mathlib.Nat.{mul-le-mul-left}
 use native.Mathlib.Omega.{arith}
 use lib.Dec.{T, eqb, leb, eqb→eq, leb→le}
-use lib.ListN.{length, getD, take, drop}
-use lib.Seq.{getD-take, getD-drop}
+use lib.ListN.{length, getD, take, drop, length-drop}
+use lib.Seq.{getD-take, getD-drop, length-take-le}
 use Rattle.text.specs.Ascii.{ascii, asciiFrom}
 use Rattle.text.specs.Same.{same, same-true}
 use Rattle.text.specs.Table.{every, at, table-at, all, each, is-true}
 use Rattle.words.specs.Words.{FUNCTION_RESERVED, KEYWORDS, MACROS, MODULE_RESERVED, RULE_NAMES, BOOLEANS, RULE_WORDS, UINT_TYPES, BUILTIN_ALIASES, BOOL, TYPE_NAMES}
-use Rattle.words.specs.Layout.{tables, entries, letters, slotOf}
+use Rattle.words.specs.Layout.{tables, entries, letters, slotOf, Hash, hashes}
 use Rattle.words.specs.Lies.{Lies, Only}
 use Rattle.words.specs.Right.{Says}
 use Rattle.words.specs.declared.Found.the-variants.{Plain}
-use Rattle.words.proofs.Constants.{starts, sizes, bases, counts, slots}
+use Rattle.words.proofs.Constants.{starts, sizes, bases, counts, slots, function-reserved-slots, keywords-slots, macros-slots, module-reserved-slots, rule-words-slots, type-names-slots}
 
 -- ---- one test for each word of each table
 
@@ -31,17 +32,24 @@ table-count : length tables ≡ 6
 unfolding tables
 table-count = refl
 
+abbrev none : Hash
+none = record { size = 1; second = 0; last = 0 }
+
+-- what stands in the slot of p in table t
+abbrev pub at-slot : ℕ → List ℕ → ℕ
+at-slot t p = getD (getD slots t []) (slotOf (getD hashes t none .second) (getD hashes t none .last) p % getD hashes t none .size) 0
+
 -- what is tested of word k of table t, whose bytes are w: it has from 2 to 14 bytes, its slot holds its number, its entry is the word
 abbrev tests : ℕ → ℕ → List ℕ → List Bool
 tests t k w =
     leb 2 (length w) ∷
     leb (length w) 14 ∷
-    eqb (getD slots (t * 128 + slotOf w) 0) k ∷
+    eqb (at-slot t w) k ∷
     leb (getD bases t 0 + k + 1) 77 ∷
     same (getD entries (getD bases t 0 + k) []) w ∷ []
 
 words-pass : T (everyWord (λ t k w. all (tests t k w)))
-unfolding same tables entries slotOf slots bases FUNCTION_RESERVED KEYWORDS MACROS MODULE_RESERVED RULE_NAMES BOOLEANS RULE_WORDS UINT_TYPES BUILTIN_ALIASES BOOL TYPE_NAMES ascii asciiFrom
+unfolding same tables entries slotOf hashes slots function-reserved-slots keywords-slots macros-slots module-reserved-slots rule-words-slots type-names-slots bases FUNCTION_RESERVED KEYWORDS MACROS MODULE_RESERVED RULE_NAMES BOOLEANS RULE_WORDS UINT_TYPES BUILTIN_ALIASES BOOL TYPE_NAMES ascii asciiFrom
 words-pass = tt
 
 module _ (t k : ℕ) (h : t < 6) (l : k < length (getD tables t [])) where
@@ -54,7 +62,7 @@ module _ (t k : ℕ) (h : t < 6) (l : k < length (getD tables t [])) where
   pub word-short : length (getD (getD tables t []) k []) ≤ 14
   word-short = leb→le _ _ (pass 1)
 
-  slot-holds : getD slots (t * 128 + slotOf (getD (getD tables t []) k [])) 0 ≡ k
+  slot-holds : at-slot t (getD (getD tables t []) k []) ≡ k
   slot-holds = eqb→eq _ _ (pass 2)
 
   pub entry-in : getD bases t 0 + k < 77
@@ -72,12 +80,8 @@ module _ (t : ℕ) (h : t < 6) (p : List ℕ) where
   too-long s k l e = omega (arith, word-short t k h l, ap length e)
 
 -- p can be no other word of table t than the one that its slot holds
-pub only-at : (t : ℕ) → t < 6 → (p : List ℕ) → Only (getD tables t []) p (getD slots (t * 128 + slotOf p) 0)
-only-at t h p = record { is = λ k l e. ap (λ x. getD slots (t * 128 + slotOf x) 0) (sym e) ∙ slot-holds t k h l }
-
-pub slot-below : (p : List ℕ) → slotOf p < 128
-unfolding slotOf
-slot-below p = omega arith
+pub only-at : (t : ℕ) → t < 6 → (p : List ℕ) → Only (getD tables t []) p (at-slot t p)
+only-at t h p = record { is = λ k l e. ap (at-slot t) (sym e) ∙ slot-holds t k h l }
 
 pub count-at : (t : ℕ) → t < 6 → getD counts t 0 ≡ length (getD tables t [])
 unfolding counts tables FUNCTION_RESERVED KEYWORDS MACROS MODULE_RESERVED RULE_NAMES BOOLEANS RULE_WORDS UINT_TYPES BUILTIN_ALIASES BOOL TYPE_NAMES
@@ -85,7 +89,7 @@ count-at = table-at (λ t. length (getD tables t [])) counts 6 refl tt
 
 -- ---- one test for each entry
 
-letter-count : length letters ≡ 359
+pub letter-count : length letters ≡ 359
 unfolding letters ascii asciiFrom
 letter-count = refl
 
@@ -116,10 +120,18 @@ module _ (e : ℕ) (h : e < 77) where
       let i = leb→le (getD starts e 0 + length (getD entries e [])) 359 (entry-pass 1) in
       record { inside = omega (arith, letter-count); spelt = same-true _ _ (is-true _ (entry-pass 2)) }
 
--- what the loop over a word's bytes wants of it
-module _ {r : ℕ} {w : List ℕ} (v : Lies r w) (j : ℕ) (l : j < length w) where
-  pub inside : r + j < 359
-  inside = omega (arith, letter-count, v .inside)
+-- what the loop over p's bytes wants of the letters from a place on
+module _ (start n j : ℕ) (h : start + n ≤ 359) (l : j < n) where
+  pub spelt : getD letters (start + j) 0 ≡ getD (take n (drop start letters)) j 0
+  spelt = sym (getD-drop start letters j 0) ∙ sym (getD-take n (drop start letters) j 0 l)
 
-  pub spelt : getD letters (r + j) 0 ≡ getD w j 0
-  spelt = sym (getD-drop r letters j 0) ∙ sym (getD-take (length w) (drop r letters) j 0 l) ∙ ap (λ x. getD x j 0) (v .spelt)
+pub part-length : (start n : ℕ) → start + n ≤ 359 → length (take n (drop start letters)) ≡ n
+part-length start n h = length-take-le n (drop start letters) (omega (arith, length-drop start letters, letter-count))
+
+-- a word of as many bytes as p stands there
+pub word-there : {r : ℕ} {w : List ℕ} → Lies r w → (n : ℕ) → n ≡ length w → (r + n ≤ 359) × (take n (drop r letters) ≡ w)
+word-there {r} {w} v n e = (omega (arith, letter-count, v .inside), ap (λ m. take m (drop r letters)) e ∙ v .spelt)
+
+-- a product of two numbers below 256
+pub small : (a b : ℕ) → a < 256 → b < 256 → a * b ≤ 65025
+small a b h l = omega (arith, mul-le-mul-left {m = b} {n = 255} a (omega arith))

@@ -2,7 +2,7 @@
 ghost use mathlib.Core.Path.{_≡_};
 ghost use mathlib.Core.List.{[]};
 ghost use Prim.Native.Nat.{ℕ, _+_, _≤_, _<_};
-ghost use lib.ListN.{getD, length};
+ghost use lib.ListN.{getD, length, take, drop};
 ghost use Rattle.text.specs.Part.{partOf};
 ghost use Rattle.text.specs.Same.{same};
 ghost use Rattle.words.specs.Words.{wordsOf, wordOf};
@@ -27,11 +27,10 @@ pub enum Found {
     Plain,
 }
 
-fn letter(i: usize) -> u8
-    requires { ⌜ i < 359 ⌝ }
-    ensures { λ r. ⌜ r ≡ getD letters i 0 ⌝ }
+fn wide(b: u8) -> usize
+    ensures { λ r. ⌜ r ≡ b ⌝ }
 {
-    layout::LETTERS[i]
+    b as usize
 }
 
 // Where entry e starts among the letters.
@@ -39,21 +38,21 @@ fn begin(e: usize) -> usize
     requires { ⌜ e < 77 ⌝ }
     ensures { λ r. ⌜ Lies r (getD entries e []) ⌝ }
 {
-    layout::STARTS[e]
+    layout::STARTS[e] as usize
 }
 
 fn size(e: usize) -> usize
     requires { ⌜ e < 77 ⌝ }
     ensures { λ r. ⌜ r ≡ length (getD entries e []) ⌝ }
 {
-    layout::SIZES[e]
+    wide(layout::SIZES[e])
 }
 
 fn count(t: usize) -> usize
     requires { ⌜ t < 6 ⌝ }
     ensures { λ r. ⌜ r ≡ length (getD tables t []) ⌝ }
 {
-    layout::COUNTS[t]
+    wide(layout::COUNTS[t])
 }
 
 // The entry of word k of table t.
@@ -61,24 +60,18 @@ fn entry(t: usize, k: usize) -> usize
     requires { ⌜ (t < 6) × (k < length (getD tables t [])) ⌝ }
     ensures { λ r. ⌜ (r < 77) × (getD entries r [] ≡ getD (getD tables t []) k []) ⌝ }
 {
-    layout::BASES[t] + k
+    wide(layout::BASES[t]) + k
 }
 
-fn wide(b: u8) -> usize
-    ensures { λ r. ⌜ r ≡ b ⌝ }
-{
-    b as usize
-}
-
-// The slot that p's length and three of its bytes lead to.
-fn slot(p: &[u8]) -> usize
-    requires { ⌜ (2 ≤ length (now p)) × (length (now p) ≤ 14) ⌝ }
-    ensures { λ r. ⌜ r ≡ slotOf (now (p .entry)) ⌝ }
+// The slot that p's length and three of its bytes lead to, by the multipliers of its second and last byte.
+fn slot(p: &[u8], second: usize, last: usize) -> usize
+    requires { ⌜ (2 ≤ length (now p)) × (length (now p) ≤ 14) × (second < 256) × (last < 256) ⌝ }
+    ensures { λ r. ⌜ r ≡ slotOf second last (now (p .entry)) ⌝ }
 {
     let n = p.len();
-    let second = layout::SECOND * wide(p[1]);
-    let last = layout::LAST * wide(p[n - 1]);
-    (n + wide(p[0]) + second + last) % 128
+    let b = wide(p[1]);
+    let c = wide(p[n - 1]);
+    n + wide(p[0]) + second * b + last * c
 }
 
 // The only word of table t that p can be; past the table's words where there is none.
@@ -86,8 +79,29 @@ fn candidate(t: usize, p: &[u8]) -> usize
     requires { ⌜ (t < 6) × (2 ≤ length (now p)) × (length (now p) ≤ 14) ⌝ }
     ensures { λ r. ⌜ Only (getD tables t []) (now (p .entry)) r ⌝ }
 {
-    let h = slot(p);
-    wide(layout::SLOTS[t * 128 + h])
+    match t {
+        0 => wide(layout::FUNCTION_RESERVED_SLOTS[slot(p, 1, 5) % 32]),
+        1 => wide(layout::KEYWORDS_SLOTS[slot(p, 1, 15) % 32]),
+        2 => wide(layout::MACROS_SLOTS[slot(p, 2, 1) % 8]),
+        3 => wide(layout::MODULE_RESERVED_SLOTS[slot(p, 1, 2) % 4]),
+        4 => wide(layout::RULE_WORDS_SLOTS[slot(p, 7, 4) % 64]),
+        _ => wide(layout::TYPE_NAMES_SLOTS[slot(p, 1, 53) % 128]),
+    }
+}
+
+// Whether the bytes among the letters from start on are p.
+fn spells(bytes: &[u8; 359], p: &[u8], start: usize) -> bool
+    requires { ⌜ (now bytes ≡ letters) × (start + length (now p) ≤ 359) ⌝ }
+    ensures { λ r. ⌜ r ≡ same (now (p .entry)) (take (length (now (p .entry))) (drop start letters)) ⌝ }
+{
+    let mut j: usize = 0;
+    while j < p.len() {
+        if p[j] != bytes[start + j] {
+            return false;
+        }
+        j += 1;
+    }
+    true
 }
 
 // Whether p is the word of entry e.
@@ -99,16 +113,8 @@ fn is_word(p: &[u8], e: usize) -> bool
     if p.len() != n {
         return false;
     }
-    let o = begin(e);
-    let mut j: usize = 0;
-    while j < p.len() {
-        let x = letter(o + j);
-        if p[j] != x {
-            return false;
-        }
-        j += 1;
-    }
-    true
+    let start = begin(e);
+    spells(&layout::LETTERS, p, start)
 }
 
 fn word_in(t: usize, p: &[u8]) -> Found

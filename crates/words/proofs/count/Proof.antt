@@ -1,20 +1,21 @@
 -- The table's rule, computed over all tables.
 -- Assumes nothing.
+use mathlib.Core.Path.{_∙_}
 use Rattle.words.proofs.Constants.{counts}
 use Rattle.words.proofs.Laws.{count-at}
 use borrow.Author.Needs.{needs}
 use Rattle.words.proofs.count.Statement.{statement}
 use Rattle.words.proofs.count.Tie as tie
 
-mul-result : tie.Need-mul-result
-mul-result c = search needs
+array-read-wide : tie.Need-array-read-wide
+array-read-wide c = search needs
 
-array-read-result : tie.Need-array-read-result
-array-read-result c = search needs
+wide-requires : tie.Need-wide-requires
+wide-requires c κs = search needs
 
 returns : tie.Need-returns
 unfolding counts
-returns c = count-at _ (c .pre)
+returns c = c .wide .ensures ∙ count-at _ (c .before .pre)
 
 pub count-spec : {M : Type 1} → statement M
-count-spec = tie.close (tie.spec mul-result array-read-result returns)
+count-spec = tie.close (tie.spec array-read-wide wide-requires returns)

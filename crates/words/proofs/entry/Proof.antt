@@ -7,19 +7,19 @@ use borrow.Author.Needs.{needs}
 use Rattle.words.proofs.entry.Statement.{statement}
 use Rattle.words.proofs.entry.Tie as tie
 
-mul-result : tie.Need-mul-result
-mul-result c = search needs
+array-read-wide : tie.Need-array-read-wide
+array-read-wide c = search needs
 
-array-read-result : tie.Need-array-read-result
-array-read-result c = search needs
+wide-requires : tie.Need-wide-requires
+wide-requires c κs = search needs
 
 add-result : tie.Need-add-result
 unfolding bases
-add-result c = omega (arith, entry-in (c .args .t) (c .args .k) (c .pre .0) (c .pre .1))
+add-result c = omega (arith, c .wide .ensures, entry-in (c .before .args .t) (c .before .args .k) (c .before .pre .0) (c .before .pre .1))
 
 returns : tie.Need-returns
 unfolding bases
-returns c = (entry-in _ _ (c .pre .0) (c .pre .1), entry-is _ _ (c .pre .0) (c .pre .1))
+returns c = rw (c .wide .ensures) (entry-in _ _ (c .before .pre .0) (c .before .pre .1), entry-is _ _ (c .before .pre .0) (c .before .pre .1))
 
 pub entry-spec : {M : Type 1} → statement M
-entry-spec = tie.close (tie.spec mul-result array-read-result add-result returns)
+entry-spec = tie.close (tie.spec array-read-wide wide-requires add-result returns)

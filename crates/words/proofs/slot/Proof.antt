@@ -1,10 +1,11 @@
--- The bytes are below 256, so nothing overflows.
+-- The bytes and the multipliers are below 256, so nothing overflows.
 -- Assumes nothing.
 use native.Mathlib.Omega.{arith}
-use mathlib.Core.Path.{refl, ap, _∙_}
-use Prim.Native.Nat.{_-_}
+use mathlib.Core.Path.{refl}
+use Prim.Native.Nat.{_-_, _<_}
 use lib.ListN.{length}
 use denote.Ref.{now}
+use Rattle.words.proofs.Laws.{small}
 use Rattle.words.specs.Layout.{slotOf}
 use borrow.Author.Needs.{needs}
 use Rattle.words.proofs.slot.Statement.{statement}
@@ -16,9 +17,6 @@ shared-slice-read-wide c = search needs
 wide-requires : tie.Need-wide-requires
 wide-requires c κs = search needs
 
-mul-second : tie.Need-mul-second
-mul-second c = omega (arith, c .wide .ensures, c .before .shared-slice-known2 .given 1)
-
 sub-wide : tie.Need-sub-wide
 sub-wide c = search needs
 
@@ -27,9 +25,6 @@ shared-slice-read-wide-2 c = search needs
 
 wide-requires-2 : tie.Need-wide-requires-2
 wide-requires-2 c κs = search needs
-
-mul-last : tie.Need-mul-last
-mul-last c = omega (arith, c .wide2 .ensures, c .before .shared-slice-known3 .given (length (now (c .before .before .before .before .before .args .p)) - 1))
 
 shared-slice-read-wide-3 : tie.Need-shared-slice-read-wide-3
 shared-slice-read-wide-3 c = search needs
@@ -40,11 +35,26 @@ wide-requires-3 c κs = search needs
 add-result : tie.Need-add-result
 add-result c = omega (arith, c .wide3 .ensures, c .before .shared-slice-known4 .given 0)
 
+mul-result : tie.Need-mul-result
+mul-result c =
+    let x : c .before .before .before .before .wide .result < 256 = omega (arith, c .before .before .before .before .wide .ensures, c .before .before .before .before .before .shared-slice-known2 .given 1) in
+    omega (arith, small (c .before .before .before .before .before .before .before .args .second) (c .before .before .before .before .wide .result) (c .before .before .before .before .before .before .before .pre .2) x)
+
 add-result-2 : tie.Need-add-result-2
-add-result-2 c = omega (arith, c .wide3 .ensures, c .before .shared-slice-known4 .given 0, c .before .before .before .before .wide .ensures, c .before .before .before .before .before .shared-slice-known2 .given 1)
+add-result-2 c =
+    let x : c .before .before .before .before .wide .result < 256 = omega (arith, c .before .before .before .before .wide .ensures, c .before .before .before .before .before .shared-slice-known2 .given 1) in
+    omega (arith, small (c .before .before .before .before .before .before .before .args .second) (c .before .before .before .before .wide .result) (c .before .before .before .before .before .before .before .pre .2) x, c .wide3 .ensures, c .before .shared-slice-known4 .given 0)
+
+mul-result-2 : tie.Need-mul-result-2
+mul-result-2 c =
+    let y : c .before .before .wide2 .result < 256 = omega (arith, c .before .before .wide2 .ensures, c .before .before .before .shared-slice-known3 .given (length (now (c .before .before .before .before .before .before .before .args .p)) - 1)) in
+    omega (arith, small (c .before .before .before .before .before .before .before .args .last) (c .before .before .wide2 .result) (c .before .before .before .before .before .before .before .pre .3) y)
 
 add-result-3 : tie.Need-add-result-3
-add-result-3 c = omega (arith, c .wide3 .ensures, c .before .shared-slice-known4 .given 0, c .before .before .before .before .wide .ensures, c .before .before .before .before .before .shared-slice-known2 .given 1, c .before .before .wide2 .ensures, c .before .before .before .shared-slice-known3 .given (length (now (c .before .before .before .before .before .before .before .args .p)) - 1))
+add-result-3 c =
+    let x : c .before .before .before .before .wide .result < 256 = omega (arith, c .before .before .before .before .wide .ensures, c .before .before .before .before .before .shared-slice-known2 .given 1) in
+    let y : c .before .before .wide2 .result < 256 = omega (arith, c .before .before .wide2 .ensures, c .before .before .before .shared-slice-known3 .given (length (now (c .before .before .before .before .before .before .before .args .p)) - 1)) in
+    omega (arith, small (c .before .before .before .before .before .before .before .args .second) (c .before .before .before .before .wide .result) (c .before .before .before .before .before .before .before .pre .2) x, small (c .before .before .before .before .before .before .before .args .last) (c .before .before .wide2 .result) (c .before .before .before .before .before .before .before .pre .3) y, c .wide3 .ensures, c .before .shared-slice-known4 .given 0)
 
 returns : tie.Need-returns
 unfolding slotOf
@@ -56,14 +66,14 @@ slot-spec =
     (tie.spec
     shared-slice-read-wide
     wide-requires
-    mul-second
     sub-wide
     shared-slice-read-wide-2
     wide-requires-2
-    mul-last
     shared-slice-read-wide-3
     wide-requires-3
     add-result
+    mul-result
     add-result-2
+    mul-result-2
     add-result-3
     returns)
