@@ -54,7 +54,14 @@ add-result-3 : tie.Need-add-result-3
 add-result-3 c =
     let x : c .before .before .before .before .wide .result < 256 = omega (arith, c .before .before .before .before .wide .ensures, c .before .before .before .before .before .shared-slice-known2 .given 1) in
     let y : c .before .before .wide2 .result < 256 = omega (arith, c .before .before .wide2 .ensures, c .before .before .before .shared-slice-known3 .given (length (now (c .before .before .before .before .before .before .before .args .p)) - 1)) in
-    omega (arith, small (c .before .before .before .before .before .before .before .args .second) (c .before .before .before .before .wide .result) (c .before .before .before .before .before .before .before .pre .2) x, small (c .before .before .before .before .before .before .before .args .last) (c .before .before .wide2 .result) (c .before .before .before .before .before .before .before .pre .3) y, c .wide3 .ensures, c .before .shared-slice-known4 .given 0)
+    omega (
+      arith,
+      small (c .before .before .before .before .before .before .before .args .second) (c .before .before .before .before .wide .result) (c .before .before .before .before .before .before .before .pre .2) x,
+      small
+          (c .before .before .before .before .before .before .before .args .last) (c .before .before .wide2 .result) (c .before .before .before .before .before .before .before .pre .3) y,
+      c .wide3 .ensures,
+      c .before .shared-slice-known4 .given 0,
+    )
 
 returns : tie.Need-returns
 unfolding slotOf

@@ -34,7 +34,8 @@ returns : tie.Need-returns Inv-loop μ-loop
 returns c =
     let w = now (c .before .before .before .before .before .args .p) in
     let l : c .before .before .before .before .loop .j < length (take (length w) (drop (c .before .before .before .before .before .args .start) letters)) = omega (arith, part-length (c .before .before .before .before .before .args .start) (length w) (c .before .before .before .before .before .pre .1)) in
-    let x = ap (λ b. getD b (c .before .before .before .before .before .args .start + c .before .before .before .before .loop .j) 0) (c .before .before .before .before .before .pre .0) ∙ spelt (c .before .before .before .before .before .args .start) (length w) (c .before .before .before .before .loop .j) (c .before .before .before .before .before .pre .1) (c .before .before .before .loop-test .taken) in
+    let x = ap (λ b. getD b (c .before .before .before .before .before .args .start + c .before .before .before .before .loop .j) 0) (c .before .before .before .before .before .pre .0) ∙ spelt (c .before .before .before .before .before .args .start)
+    (length w) (c .before .before .before .before .loop .j) (c .before .before .before .before .before .pre .1) (c .before .before .before .loop-test .taken) in
     same-not _ _ _ (c .before .before .before .loop-test .taken) l (λ e. c .if1 .taken (e ∙ sym x)) ∙ c .before .before .before .before .loop .inv .1
 
 add-j : tie.Need-add-j Inv-loop μ-loop
@@ -47,7 +48,8 @@ loop-again : tie.Need-loop-again Inv-loop μ-loop
 loop-again c =
     let w = now (c .before .before .before .before .before .args .p) in
     let l : c .before .before .before .before .loop .j < length (take (length w) (drop (c .before .before .before .before .before .args .start) letters)) = omega (arith, part-length (c .before .before .before .before .before .args .start) (length w) (c .before .before .before .before .before .pre .1)) in
-    let x = ap (λ b. getD b (c .before .before .before .before .before .args .start + c .before .before .before .before .loop .j) 0) (c .before .before .before .before .before .pre .0) ∙ spelt (c .before .before .before .before .before .args .start) (length w) (c .before .before .before .before .loop .j) (c .before .before .before .before .before .pre .1) (c .before .before .before .loop-test .taken) in
+    let x = ap (λ b. getD b (c .before .before .before .before .before .args .start + c .before .before .before .before .loop .j) 0) (c .before .before .before .before .before .pre .0) ∙ spelt (c .before .before .before .before .before .args .start)
+    (length w) (c .before .before .before .before .loop .j) (c .before .before .before .before .before .pre .1) (c .before .before .before .loop-test .taken) in
     (omega arith, same-more _ _ _ (c .before .before .before .loop-test .taken) l (c .if1 .left ∙ x) ∙ c .before .before .before .before .loop .inv .1)
 
 returns-2 : tie.Need-returns-2 Inv-loop μ-loop

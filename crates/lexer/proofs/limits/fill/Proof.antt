@@ -51,7 +51,8 @@ loop-less c =
     omega arith
 
 loop-again : tie.Need-loop-again Inv-loop μ-loop
-loop-again c = rw (c .first-over .ensures, c .before .before .before .put .ensures) (fill-token (c .before .before .before .before .before .before .before .before .before .before .loop .inv) _ _ (sym (c .before .before .before .before .before .before .before .before .step-with .ensures) ∙ c .before .before .before .before .before .before .found .given .1) (c .before .before .before .before .before .before .before .before .before .before .before .before .before .before .pre .1))
+loop-again c = rw (c .first-over .ensures, c .before .before .before .put .ensures) (fill-token (c .before .before .before .before .before .before .before .before .before .before .loop .inv) _ _ (sym (c .before .before .before .before .before .before .before .before .step-with .ensures) ∙ c .before .before .before .before .before .before .found .given .1)
+    (c .before .before .before .before .before .before .before .before .before .before .before .before .before .before .pre .1))
 
 enum-known-found-2 : tie.Need-enum-known-found-2 Inv-loop μ-loop
 enum-known-found-2 c = search needs

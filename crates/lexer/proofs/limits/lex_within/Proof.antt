@@ -23,7 +23,11 @@ same-length : tie.Need-same-length
 same-length c = c .before .before .clear .kept .0 ∙ c .before .before .before .before .before .before .before .before .judge .kept .1 .0
 
 returns : tie.Need-returns
-returns c = (c .before .before .before .before .before .before .before .before .judge .ensures .0, c .before .before .clear .ensures ∙ ap (λ n. replicate n 0) (c .before .before .before .before .before .before .before .before .judge .kept .1 .0) ∙ buffer-refused _ _ _ _ (c .before .before .before .before .before .before .before .before .judge .ensures .0) _ _ (c .before .before .before .before .enum-told .given .1))
+returns c = (
+  c .before .before .before .before .before .before .before .before .judge .ensures .0,
+  c .before .before .clear .ensures ∙ ap (λ n. replicate n 0) (c .before .before .before .before .before .before .before .before .judge .kept .1 .0) ∙ buffer-refused _ _ _ _
+      (c .before .before .before .before .before .before .before .before .judge .ensures .0) _ _ (c .before .before .before .before .enum-told .given .1),
+)
 
 same-length-2 : tie.Need-same-length-2
 same-length-2 c = c .before .before .before .before .before .judge .kept .1 .0

@@ -37,7 +37,8 @@ enum-told : tie.Need-enum-told Inv-loop μ-loop
 enum-told c = search needs
 
 returns : tie.Need-returns Inv-loop μ-loop
-returns c = close-here (now (c .before .before .before .before .before .before .before .args .s)) (c .before .before .before .before .before .loop .j) (c .before .before .before .before .before .loop .d) (c .before .before .before .before .before .loop .p) (c .before .before .before .before .loop-test .taken) (sym (c .before .before .comment-byte .ensures) ∙ c .enum-told .given .1) ∙ c .before .before .before .before .before .loop .inv .2
+returns c = close-here (now (c .before .before .before .before .before .before .before .args .s)) (c .before .before .before .before .before .loop .j) (c .before .before .before .before .before .loop .d)
+    (c .before .before .before .before .before .loop .p) (c .before .before .before .before .loop-test .taken) (sym (c .before .before .comment-byte .ensures) ∙ c .enum-told .given .1) ∙ c .before .before .before .before .before .loop .inv .2
 
 loop-less : tie.Need-loop-less Inv-loop μ-loop
 loop-less c = search needs
@@ -47,7 +48,8 @@ loop-again c =
     let e = sym (c .before .before .before .comment-byte .ensures) ∙ c .before .t .given .1 in (
       omega arith,
       omega (arith, deeper (now (c .before .before .before .before .before .before .before .before .args .s)) (c .before .before .before .before .before .before .loop .j) (c .before .before .before .before .before .before .loop .d) (c .before .before .before .before .before .before .loop .p) _ (c .before .t .given .0 .0) (c .before .t .given .0 .1 .0) e),
-      close-later (now (c .before .before .before .before .before .before .before .before .args .s)) (c .before .before .before .before .before .before .loop .j) (c .before .before .before .before .before .before .loop .d) (c .before .before .before .before .before .before .loop .p) (c .before .before .before .before .before .loop-test .taken) (c .before .t .given .0 .0) (c .before .t .given .0 .1 .0) e ∙ c .before .before .before .before .before .before .loop .inv .2,
+      close-later (now (c .before .before .before .before .before .before .before .before .args .s)) (c .before .before .before .before .before .before .loop .j) (c .before .before .before .before .before .before .loop .d)
+          (c .before .before .before .before .before .before .loop .p) (c .before .before .before .before .before .loop-test .taken) (c .before .t .given .0 .0) (c .before .t .given .0 .1 .0) e ∙ c .before .before .before .before .before .before .loop .inv .2,
     )
 
 returns-2 : tie.Need-returns-2 Inv-loop μ-loop
