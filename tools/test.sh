@@ -1,11 +1,12 @@
 #!/usr/bin/env bash
-# All tests: generated files are what their scripts write, the layout, then `rt ci` (every crate proved, every must-fail edit
+# All tests: generated files are what their scripts write, the layout, the partner's own cases, then `rt ci` (every crate proved, every must-fail edit
 # refused, every program run). The last line, 'N passed, 0 failed', is printed only where everything passed.
 set -euo pipefail
 cd "$(dirname "$0")/.."
 passed=0
-log=$(mktemp)
-trap 'rm -f "$log"' EXIT
+work=$(mktemp -d)
+trap 'rm -rf "$work"' EXIT
+log=$work/log
 
 run() {
     echo "test: $*"
@@ -18,6 +19,8 @@ for script in tools/words.py tools/words_cases.py tools/lexer_cases.py; do
 done
 run diff <(python3 tools/num_cases.py) crates/num_cases/stdout
 run rt fmt --check
+rustc --edition 2021 -O -o "$work/reader" partner/reader.rs
+run "$work/reader" --self-test
 
 # The last line of rt ci is held back, and printed below with what passed here added.
 echo "test: rt ci"
