@@ -6,7 +6,6 @@ pub mod Names
 pub mod Marks
 pub mod Bytes
 pub mod Order
-pub mod Moves
 pub mod Steps
 pub mod Filling
 pub mod Deep

@@ -14,7 +14,7 @@ use Rattle.lexer.specs.Lexemes.{Lexeme, token, trivia, refused, lexeme, 
 use Rattle.lexer.specs.Step.{stepFrom, stepOf}
 use Rattle.lexer.specs.declared.Step.{Step}
 use Rattle.lexer.specs.declared.Step.the-variants.{Token, Trivia, Refused, Nothing}
-use Rattle.lexer.proofs.Moves.{Moves, lexeme-moves}
+use Rattle.lexer.specs.Moves.{Moves, lexeme-moves}
 
 -- the bytes that are still part of the last lexeme are passed over
 pub passed : (r : List ℕ) (i k : ℕ) → lexemesFrom r i k ≡ lexemesFrom (drop k r) (i + k) 0

@@ -1,5 +1,7 @@
 pub mod Chars
 pub mod Lexemes
+pub mod Moves
+pub mod Tokens
 pub mod Bytes
 pub mod Step
 pub mod Trivia

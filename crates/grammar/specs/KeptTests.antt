@@ -1,0 +1,83 @@
+-- The computed tests of KeptLaws.antt and its like at each kind of shape, and with them the law of each: what a shape spells, its tokens
+-- in their roles, is of the rule of the kind that Records.antt decides.
+-- Assumes nothing.
+use mathlib.Core.Bool.{Bool, true, false, cond}
+use mathlib.Core.List.{List, [], _∷_}
+use mathlib.Core.Path.{_≡_, refl, sym, ap, _∙_, subst}
+use Prim.Native.Nat.{ℕ, _≤_, _<_}
+use native.Mathlib.Omega.{arith}
+use lib.Dec.{T, eqb}
+use lib.ListN.{getD}
+use Rattle.theory.specs.Ebnf.{eps}
+use Rattle.own.specs.Law.{Sort}
+use Rattle.kinds.specs.Lists.{some, all}
+use Rattle.kinds.specs.Shape.{Part, of, name, arm, bound, size, Shape, has, span, count, doubled, fits, Spells}
+use Rattle.kinds.specs.Rules.{forms}
+use Rattle.kinds.specs.Spelled.{formsOf}
+use Rattle.kinds.specs.Classes as class
+use Rattle.grammar.specs.Shapes.{shapes}
+use Rattle.grammar.specs.KeptShapes.{kindsIn, both, seen, partShapes, spelt}
+use Rattle.grammar.specs.KeptRows.{pairs, variants}
+use Rattle.grammar.specs.KeptInto.{rowIn, atomIn, manyIn, shapeIn, pieceIn, tokenIn, marksOf, isPart, kindsOf, onlyKinds}
+use Rattle.grammar.specs.KeptHeads.{free, freeOf, sure, isThe, lacks}
+use Rattle.grammar.specs.KeptForms.{SpelledAs, formIn, noNumber, fixed, counts, anyNumber, aBound, hasParts, loneRow, crowdedRow, unroll, judge, allBelow}
+use Rattle.grammar.specs.KeptLaws.{opened, exactIn, lonelyRow, literalRow, typeRow, patternRow}
+use Rattle.grammar.specs.KeptNames.{functionCase, functionRow, angledRow, armRow}
+use Rattle.grammar.specs.KeptCalls.{wrapsRow, callsRow, genericRow, pathRow, parensRow, aloneRow, plainRow, nameRow, nameRows}
+use Rattle.grammar.specs.Records.{roleOf, placeIn, literalHead, callHead, wrapperHead, aloneHead, head}
+use Rattle.grammar.specs.Records as rec
+
+-- The shape of a kind of shapes, as the rules see it.
+unfoldable pub bodyShape : ℕ → Shape
+bodyShape k = spelt (getD (shapes .bodies) k eps)
+
+-- Which part the number of a call is, by the word that the call begins with: a bound of `fold`, a size of `array_fold`.
+unfoldable pub boundPart : Part → Bool
+boundPart (of ks) = false
+boundPart (name cs) = false
+boundPart (arm n) = false
+boundPart bound = true
+boundPart size = false
+
+unfoldable pub sizePart : Part → Bool
+sizePart (of ks) = false
+sizePart (name cs) = false
+sizePart (arm n) = false
+sizePart bound = false
+sizePart size = true
+
+unfoldable pub foldNumber : ℕ → Part → Bool
+unfolding boundPart sizePart
+foldNumber c p = cond (eqb c class.fold) (boundPart p) (cond (eqb c class.array-fold) (sizePart p) false)
+
+-- The tests, of any number n.
+pub record Tests (n : ℕ) : Type 0 where
+  pub parameter : T (all (exactIn n (rec.plain 3)) (variants (bodyShape 1)))
+  pub tuple-type : T (all (exactIn n (rec.plain 10)) (variants (bodyShape 6)))
+  pub tuple-pattern : T (all (exactIn n (rec.plain 15)) (variants (bodyShape 9)))
+  pub array-pattern : T (all (exactIn n (rec.plain 16)) (variants (bodyShape 10)))
+  pub assignment : T (all (exactIn n (rec.plain 17)) (variants (bodyShape 12)))
+  pub array : T (all (exactIn n (rec.plain 32)) (variants (bodyShape 15)))
+  pub list : T (all (exactIn n (rec.plain 33)) (variants (bodyShape 16)))
+  pub function : T (all (functionRow n) (variants (bodyShape 0)))
+  pub either-type : T (all (angledRow n (exactIn n (rec.plain 8))) (variants (bodyShape 2)))
+  pub option-type : T (all (angledRow n (exactIn n (rec.plain 9))) (variants (bodyShape 3)))
+  pub list-type : T (all (angledRow n (formIn 12 n noNumber (counts aBound))) (variants (bodyShape 4)))
+  pub type-name : T (all (opened (typeRow n)) (variants (bodyShape 5)))
+  pub array-type : T (all (formIn 11 n noNumber (counts anyNumber)) (variants (bodyShape 7)))
+  pub pattern-name : T (all (opened (patternRow n)) (variants (bodyShape 8)))
+  pub literal : T (all (opened (literalRow n)) (variants (bodyShape 13)))
+  pub parens : T (all (judge (lonelyRow n 30 31)) (variants (bodyShape 14)))
+  pub simple-call : T (all (opened (nameRows n (λ c. noNumber))) (variants (bodyShape 18)))
+  pub cast-call : T (all (opened (nameRows n (λ c. noNumber))) (variants (bodyShape 19)))
+  pub named : T (all (opened (nameRows n (λ c. noNumber))) (variants (bodyShape 20)))
+  pub bare : T (all (opened (nameRows n (λ c. noNumber))) (variants (bodyShape 21)))
+  pub typed : T (all (opened (nameRows n (λ c. noNumber))) (variants (bodyShape 22)))
+  pub for-while : T (all (opened (nameRows n (λ c. noNumber))) (variants (bodyShape 24)))
+  pub folding : T (all (opened (nameRows n foldNumber)) (variants (bodyShape 23)))
+  pub arm : T (all (opened (armRow n)) (variants (bodyShape 25)))
+
+-- They pass, by computation.
+pub tests : (n : ℕ) → Tests n
+unfolding shapes seen partShapes both kindsIn bodyShape exactIn formIn formsOf forms fixed counts some all variants pairs rowIn atomIn manyIn shapeIn pieceIn tokenIn marksOf isPart kindsOf onlyKinds roleOf has span count doubled fits free freeOf sure isThe lacks hasParts loneRow crowdedRow unroll judge opened lonelyRow literalRow typeRow patternRow allBelow functionCase functionRow angledRow armRow placeIn literalHead callHead wrapperHead aloneHead wrapsRow callsRow genericRow pathRow parensRow aloneRow plainRow nameRow nameRows foldNumber
+tests n = record { parameter = tt; tuple-type = tt; tuple-pattern = tt; array-pattern = tt; assignment = tt; array = tt; list = tt; function = tt; either-type = tt; option-type = tt; list-type = tt; type-name = tt; array-type = tt; pattern-name = tt; literal = tt; parens = tt; simple-call = tt; cast-call = tt; named = tt; bare = tt; typed = tt; for-while = tt; folding = tt; arm = tt }

@@ -1,0 +1,87 @@
+-- The record tree of a shape tree has exactly the draft's tokens, in order, and the record above all is a function's.
+-- Assumes nothing.
+use mathlib.Core.List.{List, [], _∷_, _++_, append-nil}
+use mathlib.Core.Path.{_≡_, refl, sym, ap, ap₂, _∙_}
+use Prim.Native.Nat.{ℕ, zero, suc, _+_, _≤_}
+use native.Mathlib.Omega.{arith}
+use lib.ListN.{length, take, drop, length-append, length-drop}
+use lib.Seq.{take-add, take-length}
+use Rattle.theory.specs.Ebnf as shape
+use Rattle.theory.specs.Parse.{found}
+use Rattle.own.specs.Tree.{Tok, Items, none, mark, sub, Node, roots, yield, tokens}
+use Rattle.grammar.specs.ShapeKind.{FunctionShape}
+use Rattle.grammar.specs.WellShaped.{Shape, shape-function, shapeOf, shape-exactly}
+use Rattle.grammar.specs.Records.{Role, aMark, asName, asNumber, roleOf, placed, arranged, firstTok, reads, decimal, functionHead, headOf, forms, formOf, Head, headFor, recorded, recordItems, top, recordTree}
+
+-- The classes of tokens.
+unfoldable pub classesOf : List Tok → List ℕ
+classesOf [] = []
+classesOf (t ∷ ts) = t .class ∷ classesOf ts
+
+pub length-classes : (ts : List Tok) → length (classesOf ts) ≡ length ts
+unfolding classesOf
+length-classes [] = refl
+length-classes (t ∷ ts) = ap suc (length-classes ts)
+
+yield-placed : (o : Role) (n : ℕ) (t : Tok) (r : Items) → yield (placed o n t r) ≡ t ∷ yield r
+unfolding placed
+yield-placed aMark n t r = refl
+yield-placed asName n t r = refl
+yield-placed asNumber n t r = refl
+
+-- What becomes a record of its own keeps its place in the text.
+pub yield-arranged : (kind n : ℕ) (is : Items) → yield (arranged kind n is) ≡ yield is
+unfolding arranged
+yield-arranged kind n none = refl
+yield-arranged kind n (mark t r) = yield-placed (roleOf kind (t .class)) n t (arranged kind n r) ∙ ap (λ l. t ∷ l) (yield-arranged kind n r)
+yield-arranged kind n (sub k l h js r) = ap (λ m. yield js ++ m) (yield-arranged kind n r)
+
+yield-recorded : (n : ℕ) (h : Head) (is r : Items) → yield (recorded n h is r) ≡ yield is ++ yield r
+unfolding recorded
+yield-recorded n h is r = ap (λ l. l ++ yield r) (yield-arranged (h .kind) n is)
+
+take-first : (n : ℕ) (ts : List Tok) → suc n ≤ length ts → firstTok ts ∷ take n (drop 1 ts) ≡ take (suc n) ts
+unfolding firstTok
+take-first n [] h = absurd (omega arith)
+take-first n (t ∷ ts) h = refl
+
+-- Shapes side by side take the tokens that the list begins with, one for one.
+pub yield-records : (draft : List ℕ) (r : shape.Items) (ts : List Tok) → length (shape.yield r) ≤ length ts
+    → yield (recordItems draft r ts) ≡ take (length (shape.yield r)) ts
+unfolding recordItems shape.yield
+yield-records draft shape.nil ts h = refl
+yield-records draft (shape.word c r) ts h =
+    ap (λ l. firstTok ts ∷ l) (yield-records draft r (drop 1 ts) (omega (arith, length-drop 1 ts))) ∙ take-first (length (shape.yield r)) ts h
+yield-records draft (shape.sub k js r) ts h =
+    let n = length (shape.yield js) in
+    let m = length (shape.yield r) in
+    let e = length-append (shape.yield js) (shape.yield r) in
+    let a = yield-records draft js ts (omega arith) in
+    let b = yield-records draft r (drop n ts) (omega (arith, length-drop n ts)) in
+    let is = recordItems draft js ts in
+    yield-recorded (reads (decimal draft is)) (headFor draft k is) is (recordItems draft r (drop n ts)) ∙ ap₂ (λ x y. x ++ y) a b ∙ sym (take-add n m ts)
+    ∙ ap (λ i. take i ts) (sym e)
+
+-- A shape tree's records are one tree.
+pub one-tree : (draft : List ℕ) (ts : List Tok) {r : shape.Items} → Shape r → roots (recordTree draft ts r ∷ []) ≡ recordItems draft r ts
+unfolding recordTree recordItems recorded top
+one-tree draft ts s = let f = shape-function s in rw (f .1) refl
+
+module _ (draft : List ℕ) (ts : List Tok) (r : shape.Items) (found-it : shapeOf (classesOf ts) ≡ found r) where
+  -- it is a shape tree of these tokens
+  pub is-shape : Shape r
+  is-shape = shape-exactly (classesOf ts) r .0 found-it .0
+
+  pub its-yield : shape.yield r ≡ classesOf ts
+  its-yield = shape-exactly (classesOf ts) r .0 found-it .1
+
+  -- The tokens of the record tree are exactly the draft's, in order: none dropped, none read twice.
+  pub keeps-tokens : tokens (recordTree draft ts r ∷ []) ≡ ts
+  keeps-tokens =
+      let e : length (shape.yield r) ≡ length ts = ap length its-yield ∙ length-classes ts in
+      ap yield (one-tree draft ts is-shape) ∙ yield-records draft r ts (omega arith) ∙ ap (λ n. take n ts) e ∙ take-length ts
+
+  -- "1 function": the record above all is of kind 1.
+  pub top-function : recordTree draft ts r .kind ≡ 1
+  unfolding recordTree recordItems recorded top headFor headOf formOf forms functionHead
+  top-function = let f = shape-function is-shape in rw (f .1) refl

@@ -1,0 +1,251 @@
+-- Drafts and their records, from the text to the six numbers of each record, by computation: the listing's example of document 01, the
+-- drafts of "Drafts with known results" that refusals 9 to 14 or the kinds speak of, and one of each kind of type, call and match.
+-- Assumes nothing.
+use mathlib.Core.Bool.{_||_, cond}
+use mathlib.Core.List.{List, [], _∷_, _++_, map}
+use mathlib.Core.Option.{Option, none, some}
+use mathlib.Core.Path.{_≡_, refl}
+use Prim.Native.Nat.{ℕ}
+use Prim.Native.String.{String}
+use lib.ListN.{length, drop}
+use Rattle.text.specs.Ascii.{ascii, asciiFrom}
+use Rattle.text.specs.Part.{partOf}
+use Rattle.text.specs.Same.{same}
+use Rattle.words.specs.Words.{KEYWORDS, MACROS, MODULE_RESERVED, RULE_WORDS, RULE_NAMES, FUNCTION_RESERVED, BOOLEANS, BOOL, UINT_TYPES, BUILTIN_ALIASES, find, wordOf}
+use Rattle.num.specs.Digits as digits
+use Rattle.num.specs.Value.{decimalFrom, fitted, numberOf}
+use Rattle.num.specs.Bound.{powerUpTo, boundOk, sizeOk}
+use Rattle.lexer.specs.Chars.{among, whitespace, lineEnds, plainBytes, binaryDigits, decimalDigits, hexDigits, underscore, nameStarts, nameBytes, run, begins}
+use Rattle.lexer.specs.Lexemes as lex
+use Rattle.lexer.specs.Lexemes.{Token, Lexemes, tokens, refusedAt, lexemes}
+use Rattle.lexer.specs.Class.{classOf}
+use Rattle.theory.specs.Grammar.{look, row, alt, pick}
+use Rattle.theory.specs.Machine.{choose}
+use Rattle.theory.specs.Ebnf as shape
+use Rattle.theory.specs.Same.{ex}
+use Rattle.theory.specs.Exec.{thenWord, thenRest, thenSub, exec}
+use Rattle.theory.specs.Fuel.{saves, need}
+use Rattle.theory.specs.Parse.{Found, found, stuck, judge, parse}
+use Rattle.own.specs.Tree.{Tok, Node, partner, canonical, turned, Rec, records}
+use Rattle.kinds.specs.Shape.{has, count, span}
+use Rattle.kinds.specs.Fields.{counted}
+use Rattle.grammar.specs.Shapes.{shapes}
+use Rattle.grammar.specs.Tables.{table, means}
+use Rattle.grammar.specs.WellShaped.{shapeOf}
+use Rattle.grammar.specs.Records.{lowHalf, highHalf, reads, sees, opening, nameCount, partCount, lone, unended, placeIn, builtinType, unsignedType, boolType, typeName, patternName}
+use Rattle.grammar.specs.Records.{literalHead, functionHead, callHead, wrapperHead, calledHead, aloneHead, nameHead, armHead, headOf, forms, formOf, roleOf, placed, arranged}
+use Rattle.grammar.specs.Records.{textOf, firstTok, firstOf, decimal, headFor, recorded, recordItems, top, recordTree}
+use Rattle.grammar.specs.Faults.{Fault, unless, armLows, mates, armsFault, faultsAt, faults, earlier, earliest, faultOf}
+
+-- The tokens of a draft with their classes; none if it does not lex.
+unfoldable pub classed : List ℕ → List Token → List Tok
+classed draft [] = []
+classed draft (t ∷ ts) = record { class = classOf (t .kind) (partOf draft (t .start) (t .end)); start = t .start; stop = t .end } ∷ classed draft ts
+
+unfoldable pub toksOf : List ℕ → Lexemes → List Tok
+toksOf draft (tokens ts) = classed draft ts
+toksOf draft (refusedAt c p) = []
+
+unfoldable pub classes : List Tok → List ℕ
+classes [] = []
+classes (t ∷ ts) = t .class ∷ classes ts
+
+-- The numbers of a record, and those other than its place.
+abbrev pub line : Rec → List ℕ
+line r = r .kind ∷ r .start ∷ r .stop ∷ r .low ∷ r .high ∷ r .size ∷ []
+
+abbrev pub short : Rec → List ℕ
+short r = r .kind ∷ r .low ∷ r .high ∷ r .size ∷ []
+
+-- The lines of the records, or the refusal of 9 to 14 and its place.
+unfoldable pub judged : (Rec → List ℕ) → Option Fault → List Rec → List (List ℕ)
+judged show (some f) rs = (f .number ∷ f .place ∷ []) ∷ []
+judged show none rs = map show rs
+
+unfoldable pub handed : (Rec → List ℕ) → List ℕ → List Tok → Found → List (List ℕ)
+handed show draft ts (found r) = judged show (faultOf draft ts r) (records (recordTree draft ts r ∷ []))
+handed show draft ts (stuck p) = []
+
+-- The records of a draft; it opens all that it computes with.
+unfoldable pub recordsOf : (Rec → List ℕ) → String → List (List ℕ)
+unfolding classed toksOf classes judged handed ascii asciiFrom partOf same KEYWORDS MACROS MODULE_RESERVED RULE_WORDS RULE_NAMES FUNCTION_RESERVED BOOLEANS BOOL UINT_TYPES BUILTIN_ALIASES find wordOf digits.plain decimalFrom fitted numberOf powerUpTo boundOk sizeOk among whitespace lineEnds plainBytes binaryDigits decimalDigits hexDigits underscore nameStarts nameBytes run begins lex.space lex.comment lex.lineComment lex.inside lex.closing lex.blockComment lex.nameLength lex.qualified lex.macro lex.word lex.digits lex.hexadecimal lex.binary lex.decimal lex.marks lex.mark lex.noLexeme lex.lexeme lex.lexemesFrom lexemes classOf look row alt pick choose shape.kindsOf shape.sortOf shape.yield ex thenWord thenRest thenSub exec saves need judge parse partner canonical turned has count span counted shapes table means shapeOf lowHalf highHalf reads sees opening nameCount partCount lone unended placeIn builtinType unsignedType boolType typeName patternName literalHead functionHead callHead wrapperHead calledHead aloneHead nameHead armHead headOf forms formOf roleOf placed arranged textOf firstTok firstOf decimal headFor recorded recordItems top recordTree unless armLows mates armsFault faultsAt faults earlier earliest faultOf
+recordsOf show text =
+    let draft = ascii text in
+    let ts = toksOf draft (lexemes draft) in
+    handed show draft ts (shapeOf (classes ts))
+
+-- The listing's example: nine records.
+pub the-listing : recordsOf line "fn f(){match b{true=>1,false=>2,}}"
+    ≡ (1 ∷ 0 ∷ 34 ∷ 0 ∷ 0 ∷ 9 ∷ [])
+    ∷ (2 ∷ 3 ∷ 4 ∷ 0 ∷ 0 ∷ 1 ∷ [])
+    ∷ (18 ∷ 6 ∷ 34 ∷ 1 ∷ 0 ∷ 7 ∷ [])
+    ∷ (35 ∷ 7 ∷ 33 ∷ 0 ∷ 0 ∷ 6 ∷ [])
+    ∷ (29 ∷ 13 ∷ 14 ∷ 0 ∷ 0 ∷ 1 ∷ [])
+    ∷ (37 ∷ 23 ∷ 32 ∷ 5 ∷ 0 ∷ 2 ∷ [])
+    ∷ (24 ∷ 30 ∷ 31 ∷ 0 ∷ 0 ∷ 1 ∷ [])
+    ∷ (37 ∷ 15 ∷ 23 ∷ 6 ∷ 0 ∷ 2 ∷ [])
+    ∷ (24 ∷ 21 ∷ 22 ∷ 0 ∷ 0 ∷ 1 ∷ [])
+    ∷ []
+unfolding recordsOf
+the-listing = refl
+
+-- The same numbers of the drafts that follow, without places.
+abbrev pub made : String → List (List ℕ)
+made text = recordsOf short text
+
+-- `Left(1)`: kind 19, 5 records. `Left(1,)`: call, 6 records. Empty B: 3 records.
+pub left-one : made "fn f(){Left(1)}"
+    ≡ (1 ∷ 0 ∷ 0 ∷ 5 ∷ []) ∷ (2 ∷ 0 ∷ 0 ∷ 1 ∷ []) ∷ (18 ∷ 1 ∷ 0 ∷ 3 ∷ []) ∷ (19 ∷ 0 ∷ 0 ∷ 2 ∷ []) ∷ (24 ∷ 0 ∷ 0 ∷ 1 ∷ []) ∷ []
+unfolding recordsOf
+left-one = refl
+
+pub left-call : made "fn f(){Left(1,)}"
+    ≡ (1 ∷ 0 ∷ 0 ∷ 6 ∷ []) ∷ (2 ∷ 0 ∷ 0 ∷ 1 ∷ []) ∷ (18 ∷ 1 ∷ 0 ∷ 4 ∷ []) ∷ (39 ∷ 10 ∷ 0 ∷ 3 ∷ []) ∷ (2 ∷ 0 ∷ 0 ∷ 1 ∷ []) ∷ (24 ∷ 0 ∷ 0 ∷ 1 ∷ []) ∷ []
+unfolding recordsOf
+left-call = refl
+
+-- Refusals 9 to 14 of "Drafts with known results".
+pub refusals : map made ("fn f(){match x{}}" ∷ "fn f(){match x{true=>1,}}" ∷ "fn f(){match x{None=>1,true=>2,}}" ∷ "fn f(){match x{A::B=>1,None=>2,}}"
+    ∷ "fn f(){fold::<g,3>(x)}" ∷ "fn f(){array_fold::<g,0>(x)}" ∷ [])
+    ≡ ((11 ∷ 7 ∷ []) ∷ []) ∷ ((13 ∷ 7 ∷ []) ∷ []) ∷ ((14 ∷ 7 ∷ []) ∷ []) ∷ ((12 ∷ 7 ∷ []) ∷ []) ∷ ((9 ∷ 16 ∷ []) ∷ []) ∷ ((10 ∷ 22 ∷ []) ∷ []) ∷ []
+unfolding recordsOf
+refusals = refl
+
+-- A function that is public, with two parameters and a result type: its eleven records with their places.
+pub a-function : recordsOf line "pub fn g(a:u8,b:Pubkey,)->bool{a}"
+    ≡ (1 ∷ 0 ∷ 33 ∷ 3 ∷ 2 ∷ 11 ∷ [])
+    ∷ (2 ∷ 7 ∷ 8 ∷ 0 ∷ 0 ∷ 1 ∷ [])
+    ∷ (3 ∷ 9 ∷ 13 ∷ 0 ∷ 0 ∷ 3 ∷ [])
+    ∷ (2 ∷ 9 ∷ 10 ∷ 0 ∷ 0 ∷ 1 ∷ [])
+    ∷ (7 ∷ 11 ∷ 13 ∷ 8 ∷ 0 ∷ 1 ∷ [])
+    ∷ (3 ∷ 14 ∷ 22 ∷ 0 ∷ 0 ∷ 3 ∷ [])
+    ∷ (2 ∷ 14 ∷ 15 ∷ 0 ∷ 0 ∷ 1 ∷ [])
+    ∷ (5 ∷ 16 ∷ 22 ∷ 1 ∷ 0 ∷ 1 ∷ [])
+    ∷ (6 ∷ 26 ∷ 30 ∷ 0 ∷ 0 ∷ 1 ∷ [])
+    ∷ (18 ∷ 30 ∷ 33 ∷ 1 ∷ 0 ∷ 2 ∷ [])
+    ∷ (29 ∷ 31 ∷ 32 ∷ 0 ∷ 0 ∷ 1 ∷ [])
+    ∷ []
+unfolding recordsOf
+a-function = refl
+
+-- Types of each kind, in `let _:T=1;`: from the type on, with the 1.
+pub types : map (λ text. drop 5 (made text)) ("fn f(){let _:Either<A,_>=1;}"
+    ∷ "fn f(){let _:Option<bool>=1;}"
+    ∷ "fn f(){let _:List<u256,4>=1;}"
+    ∷ "fn f(){let _:List<u1,9223372036854775808>=1;}"
+    ∷ "fn f(){let _:[Nonce;18446744073709551616]=1;}"
+    ∷ "fn f(){let _:[TokenAmount1;4294967297]=1;}"
+    ∷ "fn f(){let _:()=1;}"
+    ∷ "fn f(){let _:(u3,)=1;}"
+    ∷ "fn f(){let _:Either=1;}"
+    ∷ "fn f(){let _:fold=1;}"
+    ∷ "fn f(){let _:Ctx8=1;}" ∷ [])
+    ≡ ((8 ∷ 0 ∷ 0 ∷ 3 ∷ []) ∷ (4 ∷ 0 ∷ 0 ∷ 1 ∷ []) ∷ (4 ∷ 0 ∷ 0 ∷ 1 ∷ []) ∷ (24 ∷ 0 ∷ 0 ∷ 1 ∷ []) ∷ [])
+    ∷ ((9 ∷ 0 ∷ 0 ∷ 2 ∷ []) ∷ (6 ∷ 0 ∷ 0 ∷ 1 ∷ []) ∷ (24 ∷ 0 ∷ 0 ∷ 1 ∷ []) ∷ [])
+    ∷ ((12 ∷ 4 ∷ 0 ∷ 2 ∷ []) ∷ (7 ∷ 256 ∷ 0 ∷ 1 ∷ []) ∷ (24 ∷ 0 ∷ 0 ∷ 1 ∷ []) ∷ [])
+    ∷ ((12 ∷ 0 ∷ 2147483648 ∷ 2 ∷ []) ∷ (7 ∷ 1 ∷ 0 ∷ 1 ∷ []) ∷ (24 ∷ 0 ∷ 0 ∷ 1 ∷ []) ∷ [])
+    ∷ ((11 ∷ 0 ∷ 0 ∷ 2 ∷ []) ∷ (5 ∷ 22 ∷ 0 ∷ 1 ∷ []) ∷ (24 ∷ 0 ∷ 0 ∷ 1 ∷ []) ∷ [])
+    ∷ ((11 ∷ 1 ∷ 1 ∷ 2 ∷ []) ∷ (5 ∷ 23 ∷ 0 ∷ 1 ∷ []) ∷ (24 ∷ 0 ∷ 0 ∷ 1 ∷ []) ∷ [])
+    ∷ ((10 ∷ 0 ∷ 0 ∷ 1 ∷ []) ∷ (24 ∷ 0 ∷ 0 ∷ 1 ∷ []) ∷ [])
+    ∷ ((10 ∷ 0 ∷ 0 ∷ 2 ∷ []) ∷ (4 ∷ 0 ∷ 0 ∷ 1 ∷ []) ∷ (24 ∷ 0 ∷ 0 ∷ 1 ∷ []) ∷ [])
+    ∷ ((4 ∷ 0 ∷ 0 ∷ 1 ∷ []) ∷ (24 ∷ 0 ∷ 0 ∷ 1 ∷ []) ∷ [])
+    ∷ ((4 ∷ 0 ∷ 0 ∷ 1 ∷ []) ∷ (24 ∷ 0 ∷ 0 ∷ 1 ∷ []) ∷ [])
+    ∷ ((5 ∷ 0 ∷ 0 ∷ 1 ∷ []) ∷ (24 ∷ 0 ∷ 0 ∷ 1 ∷ []) ∷ []) ∷ []
+unfolding recordsOf
+types = refl
+
+-- Patterns, in `let`: from the pattern on.
+pub patterns : map (λ text. drop 4 (made text)) ("fn f(){let (a,[_,]):T=1;}"
+    ∷ "fn f(){let []:T=1;}" ∷ [])
+    ≡ ((15 ∷ 0 ∷ 0 ∷ 4 ∷ []) ∷ (13 ∷ 0 ∷ 0 ∷ 1 ∷ []) ∷ (16 ∷ 0 ∷ 0 ∷ 2 ∷ []) ∷ (14 ∷ 0 ∷ 0 ∷ 1 ∷ []) ∷ (4 ∷ 0 ∷ 0 ∷ 1 ∷ []) ∷ (24 ∷ 0 ∷ 0 ∷ 1 ∷ []) ∷ [])
+    ∷ ((16 ∷ 0 ∷ 0 ∷ 1 ∷ []) ∷ (4 ∷ 0 ∷ 0 ∷ 1 ∷ []) ∷ (24 ∷ 0 ∷ 0 ∷ 1 ∷ []) ∷ []) ∷ []
+unfolding recordsOf
+patterns = refl
+
+-- Calls of each of the fourteen names: from the call on.
+pub calls : map (λ text. drop 3 (made text)) ("fn f(){jet::eq_8(x)}"
+    ∷ "fn f(){unwrap_left::<T>(x)}"
+    ∷ "fn f(){unwrap_right::<T>(x)}"
+    ∷ "fn f(){unwrap(x)}"
+    ∷ "fn f(){is_none::<T>(x)}"
+    ∷ "fn f(){assert!(x)}"
+    ∷ "fn f(){panic!()}"
+    ∷ "fn f(){dbg!(x,)}"
+    ∷ "fn f(){<T>::into(x)}"
+    ∷ "fn f(){g(x,x)}"
+    ∷ "fn f(){fold::<g,2>(x)}"
+    ∷ "fn f(){array_fold::<g,5>(x)}"
+    ∷ "fn f(){for_while::<g>(x)}"
+    ∷ "fn f(){raw_hash::<T>(x)}" ∷ [])
+    ≡ ((39 ∷ 1 ∷ 0 ∷ 3 ∷ []) ∷ (2 ∷ 0 ∷ 0 ∷ 1 ∷ []) ∷ (29 ∷ 0 ∷ 0 ∷ 1 ∷ []) ∷ [])
+    ∷ ((39 ∷ 2 ∷ 0 ∷ 3 ∷ []) ∷ (4 ∷ 0 ∷ 0 ∷ 1 ∷ []) ∷ (29 ∷ 0 ∷ 0 ∷ 1 ∷ []) ∷ [])
+    ∷ ((39 ∷ 3 ∷ 0 ∷ 3 ∷ []) ∷ (4 ∷ 0 ∷ 0 ∷ 1 ∷ []) ∷ (29 ∷ 0 ∷ 0 ∷ 1 ∷ []) ∷ [])
+    ∷ ((39 ∷ 4 ∷ 0 ∷ 2 ∷ []) ∷ (29 ∷ 0 ∷ 0 ∷ 1 ∷ []) ∷ [])
+    ∷ ((39 ∷ 5 ∷ 0 ∷ 3 ∷ []) ∷ (4 ∷ 0 ∷ 0 ∷ 1 ∷ []) ∷ (29 ∷ 0 ∷ 0 ∷ 1 ∷ []) ∷ [])
+    ∷ ((39 ∷ 6 ∷ 0 ∷ 2 ∷ []) ∷ (29 ∷ 0 ∷ 0 ∷ 1 ∷ []) ∷ [])
+    ∷ ((39 ∷ 7 ∷ 0 ∷ 1 ∷ []) ∷ [])
+    ∷ ((39 ∷ 8 ∷ 0 ∷ 2 ∷ []) ∷ (29 ∷ 0 ∷ 0 ∷ 1 ∷ []) ∷ [])
+    ∷ ((39 ∷ 9 ∷ 0 ∷ 3 ∷ []) ∷ (4 ∷ 0 ∷ 0 ∷ 1 ∷ []) ∷ (29 ∷ 0 ∷ 0 ∷ 1 ∷ []) ∷ [])
+    ∷ ((39 ∷ 10 ∷ 0 ∷ 4 ∷ []) ∷ (2 ∷ 0 ∷ 0 ∷ 1 ∷ []) ∷ (29 ∷ 0 ∷ 0 ∷ 1 ∷ []) ∷ (29 ∷ 0 ∷ 0 ∷ 1 ∷ []) ∷ [])
+    ∷ ((39 ∷ 11 ∷ 0 ∷ 4 ∷ []) ∷ (2 ∷ 0 ∷ 0 ∷ 1 ∷ []) ∷ (40 ∷ 2 ∷ 0 ∷ 1 ∷ []) ∷ (29 ∷ 0 ∷ 0 ∷ 1 ∷ []) ∷ [])
+    ∷ ((39 ∷ 12 ∷ 0 ∷ 4 ∷ []) ∷ (2 ∷ 0 ∷ 0 ∷ 1 ∷ []) ∷ (40 ∷ 5 ∷ 0 ∷ 1 ∷ []) ∷ (29 ∷ 0 ∷ 0 ∷ 1 ∷ []) ∷ [])
+    ∷ ((39 ∷ 13 ∷ 0 ∷ 3 ∷ []) ∷ (2 ∷ 0 ∷ 0 ∷ 1 ∷ []) ∷ (29 ∷ 0 ∷ 0 ∷ 1 ∷ []) ∷ [])
+    ∷ ((39 ∷ 14 ∷ 0 ∷ 3 ∷ []) ∷ (4 ∷ 0 ∷ 0 ∷ 1 ∷ []) ∷ (29 ∷ 0 ∷ 0 ∷ 1 ∷ []) ∷ []) ∷ []
+unfolding recordsOf
+calls = refl
+
+-- Other expressions: from the expression on.
+pub expressions : map (λ text. drop 3 (made text)) ("fn f(){None}"
+    ∷ "fn f(){false}"
+    ∷ "fn f(){true}"
+    ∷ "fn f(){0xf_f}"
+    ∷ "fn f(){0b1}"
+    ∷ "fn f(){witness::a}"
+    ∷ "fn f(){param::a}"
+    ∷ "fn f(){fold}"
+    ∷ "fn f(){(1)}"
+    ∷ "fn f(){(1,)}"
+    ∷ "fn f(){()}"
+    ∷ "fn f(){[1,]}"
+    ∷ "fn f(){list![]}"
+    ∷ "fn f(){A::B}"
+    ∷ "fn f(){fold::B::C()}"
+    ∷ "fn f(){None::x(1)}"
+    ∷ "fn f(){Right(x)}"
+    ∷ "fn f(){Some(x)}"
+    ∷ "fn f(){Some(x,x)}"
+    ∷ "fn f(){Left()}"
+    ∷ "fn f(){{1}}" ∷ [])
+    ≡ ((22 ∷ 0 ∷ 0 ∷ 1 ∷ []) ∷ [])
+    ∷ ((23 ∷ 0 ∷ 0 ∷ 1 ∷ []) ∷ [])
+    ∷ ((23 ∷ 1 ∷ 0 ∷ 1 ∷ []) ∷ [])
+    ∷ ((25 ∷ 0 ∷ 0 ∷ 1 ∷ []) ∷ [])
+    ∷ ((26 ∷ 0 ∷ 0 ∷ 1 ∷ []) ∷ [])
+    ∷ ((27 ∷ 0 ∷ 0 ∷ 1 ∷ []) ∷ [])
+    ∷ ((28 ∷ 0 ∷ 0 ∷ 1 ∷ []) ∷ [])
+    ∷ ((29 ∷ 0 ∷ 0 ∷ 1 ∷ []) ∷ [])
+    ∷ ((30 ∷ 0 ∷ 0 ∷ 2 ∷ []) ∷ (24 ∷ 0 ∷ 0 ∷ 1 ∷ []) ∷ [])
+    ∷ ((31 ∷ 0 ∷ 0 ∷ 2 ∷ []) ∷ (24 ∷ 0 ∷ 0 ∷ 1 ∷ []) ∷ [])
+    ∷ ((31 ∷ 0 ∷ 0 ∷ 1 ∷ []) ∷ [])
+    ∷ ((32 ∷ 0 ∷ 0 ∷ 2 ∷ []) ∷ (24 ∷ 0 ∷ 0 ∷ 1 ∷ []) ∷ [])
+    ∷ ((33 ∷ 0 ∷ 0 ∷ 1 ∷ []) ∷ [])
+    ∷ ((34 ∷ 2 ∷ 0 ∷ 3 ∷ []) ∷ (2 ∷ 0 ∷ 0 ∷ 1 ∷ []) ∷ (2 ∷ 0 ∷ 0 ∷ 1 ∷ []) ∷ [])
+    ∷ ((34 ∷ 3 ∷ 0 ∷ 4 ∷ []) ∷ (2 ∷ 0 ∷ 0 ∷ 1 ∷ []) ∷ (2 ∷ 0 ∷ 0 ∷ 1 ∷ []) ∷ (2 ∷ 0 ∷ 0 ∷ 1 ∷ []) ∷ [])
+    ∷ ((34 ∷ 2 ∷ 0 ∷ 4 ∷ []) ∷ (2 ∷ 0 ∷ 0 ∷ 1 ∷ []) ∷ (2 ∷ 0 ∷ 0 ∷ 1 ∷ []) ∷ (24 ∷ 0 ∷ 0 ∷ 1 ∷ []) ∷ [])
+    ∷ ((20 ∷ 0 ∷ 0 ∷ 2 ∷ []) ∷ (29 ∷ 0 ∷ 0 ∷ 1 ∷ []) ∷ [])
+    ∷ ((21 ∷ 0 ∷ 0 ∷ 2 ∷ []) ∷ (29 ∷ 0 ∷ 0 ∷ 1 ∷ []) ∷ [])
+    ∷ ((39 ∷ 10 ∷ 0 ∷ 4 ∷ []) ∷ (2 ∷ 0 ∷ 0 ∷ 1 ∷ []) ∷ (29 ∷ 0 ∷ 0 ∷ 1 ∷ []) ∷ (29 ∷ 0 ∷ 0 ∷ 1 ∷ []) ∷ [])
+    ∷ ((39 ∷ 10 ∷ 0 ∷ 2 ∷ []) ∷ (2 ∷ 0 ∷ 0 ∷ 1 ∷ []) ∷ [])
+    ∷ ((18 ∷ 1 ∷ 0 ∷ 2 ∷ []) ∷ (24 ∷ 0 ∷ 0 ∷ 1 ∷ []) ∷ []) ∷ []
+unfolding recordsOf
+expressions = refl
+
+-- Matches: one of enum arms, and two of built-in arms that are written the other way round; from the match on.
+pub matches : map (λ text. drop 3 (made text)) ("fn f(){match x{A::B=>1,A::C(p:u1,(q,):u2)=>{}A::D(_:T,)=>2,}}"
+    ∷ "fn f(){match x{Right(a:u1)=>a,Left(b:u2)=>b,}}"
+    ∷ "fn f(){match x{Some(a:T)=>1,None=>{2}}}" ∷ [])
+    ≡ ((36 ∷ 0 ∷ 0 ∷ 21 ∷ []) ∷ (29 ∷ 0 ∷ 0 ∷ 1 ∷ []) ∷ (38 ∷ 2 ∷ 0 ∷ 4 ∷ []) ∷ (2 ∷ 0 ∷ 0 ∷ 1 ∷ []) ∷ (2 ∷ 0 ∷ 0 ∷ 1 ∷ []) ∷ (24 ∷ 0 ∷ 0 ∷ 1 ∷ []) ∷ (38 ∷ 2 ∷ 2 ∷ 9 ∷ []) ∷ (2 ∷ 0 ∷ 0 ∷ 1 ∷ []) ∷ (2 ∷ 0 ∷ 0 ∷ 1 ∷ []) ∷ (13 ∷ 0 ∷ 0 ∷ 1 ∷ []) ∷ (7 ∷ 1 ∷ 0 ∷ 1 ∷ []) ∷ (15 ∷ 0 ∷ 0 ∷ 2 ∷ []) ∷ (13 ∷ 0 ∷ 0 ∷ 1 ∷ []) ∷ (7 ∷ 2 ∷ 0 ∷ 1 ∷ []) ∷ (18 ∷ 0 ∷ 0 ∷ 1 ∷ []) ∷ (38 ∷ 2 ∷ 1 ∷ 6 ∷ []) ∷ (2 ∷ 0 ∷ 0 ∷ 1 ∷ []) ∷ (2 ∷ 0 ∷ 0 ∷ 1 ∷ []) ∷ (14 ∷ 0 ∷ 0 ∷ 1 ∷ []) ∷ (4 ∷ 0 ∷ 0 ∷ 1 ∷ []) ∷ (24 ∷ 0 ∷ 0 ∷ 1 ∷ []) ∷ [])
+    ∷ ((35 ∷ 0 ∷ 0 ∷ 10 ∷ []) ∷ (29 ∷ 0 ∷ 0 ∷ 1 ∷ []) ∷ (37 ∷ 1 ∷ 0 ∷ 4 ∷ []) ∷ (13 ∷ 0 ∷ 0 ∷ 1 ∷ []) ∷ (7 ∷ 2 ∷ 0 ∷ 1 ∷ []) ∷ (29 ∷ 0 ∷ 0 ∷ 1 ∷ []) ∷ (37 ∷ 2 ∷ 0 ∷ 4 ∷ []) ∷ (13 ∷ 0 ∷ 0 ∷ 1 ∷ []) ∷ (7 ∷ 1 ∷ 0 ∷ 1 ∷ []) ∷ (29 ∷ 0 ∷ 0 ∷ 1 ∷ []) ∷ [])
+    ∷ ((35 ∷ 0 ∷ 0 ∷ 9 ∷ []) ∷ (29 ∷ 0 ∷ 0 ∷ 1 ∷ []) ∷ (37 ∷ 3 ∷ 0 ∷ 3 ∷ []) ∷ (18 ∷ 1 ∷ 0 ∷ 2 ∷ []) ∷ (24 ∷ 0 ∷ 0 ∷ 1 ∷ []) ∷ (37 ∷ 4 ∷ 0 ∷ 4 ∷ []) ∷ (13 ∷ 0 ∷ 0 ∷ 1 ∷ []) ∷ (4 ∷ 0 ∷ 0 ∷ 1 ∷ []) ∷ (24 ∷ 0 ∷ 0 ∷ 1 ∷ []) ∷ []) ∷ []
+unfolding recordsOf
+matches = refl

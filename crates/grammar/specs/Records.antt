@@ -1,0 +1,281 @@
+-- From the shape tree of a draft to its record tree: document 01, "Records and the marks they own". A shape becomes a record whose kind,
+-- low and high are decided by what it is made of; some of its tokens become records of their own. All stays in the order of the text.
+-- Assumes nothing.
+use mathlib.Core.Bool.{Bool, true, false, _&&_, _||_, not, cond}
+use mathlib.Core.List.{List, [], _∷_, _++_}
+use Prim.Native.Nat.{ℕ, suc, _+_, _^_, _/_, _%_}
+use lib.Dec.{eqb, ltb}
+use lib.ListN.{length, drop, getD}
+use Rattle.text.specs.Ascii.{ascii}
+use Rattle.text.specs.Part.{partOf}
+use Rattle.text.specs.Same.{same}
+use Rattle.words.specs.Words.{BOOL, UINT_TYPES, BUILTIN_ALIASES, wordOf}
+use Rattle.words.specs.declared.Found.{Found}
+use Rattle.words.specs.declared.Found.the-variants.{Word, Plain}
+use Rattle.num.specs.Value.{numberOf}
+use Rattle.num.specs.declared.Value.{Value}
+use Rattle.num.specs.declared.Value.the-variants.{Number, TooLarge}
+use Rattle.theory.specs.Ebnf as shape
+use Rattle.own.specs.Tree.{Tok, Items, none, mark, sub, Node, node, marks}
+use Rattle.own.specs.Flat.{no-token}
+use Rattle.own.specs.Law.{Sort, word, child}
+use Rattle.own.specs.Rules.{sorts}
+use Rattle.kinds.specs.Shape.{has, span}
+use Rattle.kinds.specs.Fields.{counted}
+use Rattle.kinds.specs.Classes as t
+
+-- The fields of a record that its shape decides.
+pub record Head : Type 0 where
+  pub kind : ℕ
+  pub low : ℕ
+  pub high : ℕ
+
+-- "Low and high are 0 unless named": the head of this kind, low and high, and the one with neither.
+abbrev pub head : ℕ → ℕ → ℕ → Head
+head k l h = record { kind = k; low = l; high = h }
+
+abbrev pub plain : ℕ → Head
+plain k = head k 0 0
+
+-- "together they hold a 64-bit number where `number` stands": its two halves of 32 bits.
+unfoldable pub lowHalf : ℕ → ℕ
+lowHalf n = n % 4294967296
+
+unfoldable pub highHalf : ℕ → ℕ
+highHalf n = n / 4294967296
+
+abbrev pub wide : ℕ → ℕ → Head
+wide k n = head k (lowHalf n) (highHalf n)
+
+-- "An array length over the largest 64-bit number reads as 0"; so does any other number that is too large, which is refused.
+unfoldable pub reads : Value → ℕ
+reads (Number n) = n
+reads TooLarge = 0
+
+-- What the decisions look at: the pieces of a shape, as a rule sees them. Whether a token of a class is among its own,
+unfoldable pub sees : ℕ → List Sort → Bool
+sees c [] = false
+sees c (word d ∷ w) = eqb d c || sees c w
+sees c (child k l h d ∷ w) = sees c w
+
+-- the class of the token that it begins with,
+unfoldable pub opening : List Sort → ℕ
+opening [] = 0
+opening (word c ∷ w) = c
+opening (child k l h d ∷ w) = 0
+
+-- how many name tokens are its own,
+unfoldable pub nameCount : List Sort → ℕ
+nameCount [] = 0
+nameCount (word c ∷ w) = cond (has t.identifiers c) 1 0 + nameCount w
+nameCount (child k l h d ∷ w) = nameCount w
+
+-- how many parts it has,
+unfoldable pub partCount : List Sort → ℕ
+partCount [] = 0
+partCount (word c ∷ w) = partCount w
+partCount (child k l h d ∷ w) = suc (partCount w)
+
+-- that it has "one expression in parentheses and no comma",
+unfoldable pub lone : List Sort → Bool
+lone w = eqb (partCount w) 1 && not (sees t.Comma w)
+
+-- and that its last part has no `;` after it (before any piece, as given).
+unfoldable pub unended : Bool → List Sort → Bool
+unended b [] = b
+unended b (word c ∷ w) = unended (b && not (eqb c t.Semi)) w
+unended b (child k l h d ∷ w) = unended true w
+
+-- The place of a class in a list, counted from n; the number d if it has none.
+unfoldable pub placeIn : ℕ → ℕ → List ℕ → ℕ → ℕ
+placeIn d n [] c = d
+placeIn d n (a ∷ l) c = cond (eqb c a) n (placeIn d (suc n) l c)
+
+-- "4–7 alias, builtin (low 0–23 in `BuiltinAlias` order), bool, unsigned (`u1` to `u256`, powers of two only; low bits)":
+-- by the text of the name. The names that a rule speaks of are none of these, so only a plain name is looked at.
+unfoldable pub builtinType : Found → Head
+builtinType (Word i) = head 5 i 0
+builtinType Plain = plain 4
+
+unfoldable pub unsignedType : Found → Head → Head
+unsignedType (Word i) other = head 7 (2 ^ i) 0
+unsignedType Plain other = other
+
+unfoldable pub boolType : Found → Head → Head
+boolType (Word i) other = plain 6
+boolType Plain other = other
+
+unfoldable pub typeName : List ℕ → ℕ → Head
+typeName text c =
+    cond (eqb c t.Ident) (boolType (wordOf BOOL text) (unsignedType (wordOf UINT_TYPES text) (builtinType (wordOf BUILTIN_ALIASES text)))) (plain 4)
+
+-- "13 identifier pattern, 14 `_`"
+unfoldable pub patternName : List ℕ → ℕ → Head
+patternName text c = cond (eqb c t.Ident && same text (ascii "_")) (plain 14) (plain 13)
+
+-- "22 None, 23 boolean (low 0 or 1), 24 decimal, 25 hexadecimal, 26 binary, 27 witness, 28 parameter value"
+unfoldable pub literalHead : ℕ → Head
+literalHead c =
+    cond (eqb c t.false) (head 23 0 0)
+    (cond (eqb c t.true) (head 23 1 0)
+    (cond (eqb c t.DecLiteral) (plain 24)
+    (cond (eqb c t.HexLiteral) (plain 25)
+    (cond (eqb c t.BinLiteral) (plain 26)
+    (cond (eqb c t.Witness) (plain 27) (plain 28))))))
+
+-- "1 function | low 1 for pub, plus 2 for a result type; high parameters."
+unfoldable pub functionHead : List Sort → Head
+functionHead w = head 1 (cond (sees t.Pub w) 1 0 + cond (sees t.Arrow w) 2 0) (counted (3 ∷ []) w)
+
+-- "39 call | low 1–14 in `CallName` order", by the token that it begins with; `<T>::into` begins with `<`, and 10 is any other function.
+unfoldable pub callHead : ℕ → Head
+callHead c =
+    head 39
+    (placeIn 10 1
+    (t.Jet ∷ t.unwrap-left ∷ t.unwrap-right ∷ t.unwrap ∷ t.is-none ∷ t.assert! ∷ t.panic! ∷ t.dbg! ∷ t.LAngle ∷ t.Ident ∷ t.fold ∷ t.array-fold ∷ t.for-while ∷ t.raw-hash ∷ [])
+    c)
+    0
+
+-- "19 Left, 20 Right, 21 Some"
+unfoldable pub wrapperHead : ℕ → Head
+wrapperHead c = plain (placeIn 0 19 (t.Left ∷ t.Right ∷ t.Some ∷ []) c)
+
+-- "`Left`, `Right`, `Some` with one expression in parentheses and no comma is that wrapper; with any other `(` it is a call of that name."
+unfoldable pub calledHead : List Sort → Head
+calledHead w = cond (has (t.Left ∷ t.Right ∷ t.Some ∷ []) (opening w) && lone w) (wrapperHead (opening w)) (callHead (opening w))
+
+-- A token alone: "`None` is itself unless `::` follows." "Other name tokens are variables".
+unfoldable pub aloneHead : ℕ → Head
+aloneHead c = cond (eqb c t.None) (plain 22) (plain 29)
+
+-- What begins with a name, a macro, a jet or `<`: a call with a type or a function in `< >`; "Two or more names joined by `::` construct
+-- an enum": "34 enum construction | low names"; a call or wrapper; a token alone.
+unfoldable pub nameHead : List Sort → Head
+nameHead w = cond (sees t.LAngle w) (callHead (opening w)) (cond (sees t.DoubleColon w) (head 34 (nameCount w) 0) (cond (sees t.LParen w) (calledHead w) (aloneHead (opening w))))
+
+-- "37 built-in arm | low 1–6: Left, Right, None, Some, False, True"; "38 enum arm | low names, high pairs", which has a `::`.
+unfoldable pub armHead : List Sort → Head
+armHead w =
+    cond (sees t.DoubleColon w) (head 38 (nameCount w) (counted (span 13 16) w))
+    (head 37 (placeIn 0 1 (t.Left ∷ t.Right ∷ t.None ∷ t.Some ∷ t.false ∷ t.true ∷ []) (opening w)) 0)
+
+-- How a shape decides the head of its record.
+pub data Form : Type 0 where
+  -- it is always of this kind
+  always : ℕ → Form
+  -- of this kind, and holds the number of its decimal
+  numbered : ℕ → Form
+  -- so if `<` is among its tokens; "`Either`, `Option` or `List` without `<` is a plain alias name"
+  angled : ℕ → Form
+  -- the first kind if it has one part and no comma, otherwise the second: "`(e)` is parenthesised, `(e,)` and `()` tuples"
+  lonely : ℕ → ℕ → Form
+  -- the rest as above
+  aFunction aTypeName aPatternName aLiteral aName anArm : Form
+  -- "18 block | low 1 with a last expression"
+  aBlock : Form
+  -- "35 match, 36 enum match", by its arms
+  aMatch : Form
+
+-- The head of a form, from the text of its first token, the number of its decimal, and what it is made of.
+unfoldable pub headOf : Form → List ℕ → ℕ → List Sort → Head
+headOf (always k) text n w = plain k
+headOf (numbered k) text n w = wide k n
+headOf (angled k) text n w = cond (sees t.LAngle w) (wide k n) (plain 4)
+headOf (lonely k j) text n w = cond (lone w) (plain k) (plain j)
+headOf aFunction text n w = functionHead w
+headOf aTypeName text n w = typeName text (opening w)
+headOf aPatternName text n w = patternName text (opening w)
+headOf aLiteral text n w = literalHead (opening w)
+headOf aName text n w = nameHead w
+headOf anArm text n w = armHead w
+headOf aBlock text n w = head 18 (cond (unended false w) 1 0) 0
+headOf aMatch text n w = cond (ltb 0 (counted (38 ∷ []) w)) (plain 36) (plain 35)
+
+-- The form of each kind of shape, in the order of `shapes` (ShapeKind.antt).
+unfoldable pub forms : List Form
+forms =
+    -- a function, a parameter
+    aFunction ∷ always 3
+    -- types: Either, Option, List, a name, a tuple, an array
+    ∷ angled 8 ∷ angled 9 ∷ angled 12 ∷ aTypeName ∷ always 10 ∷ numbered 11
+    -- patterns: a name, a tuple, an array
+    ∷ aPatternName ∷ always 15 ∷ always 16
+    -- a block, a `let`
+    ∷ aBlock ∷ always 17
+    -- expressions: a literal, in parentheses, an array, a list, a match
+    ∷ aLiteral ∷ lonely 30 31 ∷ always 32 ∷ always 33 ∷ aMatch
+    -- a simple call, a cast, and the five that begin with a name
+    ∷ aName ∷ aName ∷ aName ∷ aName ∷ aName ∷ aName ∷ aName
+    -- an arm
+    ∷ anArm ∷ []
+
+unfoldable pub formOf : ℕ → Form
+formOf k = getD forms k (always 0)
+
+-- What a token of a record is: a mark of its own, a name (kind 2) or a number (kind 40).
+pub data Role : Type 0 where
+  aMark : Role
+  asName : Role
+  asNumber : Role
+
+-- "In a call a jet's token or a function name is a kind 2 child", and its decimal a kind 40; in a function, a parameter, an enum
+-- construction and an enum arm every name is a kind 2 child; in any other record no token is a child. By kind and the token's class.
+unfoldable pub roleOf : ℕ → ℕ → Role
+roleOf kind c =
+    cond (has (1 ∷ 3 ∷ 34 ∷ 38 ∷ []) kind) (cond (has t.identifiers c) asName aMark)
+    (cond (eqb kind 39) (cond (has (t.Jet ∷ t.functionNames) c) asName (cond (eqb c t.DecLiteral) asNumber aMark)) aMark)
+
+-- A token in its role, and what follows; the number is n.
+unfoldable pub placed : Role → ℕ → Tok → Items → Items
+placed aMark n t r = mark t r
+placed asName n t r = sub 2 0 0 (mark t none) r
+placed asNumber n t r = sub 40 (lowHalf n) (highHalf n) (mark t none) r
+
+-- The items of a record of this kind: each of its tokens in its role, its parts as they are.
+unfoldable pub arranged : ℕ → ℕ → Items → Items
+arranged kind n none = none
+arranged kind n (mark t r) = placed (roleOf kind (t .class)) n t (arranged kind n r)
+arranged kind n (sub k l h js r) = sub k l h js (arranged kind n r)
+
+-- The text of a token: that part of the draft.
+unfoldable pub textOf : List ℕ → Tok → List ℕ
+textOf draft t = partOf draft (t .start) (t .stop)
+
+-- The first of a list of tokens, and the first of a class.
+unfoldable pub firstTok : List Tok → Tok
+firstTok [] = no-token
+firstTok (t ∷ ts) = t
+
+unfoldable pub firstOf : ℕ → List Tok → Tok
+firstOf c [] = no-token
+firstOf c (t ∷ ts) = cond (eqb (t .class) c) t (firstOf c ts)
+
+-- The decimal among the tokens of a shape, and its number.
+unfoldable pub decimal : List ℕ → Items → Value
+decimal draft is = numberOf (textOf draft (firstOf t.DecLiteral (marks is)))
+
+-- The head of the record of a shape of kind k, made of these items.
+unfoldable pub headFor : List ℕ → ℕ → Items → Head
+headFor draft k is = headOf (formOf k) (textOf draft (firstTok (marks is))) (reads (decimal draft is)) (sorts is)
+
+-- A record with a head and these items, and what follows.
+unfoldable pub recorded : ℕ → Head → Items → Items → Items
+recorded n h is r = sub (h .kind) (h .low) (h .high) (arranged (h .kind) n is) r
+
+-- The records of shapes side by side, whose tokens are those that the list begins with.
+unfoldable pub recordItems : List ℕ → shape.Items → List Tok → Items
+recordItems draft shape.nil ts = none
+recordItems draft (shape.word c r) ts = mark (firstTok ts) (recordItems draft r (drop 1 ts))
+recordItems draft (shape.sub k js r) ts =
+    let is = recordItems draft js ts in
+    recorded (reads (decimal draft is)) (headFor draft k is) is (recordItems draft r (drop (length (shape.yield js)) ts))
+
+-- The first node of a list of items.
+unfoldable pub top : Items → Node
+top none = node 0 0 0 none
+top (mark t r) = top r
+top (sub k l h js r) = node k l h js
+
+-- The record tree of a draft, from its tokens and their shape tree.
+unfoldable pub recordTree : List ℕ → List Tok → shape.Items → Node
+recordTree draft ts r = top (recordItems draft r ts)

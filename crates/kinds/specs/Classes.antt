@@ -1,0 +1,203 @@
+-- Token classes (document 01, "Lexemes"): a token's class is its kind, 1 to 36 in the order of `Token`, except that the words which
+-- the rules name, the macros and the two booleans each have a class of their own, from 37 on.
+-- With them the sets of names that rules speak of.
+-- Assumes nothing.
+use mathlib.Core.List.{[], _∷_, _++_}
+use mathlib.Core.List as list
+use Prim.Native.Nat.{ℕ}
+
+-- Keywords.
+abbrev pub Pub : ℕ
+Pub = 1
+
+abbrev pub Use : ℕ
+Use = 2
+
+abbrev pub As : ℕ
+As = 3
+
+abbrev pub Fn : ℕ
+Fn = 4
+
+abbrev pub Let : ℕ
+Let = 5
+
+abbrev pub «Type» : ℕ
+«Type» = 6
+
+abbrev pub Mod : ℕ
+Mod = 7
+
+abbrev pub Const : ℕ
+Const = 8
+
+abbrev pub Match : ℕ
+Match = 9
+
+abbrev pub Enum : ℕ
+Enum = 10
+
+abbrev pub Crate : ℕ
+Crate = 11
+
+abbrev pub Simc : ℕ
+Simc = 12
+
+-- Control symbols.
+abbrev pub Arrow : ℕ
+Arrow = 13
+
+abbrev pub DoubleColon : ℕ
+DoubleColon = 14
+
+abbrev pub Colon : ℕ
+Colon = 15
+
+abbrev pub Semi : ℕ
+Semi = 16
+
+abbrev pub Comma : ℕ
+Comma = 17
+
+abbrev pub Eq : ℕ
+Eq = 18
+
+abbrev pub FatArrow : ℕ
+FatArrow = 19
+
+abbrev pub LParen : ℕ
+LParen = 20
+
+abbrev pub RParen : ℕ
+RParen = 21
+
+abbrev pub LBracket : ℕ
+LBracket = 22
+
+abbrev pub RBracket : ℕ
+RBracket = 23
+
+abbrev pub LBrace : ℕ
+LBrace = 24
+
+abbrev pub RBrace : ℕ
+RBrace = 25
+
+abbrev pub LAngle : ℕ
+LAngle = 26
+
+abbrev pub RAngle : ℕ
+RAngle = 27
+
+-- Numbers, names, jets, witnesses, parameters. Kinds 31 (Bool) and 36 (Macro) are no classes: each of their words has its own, below.
+abbrev pub DecLiteral : ℕ
+DecLiteral = 28
+
+abbrev pub HexLiteral : ℕ
+HexLiteral = 29
+
+abbrev pub BinLiteral : ℕ
+BinLiteral = 30
+
+abbrev pub Ident : ℕ
+Ident = 32
+
+abbrev pub Jet : ℕ
+Jet = 33
+
+abbrev pub Witness : ℕ
+Witness = 34
+
+abbrev pub Param : ℕ
+Param = 35
+
+-- The names that the rules speak of.
+abbrev pub Left : ℕ
+Left = 37
+
+abbrev pub Right : ℕ
+Right = 38
+
+abbrev pub Some : ℕ
+Some = 39
+
+abbrev pub None : ℕ
+None = 40
+
+abbrev pub Either : ℕ
+Either = 41
+
+abbrev pub Option : ℕ
+Option = 42
+
+abbrev pub List : ℕ
+List = 43
+
+-- The words of FUNCTION_RESERVED (`match` is a keyword, so class 52 never occurs).
+abbrev pub unwrap-left : ℕ
+unwrap-left = 44
+
+abbrev pub unwrap-right : ℕ
+unwrap-right = 45
+
+abbrev pub array-fold : ℕ
+array-fold = 46
+
+abbrev pub for-while : ℕ
+for-while = 47
+
+abbrev pub is-none : ℕ
+is-none = 48
+
+abbrev pub unwrap : ℕ
+unwrap = 49
+
+abbrev pub assert : ℕ
+assert = 50
+
+abbrev pub panic : ℕ
+panic = 51
+
+abbrev pub into : ℕ
+into = 53
+
+abbrev pub fold : ℕ
+fold = 54
+
+abbrev pub dbg : ℕ
+dbg = 55
+
+abbrev pub raw-hash : ℕ
+raw-hash = 56
+
+-- Macros.
+abbrev pub assert! : ℕ
+assert! = 57
+
+abbrev pub panic! : ℕ
+panic! = 58
+
+abbrev pub dbg! : ℕ
+dbg! = 59
+
+abbrev pub list! : ℕ
+list! = 60
+
+-- Booleans.
+abbrev pub false : ℕ
+false = 61
+
+abbrev pub true : ℕ
+true = 62
+
+-- "A function name is any not in `FUNCTION_RESERVED`": the classes of names that are not,
+abbrev pub functionNames : list.List ℕ
+functionNames = Ident ∷ Left ∷ Right ∷ Some ∷ None ∷ Either ∷ Option ∷ List ∷ []
+
+-- and those of names that are.
+abbrev pub reserved : list.List ℕ
+reserved = unwrap-left ∷ unwrap-right ∷ array-fold ∷ for-while ∷ is-none ∷ unwrap ∷ assert ∷ panic ∷ into ∷ fold ∷ dbg ∷ raw-hash ∷ []
+
+-- "An identifier is any name token".
+abbrev pub identifiers : list.List ℕ
+identifiers = functionNames ++ reserved

@@ -1,0 +1,52 @@
+-- What low and high of a record hold, by its kind (document 01, the kinds table): "Low and high are 0 unless named; together they hold
+-- a 64-bit number where `number` stands".
+-- Assumes nothing.
+use mathlib.Core.Bool.{Bool, cond, _&&_}
+use mathlib.Core.List.{List, [], _∷_}
+use Prim.Native.Nat.{ℕ, _+_}
+use lib.Dec.{eqb, ltb}
+use Rattle.own.specs.Law.{Sort, word, child}
+use Rattle.kinds.specs.Shape.{has, span, number, isBound}
+
+-- What low and high hold.
+pub data Fields : Type 0 where
+  -- both are 0
+  plain : Fields
+  -- low is this number, and high is 0
+  low : ℕ → Fields
+  -- low is below this number, and high is 0
+  below : ℕ → Fields
+  -- low is one of these numbers, and high is 0
+  among : List ℕ → Fields
+  -- any 64-bit number, low and high its two halves
+  wide : Fields
+  -- a 64-bit number that is a bound
+  bounded : Fields
+  -- low is this number, and high is how many parameters (children of kind 3) there are
+  parameters : ℕ → Fields
+  -- low is how many names (children of kind 2) there are, and high is 0
+  names : Fields
+  -- low is how many names there are, and high how many patterns (children of kinds 13 to 16)
+  pairs : Fields
+
+-- How many children are of one of these kinds.
+unfoldable pub counted : List ℕ → List Sort → ℕ
+counted ks [] = 0
+counted ks (word c ∷ w) = counted ks w
+counted ks (child k l h c ∷ w) = cond (has ks k) 1 0 + counted ks w
+
+-- Two 32-bit halves.
+unfoldable pub halves : ℕ → ℕ → Bool
+halves l h = ltb l 4294967296 && ltb h 4294967296
+
+-- Whether low and high are what the fields say, of a record with these pieces.
+unfoldable pub holds : Fields → ℕ → ℕ → List Sort → Bool
+holds plain l h w = eqb l 0 && eqb h 0
+holds (low n) l h w = eqb l n && eqb h 0
+holds (below n) l h w = ltb l n && eqb h 0
+holds (among ns) l h w = has ns l && eqb h 0
+holds wide l h w = halves l h
+holds bounded l h w = halves l h && isBound (number l h)
+holds (parameters n) l h w = eqb l n && eqb h (counted (3 ∷ []) w)
+holds names l h w = eqb l (counted (2 ∷ []) w) && eqb h 0
+holds pairs l h w = eqb l (counted (2 ∷ []) w) && eqb h (counted (span 13 16) w)

@@ -1,0 +1,14 @@
+pub mod Classes
+pub mod Lists
+pub mod Words
+pub mod Shape
+pub mod Derive
+pub mod Fields
+pub mod Rules
+pub mod Build
+pub mod Spelled
+pub mod Examples
+pub mod Ownership
+pub mod Trees
+pub mod Decide
+pub mod Groups

@@ -1,0 +1,14 @@
+pub mod Tree
+pub mod Flat
+pub mod Law
+pub mod Lists
+pub mod Places
+pub mod Homes
+pub mod Shape
+pub mod Merge
+pub mod Count
+pub mod Owners
+pub mod Rules
+pub mod Words
+pub mod Laid
+pub mod Examples

@@ -1,0 +1,13 @@
+pub mod Grammar
+pub mod Machine
+pub mod Check
+pub mod Predict
+pub mod Ebnf
+pub mod Trees
+pub mod Same
+pub mod Walk
+pub mod Unique
+pub mod Exec
+pub mod Fuel
+pub mod Parse
+pub mod Theorems
