@@ -1,6 +1,6 @@
 #!/usr/bin/env bash
-# All tests: generated files are what their scripts write, the layout, the partner's own cases, then `rt ci` (every crate proved, every must-fail edit
-# refused, every program run). The last line, 'N passed, 0 failed', is printed only where everything passed.
+# All tests: generated files are what their scripts write, the layout, the partner's own cases, then `rt ci` (every crate proved, every
+# must-fail edit refused, every program run). The last line, 'N passed, 0 failed', is printed only where everything passed.
 set -euo pipefail
 cd "$(dirname "$0")/.."
 passed=0

@@ -1,0 +1,74 @@
+#!/usr/bin/env python3
+"""Compares the definition of the answer (crates/grammar) with the partner (partner/reader.rs) on random drafts, every byte of the listing.
+
+antt computes the definition: the drafts with the partner's listings become one more file of specs/ in a copy of the repository, and the
+check there refuses it if one of them differs.
+    tools/compare_answer.py SEED COUNT LENGTH    COUNT drafts of each kind of partner/drafts.py, of at most LENGTH bytes
+Needs rustc; takes about a minute for 3 times 200 drafts of 220 bytes. Run by hand: the gate does not need it.
+"""
+import collections, pathlib, shutil, subprocess, sys, tempfile
+
+root = pathlib.Path(__file__).resolve().parent.parent
+
+
+def cases(stream):
+    """The texts of a stream: a decimal length, a line end, so many bytes."""
+    found, i = [], 0
+    while i < len(stream):
+        j = stream.index(b"\n", i)
+        n = int(stream[i:j])
+        found.append(stream[j + 1:j + 1 + n])
+        i = j + 1 + n
+    return found
+
+
+def numbers(bytes_):
+    return " ∷ ".join([*map(str, bytes_), "[]"])
+
+
+def row(draft, listing):
+    if listing.startswith(b"00 "):
+        result = f"refusedWith {int(listing[13:21], 16)} {int(listing[3:7], 16)}"
+    else:
+        result = f"lists {len(listing)} ({numbers(listing)})"
+    return f"roomy ({numbers(draft)}) ({result})"
+
+
+def spec(rows):
+    text = "-- Drafts with the partner's answers.\n-- Assumes nothing.\nuse mathlib.Core.List.{List, [], _∷_, map}\nuse mathlib.Core.Path.{_≡_, refl}\n"
+    text += "use Rattle.grammar.specs.Cases.{refusedWith, lists, Case, defined, roomy}\n"
+    for k in range(0, len(rows), 20):
+        text += f"\nunfoldable cases{k} : List Case\ncases{k} =\n    " + " ∷\n    ".join(rows[k:k + 20]) + " ∷ []\n"
+        text += f"\nagree{k} : map defined cases{k} ≡ map (λ (c : Case). c .result) cases{k}\nunfolding cases{k} defined\nagree{k} = refl\n"
+    return text
+
+
+def main():
+    seed, count, length = sys.argv[1], int(sys.argv[2]), int(sys.argv[3])
+    with tempfile.TemporaryDirectory() as folder:
+        work = pathlib.Path(folder)
+        subprocess.run(["rustc", "--edition", "2021", "-O", "-o", work / "reader", root / "partner/reader.rs"], check=True)
+        drafts = []
+        for kind in ("shaped", "damaged", "tokens"):
+            stream = subprocess.run([sys.executable, root / "partner/drafts.py", seed, str(20 * count), kind], capture_output=True, check=True).stdout
+            drafts += list(dict.fromkeys(d for d in cases(stream) if len(d) <= length))[:count]
+        stream = b"".join(b"%d\n%s" % (len(d), d) for d in drafts)
+        listings = cases(subprocess.run([work / "reader", "--many"], input=stream, capture_output=True, check=True).stdout)
+        copy = work / "copy"
+        copy.mkdir()
+        shutil.copy(root / "crates.txt", copy)
+        shutil.copytree(root / "crates", copy / "crates")
+        specs = copy / "crates/grammar/specs"
+        (specs / "Partner.antt").write_text(spec([row(*c) for c in zip(drafts, listings)]))
+        with (specs / "Lib.antt").open("a") as lib:
+            lib.write("pub mod Partner\n")
+        done = subprocess.run(["rt", "dev", "grammar"], cwd=copy, capture_output=True, text=True)
+    tally = collections.Counter("accepted" if not l.startswith(b"00 ") else str(int(l[13:21], 16)) for l in listings)
+    print(f"{len(drafts)} drafts by the partner's answer:", ", ".join(f"{k} {v}" for k, v in sorted(tally.items())))
+    if done.returncode:
+        print(*[l[:300] for l in (done.stdout + done.stderr).splitlines() if "error" in l][:5], sep="\n")
+        sys.exit("the definition differs")
+    print("the definition agrees on every byte")
+
+
+main()
