@@ -4,7 +4,7 @@
 antt computes the definition: the drafts with the partner's listings become one more file of specs/ in a copy of the repository, and the
 check there refuses it if one of them differs.
     tools/compare_answer.py SEED COUNT LENGTH    COUNT drafts of each kind of partner/drafts.py, of at most LENGTH bytes
-Needs rustc; takes about a minute for 3 times 200 drafts of 220 bytes. Run by hand: the gate does not need it.
+Needs rustc. The copy proves the crates below first, so a run takes some minutes. Run by hand: the gate does not need it.
 """
 import collections, pathlib, shutil, subprocess, sys, tempfile
 
