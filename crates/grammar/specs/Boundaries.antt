@@ -44,7 +44,10 @@ cases =
     ∷ inBraces "fold::<g,3>(match x{})" (refusedWith 9 16)
     ∷ inBraces "match fold::<g,3>(x){}" (refusedWith 11 7)
     ∷ inBraces "match x{A::B=>1,None=>2,}" (refusedWith 12 7)
+    -- a bound of a type
+    ∷ inBraces "let x:List<u8,3>=1;" (refusedWith 9 21)
     -- accepted
+    ∷ inBraces "let x:List<u8,2>=1;" (records 8)
     ∷ inBraces "A::B()" (records 6)
     ∷ inBraces "fold::<g,2>(x)" (records 7)
     ∷ inBraces "array_fold::<g,1>(x)" (records 7)

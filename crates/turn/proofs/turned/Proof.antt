@@ -88,7 +88,8 @@ returns c =
     let at-reverse2 = at-reverse3 .before .before .before .before in
     let at-reverse = at-reverse2 .before .before .before .before in
     let at-start = at-reverse .before .before .before in
-    (three (now (at-start .args .a)) (at-reverse .reverse .last .0) (at-reverse2 .reverse2 .last .0) (at-reverse3 .reverse3 .last .0) (at-start .args .k) (at-start .pre) (at-reverse .reverse .ensures) (at-reverse .reverse .kept .0) (at-reverse2 .reverse2 .ensures) (at-reverse2 .reverse2 .kept .0) (at-reverse3 .reverse3 .ensures)) ∙ whole (now (at-start .args .a)) (at-start .args .k) (at-start .pre)
+    (three (now (at-start .args .a)) (at-reverse .reverse .last .0) (at-reverse2 .reverse2 .last .0) (at-reverse3 .reverse3 .last .0) (at-start .args .k) (at-start .pre) (at-reverse .reverse .ensures) (at-reverse .reverse .kept .0)
+    (at-reverse2 .reverse2 .ensures) (at-reverse2 .reverse2 .kept .0) (at-reverse3 .reverse3 .ensures)) ∙ whole (now (at-start .args .a)) (at-start .args .k) (at-start .pre)
 
 pub turned-spec : {M : Type 1} → statement M
 turned-spec = tie.close (tie.spec reverse-requires reverse-requires-2 reverse-requires-3 same-length returns)
