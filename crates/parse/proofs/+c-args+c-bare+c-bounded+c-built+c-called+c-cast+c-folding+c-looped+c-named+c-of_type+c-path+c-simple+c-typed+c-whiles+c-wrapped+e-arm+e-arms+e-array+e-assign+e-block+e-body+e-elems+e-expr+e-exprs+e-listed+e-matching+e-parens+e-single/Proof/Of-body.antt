@@ -1,0 +1,270 @@
+-- Made by tools/cycle.py from tools/parse_answers: the answers are what people read and edit.
+-- Assumes nothing.
+use Prim.Native.Nat.{ℕ, _+_, _-_, _*_, _<_, _≤_}
+use mathlib.Core.Path.{_≡_, refl, sym, ap, _∙_}
+use mathlib.Core.List.{List, [], _∷_, _++_}
+use borrow.Author.Needs.{needs}
+use native.Mathlib.Omega.{arith}
+use lib.ListN.{length, getD}
+use Rattle.text.specs.Part.{partOf}
+use Rattle.theory.specs.Grammar.{Sym, tok, nt}
+use Rattle.theory.specs.Walk.{k-nt}
+use Rattle.theory.specs.Machine.{expand}
+use Rattle.grammar.specs.Tables.{table}
+use Rattle.parse.specs.Contract.{text, classes, tokAt, Ready, reserved, cleaned, Parsed, read, stuck, Node, ExprKind}
+use Rattle.parse.specs.Infos as info
+use Rattle.parse.proofs.Laws.{Amid, starts, then-turns, then-passed}
+use Rattle.parse.proofs.Shuts.{opens, opens-clean, as-nonterminal, enters}
+use Rattle.parse.proofs.Chain.{further, onward, onward-ahead, advances, advances-one, then-eats, then-lacks, then-node}
+use Rattle.parse.proofs.Tokens.{length-text}
+use Rattle.parse.proofs.Roles.{sign-mark, keeping-mark, word-mark}
+use Rattle.parse.proofs.Lined.{AnyN, Lined, finish}
+use Rattle.parse.proofs.Lined as lined
+use Rattle.parse.proofs.Chain2 as chain2
+use Rattle.parse.proofs.Forms.{shut, shut-judged, number-at, value-is, value-text, first-is}
+use Rattle.own.specs.Law.{Sort, word, child}
+use Rattle.grammar.specs.Records.{lone}
+use Rattle.parse.proofs.PatternForms as pattern
+use Rattle.parse.proofs.Elements as elem
+use Rattle.parse.proofs.ExprForms as form
+use mathlib.Core.Logic.{_⊎_, inl, inr}
+use Rattle.parse.proofs.ArmForms as arm
+use Rattle.parse.proofs.ArmsLoop as arms
+use Rattle.parse.proofs.MatchForm as match
+use Rattle.parse.proofs.CallForms as call
+use Rattle.parse.proofs.CallLaws as law
+use borrow.Fn.Kinds.{In}
+use borrow.Fn.PlainCycle.{Measures, is, falls, and}
+use Rattle.parse.proofs.c.args.Reads as c·args
+use Rattle.parse.proofs.c.args.Kinds as c·args-kinds
+use Rattle.parse.proofs.+c-args+c-bare+c-bounded+c-built+c-called+c-cast+c-folding+c-looped+c-named+c-of_type+c-path+c-simple+c-typed+c-whiles+c-wrapped+e-arm+e-arms+e-array+e-assign+e-block+e-body+e-elems+e-expr+e-exprs+e-listed+e-matching+e-parens+e-single.Lts-c-args as c·args-lts
+use Rattle.parse.proofs.c.bare.Reads as c·bare
+use Rattle.parse.proofs.c.bare.Kinds as c·bare-kinds
+use Rattle.parse.proofs.+c-args+c-bare+c-bounded+c-built+c-called+c-cast+c-folding+c-looped+c-named+c-of_type+c-path+c-simple+c-typed+c-whiles+c-wrapped+e-arm+e-arms+e-array+e-assign+e-block+e-body+e-elems+e-expr+e-exprs+e-listed+e-matching+e-parens+e-single.Lts-c-bare as c·bare-lts
+use Rattle.parse.proofs.c.bounded.Reads as c·bounded
+use Rattle.parse.proofs.c.bounded.Kinds as c·bounded-kinds
+use Rattle.parse.proofs.+c-args+c-bare+c-bounded+c-built+c-called+c-cast+c-folding+c-looped+c-named+c-of_type+c-path+c-simple+c-typed+c-whiles+c-wrapped+e-arm+e-arms+e-array+e-assign+e-block+e-body+e-elems+e-expr+e-exprs+e-listed+e-matching+e-parens+e-single.Lts-c-bounded as c·bounded-lts
+use Rattle.parse.proofs.c.built.Reads as c·built
+use Rattle.parse.proofs.c.built.Kinds as c·built-kinds
+use Rattle.parse.proofs.+c-args+c-bare+c-bounded+c-built+c-called+c-cast+c-folding+c-looped+c-named+c-of_type+c-path+c-simple+c-typed+c-whiles+c-wrapped+e-arm+e-arms+e-array+e-assign+e-block+e-body+e-elems+e-expr+e-exprs+e-listed+e-matching+e-parens+e-single.Lts-c-built as c·built-lts
+use Rattle.parse.proofs.c.called.Reads as c·called
+use Rattle.parse.proofs.c.called.Kinds as c·called-kinds
+use Rattle.parse.proofs.+c-args+c-bare+c-bounded+c-built+c-called+c-cast+c-folding+c-looped+c-named+c-of_type+c-path+c-simple+c-typed+c-whiles+c-wrapped+e-arm+e-arms+e-array+e-assign+e-block+e-body+e-elems+e-expr+e-exprs+e-listed+e-matching+e-parens+e-single.Lts-c-called as c·called-lts
+use Rattle.parse.proofs.c.cast.Reads as c·cast
+use Rattle.parse.proofs.c.cast.Kinds as c·cast-kinds
+use Rattle.parse.proofs.+c-args+c-bare+c-bounded+c-built+c-called+c-cast+c-folding+c-looped+c-named+c-of_type+c-path+c-simple+c-typed+c-whiles+c-wrapped+e-arm+e-arms+e-array+e-assign+e-block+e-body+e-elems+e-expr+e-exprs+e-listed+e-matching+e-parens+e-single.Lts-c-cast as c·cast-lts
+use Rattle.parse.proofs.c.folding.Reads as c·folding
+use Rattle.parse.proofs.c.folding.Kinds as c·folding-kinds
+use Rattle.parse.proofs.+c-args+c-bare+c-bounded+c-built+c-called+c-cast+c-folding+c-looped+c-named+c-of_type+c-path+c-simple+c-typed+c-whiles+c-wrapped+e-arm+e-arms+e-array+e-assign+e-block+e-body+e-elems+e-expr+e-exprs+e-listed+e-matching+e-parens+e-single.Lts-c-folding as c·folding-lts
+use Rattle.parse.proofs.c.looped.Reads as c·looped
+use Rattle.parse.proofs.c.looped.Kinds as c·looped-kinds
+use Rattle.parse.proofs.+c-args+c-bare+c-bounded+c-built+c-called+c-cast+c-folding+c-looped+c-named+c-of_type+c-path+c-simple+c-typed+c-whiles+c-wrapped+e-arm+e-arms+e-array+e-assign+e-block+e-body+e-elems+e-expr+e-exprs+e-listed+e-matching+e-parens+e-single.Lts-c-looped as c·looped-lts
+use Rattle.parse.proofs.c.named.Reads as c·named
+use Rattle.parse.proofs.c.named.Kinds as c·named-kinds
+use Rattle.parse.proofs.+c-args+c-bare+c-bounded+c-built+c-called+c-cast+c-folding+c-looped+c-named+c-of_type+c-path+c-simple+c-typed+c-whiles+c-wrapped+e-arm+e-arms+e-array+e-assign+e-block+e-body+e-elems+e-expr+e-exprs+e-listed+e-matching+e-parens+e-single.Lts-c-named as c·named-lts
+use Rattle.parse.proofs.c.of_type.Reads as c·of-type
+use Rattle.parse.proofs.c.of_type.Kinds as c·of-type-kinds
+use Rattle.parse.proofs.+c-args+c-bare+c-bounded+c-built+c-called+c-cast+c-folding+c-looped+c-named+c-of_type+c-path+c-simple+c-typed+c-whiles+c-wrapped+e-arm+e-arms+e-array+e-assign+e-block+e-body+e-elems+e-expr+e-exprs+e-listed+e-matching+e-parens+e-single.Lts-c-of_type as c·of-type-lts
+use Rattle.parse.proofs.c.path.Reads as c·path
+use Rattle.parse.proofs.c.path.Kinds as c·path-kinds
+use Rattle.parse.proofs.+c-args+c-bare+c-bounded+c-built+c-called+c-cast+c-folding+c-looped+c-named+c-of_type+c-path+c-simple+c-typed+c-whiles+c-wrapped+e-arm+e-arms+e-array+e-assign+e-block+e-body+e-elems+e-expr+e-exprs+e-listed+e-matching+e-parens+e-single.Lts-c-path as c·path-lts
+use Rattle.parse.proofs.c.simple.Reads as c·simple
+use Rattle.parse.proofs.c.simple.Kinds as c·simple-kinds
+use Rattle.parse.proofs.+c-args+c-bare+c-bounded+c-built+c-called+c-cast+c-folding+c-looped+c-named+c-of_type+c-path+c-simple+c-typed+c-whiles+c-wrapped+e-arm+e-arms+e-array+e-assign+e-block+e-body+e-elems+e-expr+e-exprs+e-listed+e-matching+e-parens+e-single.Lts-c-simple as c·simple-lts
+use Rattle.parse.proofs.c.typed.Reads as c·typed
+use Rattle.parse.proofs.c.typed.Kinds as c·typed-kinds
+use Rattle.parse.proofs.+c-args+c-bare+c-bounded+c-built+c-called+c-cast+c-folding+c-looped+c-named+c-of_type+c-path+c-simple+c-typed+c-whiles+c-wrapped+e-arm+e-arms+e-array+e-assign+e-block+e-body+e-elems+e-expr+e-exprs+e-listed+e-matching+e-parens+e-single.Lts-c-typed as c·typed-lts
+use Rattle.parse.proofs.c.whiles.Reads as c·whiles
+use Rattle.parse.proofs.c.whiles.Kinds as c·whiles-kinds
+use Rattle.parse.proofs.+c-args+c-bare+c-bounded+c-built+c-called+c-cast+c-folding+c-looped+c-named+c-of_type+c-path+c-simple+c-typed+c-whiles+c-wrapped+e-arm+e-arms+e-array+e-assign+e-block+e-body+e-elems+e-expr+e-exprs+e-listed+e-matching+e-parens+e-single.Lts-c-whiles as c·whiles-lts
+use Rattle.parse.proofs.c.wrapped.Reads as c·wrapped
+use Rattle.parse.proofs.c.wrapped.Kinds as c·wrapped-kinds
+use Rattle.parse.proofs.+c-args+c-bare+c-bounded+c-built+c-called+c-cast+c-folding+c-looped+c-named+c-of_type+c-path+c-simple+c-typed+c-whiles+c-wrapped+e-arm+e-arms+e-array+e-assign+e-block+e-body+e-elems+e-expr+e-exprs+e-listed+e-matching+e-parens+e-single.Lts-c-wrapped as c·wrapped-lts
+use Rattle.parse.proofs.e.arm.Reads as e·arm
+use Rattle.parse.proofs.e.arm.Kinds as e·arm-kinds
+use Rattle.parse.proofs.+c-args+c-bare+c-bounded+c-built+c-called+c-cast+c-folding+c-looped+c-named+c-of_type+c-path+c-simple+c-typed+c-whiles+c-wrapped+e-arm+e-arms+e-array+e-assign+e-block+e-body+e-elems+e-expr+e-exprs+e-listed+e-matching+e-parens+e-single.Lts-e-arm as e·arm-lts
+use Rattle.parse.proofs.e.arms.Reads as e·arms
+use Rattle.parse.proofs.e.arms.Kinds as e·arms-kinds
+use Rattle.parse.proofs.+c-args+c-bare+c-bounded+c-built+c-called+c-cast+c-folding+c-looped+c-named+c-of_type+c-path+c-simple+c-typed+c-whiles+c-wrapped+e-arm+e-arms+e-array+e-assign+e-block+e-body+e-elems+e-expr+e-exprs+e-listed+e-matching+e-parens+e-single.Lts-e-arms as e·arms-lts
+use Rattle.parse.proofs.e.array.Reads as e·array
+use Rattle.parse.proofs.e.array.Kinds as e·array-kinds
+use Rattle.parse.proofs.+c-args+c-bare+c-bounded+c-built+c-called+c-cast+c-folding+c-looped+c-named+c-of_type+c-path+c-simple+c-typed+c-whiles+c-wrapped+e-arm+e-arms+e-array+e-assign+e-block+e-body+e-elems+e-expr+e-exprs+e-listed+e-matching+e-parens+e-single.Lts-e-array as e·array-lts
+use Rattle.parse.proofs.e.assign.Reads as e·assign
+use Rattle.parse.proofs.e.assign.Kinds as e·assign-kinds
+use Rattle.parse.proofs.+c-args+c-bare+c-bounded+c-built+c-called+c-cast+c-folding+c-looped+c-named+c-of_type+c-path+c-simple+c-typed+c-whiles+c-wrapped+e-arm+e-arms+e-array+e-assign+e-block+e-body+e-elems+e-expr+e-exprs+e-listed+e-matching+e-parens+e-single.Lts-e-assign as e·assign-lts
+use Rattle.parse.proofs.e.block.Reads as e·block
+use Rattle.parse.proofs.e.block.Kinds as e·block-kinds
+use Rattle.parse.proofs.+c-args+c-bare+c-bounded+c-built+c-called+c-cast+c-folding+c-looped+c-named+c-of_type+c-path+c-simple+c-typed+c-whiles+c-wrapped+e-arm+e-arms+e-array+e-assign+e-block+e-body+e-elems+e-expr+e-exprs+e-listed+e-matching+e-parens+e-single.Lts-e-block as e·block-lts
+use Rattle.parse.proofs.e.body.Reads as e·body
+use Rattle.parse.proofs.e.body.Kinds as e·body-kinds
+use Rattle.parse.proofs.+c-args+c-bare+c-bounded+c-built+c-called+c-cast+c-folding+c-looped+c-named+c-of_type+c-path+c-simple+c-typed+c-whiles+c-wrapped+e-arm+e-arms+e-array+e-assign+e-block+e-body+e-elems+e-expr+e-exprs+e-listed+e-matching+e-parens+e-single.Lts-e-body as e·body-lts
+use Rattle.parse.proofs.e.elems.Reads as e·elems
+use Rattle.parse.proofs.e.elems.Kinds as e·elems-kinds
+use Rattle.parse.proofs.+c-args+c-bare+c-bounded+c-built+c-called+c-cast+c-folding+c-looped+c-named+c-of_type+c-path+c-simple+c-typed+c-whiles+c-wrapped+e-arm+e-arms+e-array+e-assign+e-block+e-body+e-elems+e-expr+e-exprs+e-listed+e-matching+e-parens+e-single.Lts-e-elems as e·elems-lts
+use Rattle.parse.proofs.e.expr.Reads as e·expr
+use Rattle.parse.proofs.e.expr.Kinds as e·expr-kinds
+use Rattle.parse.proofs.+c-args+c-bare+c-bounded+c-built+c-called+c-cast+c-folding+c-looped+c-named+c-of_type+c-path+c-simple+c-typed+c-whiles+c-wrapped+e-arm+e-arms+e-array+e-assign+e-block+e-body+e-elems+e-expr+e-exprs+e-listed+e-matching+e-parens+e-single.Lts-e-expr as e·expr-lts
+use Rattle.parse.proofs.e.exprs.Reads as e·exprs
+use Rattle.parse.proofs.e.exprs.Kinds as e·exprs-kinds
+use Rattle.parse.proofs.+c-args+c-bare+c-bounded+c-built+c-called+c-cast+c-folding+c-looped+c-named+c-of_type+c-path+c-simple+c-typed+c-whiles+c-wrapped+e-arm+e-arms+e-array+e-assign+e-block+e-body+e-elems+e-expr+e-exprs+e-listed+e-matching+e-parens+e-single.Lts-e-exprs as e·exprs-lts
+use Rattle.parse.proofs.e.listed.Reads as e·listed
+use Rattle.parse.proofs.e.listed.Kinds as e·listed-kinds
+use Rattle.parse.proofs.+c-args+c-bare+c-bounded+c-built+c-called+c-cast+c-folding+c-looped+c-named+c-of_type+c-path+c-simple+c-typed+c-whiles+c-wrapped+e-arm+e-arms+e-array+e-assign+e-block+e-body+e-elems+e-expr+e-exprs+e-listed+e-matching+e-parens+e-single.Lts-e-listed as e·listed-lts
+use Rattle.parse.proofs.e.matching.Reads as e·matching
+use Rattle.parse.proofs.e.matching.Kinds as e·matching-kinds
+use Rattle.parse.proofs.+c-args+c-bare+c-bounded+c-built+c-called+c-cast+c-folding+c-looped+c-named+c-of_type+c-path+c-simple+c-typed+c-whiles+c-wrapped+e-arm+e-arms+e-array+e-assign+e-block+e-body+e-elems+e-expr+e-exprs+e-listed+e-matching+e-parens+e-single.Lts-e-matching as e·matching-lts
+use Rattle.parse.proofs.e.parens.Reads as e·parens
+use Rattle.parse.proofs.e.parens.Kinds as e·parens-kinds
+use Rattle.parse.proofs.+c-args+c-bare+c-bounded+c-built+c-called+c-cast+c-folding+c-looped+c-named+c-of_type+c-path+c-simple+c-typed+c-whiles+c-wrapped+e-arm+e-arms+e-array+e-assign+e-block+e-body+e-elems+e-expr+e-exprs+e-listed+e-matching+e-parens+e-single.Lts-e-parens as e·parens-lts
+use Rattle.parse.proofs.e.single.Reads as e·single
+use Rattle.parse.proofs.e.single.Kinds as e·single-kinds
+use Rattle.parse.proofs.+c-args+c-bare+c-bounded+c-built+c-called+c-cast+c-folding+c-looped+c-named+c-of_type+c-path+c-simple+c-typed+c-whiles+c-wrapped+e-arm+e-arms+e-array+e-assign+e-block+e-body+e-elems+e-expr+e-exprs+e-listed+e-matching+e-parens+e-single.Lts-e-single as e·single-lts
+use Rattle.parse.proofs.arms.after.Reads as after-reads
+use Rattle.parse.proofs.arms.arrange.Reads as arrange-reads
+use Rattle.parse.proofs.arms.fault.Reads as fault-reads
+use Rattle.parse.proofs.arms.first_end.Reads as first-end-reads
+use Rattle.parse.proofs.arms.head.Reads as arms-head-reads
+use Rattle.parse.proofs.arms.kind.Reads as kind-reads
+use Rattle.parse.proofs.choice.singles.Reads as singles-reads
+use Rattle.parse.proofs.e.first.Reads as first-reads
+use Rattle.parse.proofs.e.literal.Reads as literal-reads
+use Rattle.parse.proofs.e.only.Reads as only-reads
+use Rattle.parse.proofs.fault.clean.Reads as clean-reads
+use Rattle.parse.proofs.fault.judged.Reads as judged-reads
+use Rattle.parse.proofs.heads.head.Reads as heads-head-reads
+use Rattle.parse.proofs.names.alone.Reads as alone-reads
+use Rattle.parse.proofs.names.call.Reads as call-reads
+use Rattle.parse.proofs.names.callee.Reads as callee-reads
+use Rattle.parse.proofs.names.decimal.Reads as decimal-reads
+use Rattle.parse.proofs.names.function_name.Reads as function-name-reads
+use Rattle.parse.proofs.names.names.Reads as names-reads
+use Rattle.parse.proofs.names.number.Reads as number-reads
+use Rattle.parse.proofs.names.size_fault.Reads as size-fault-reads
+use Rattle.parse.proofs.names.wrapper.Reads as wrapper-reads
+use Rattle.parse.proofs.names.wrapping.Reads as wrapping-reads
+use Rattle.parse.proofs.pattern.pattern.Reads as pattern-reads
+use Rattle.parse.proofs.token.advance.Reads as advance-reads
+use Rattle.parse.proofs.token.closes.Reads as closes-reads
+use Rattle.parse.proofs.token.eat.Reads as eat-reads
+use Rattle.parse.proofs.tree.child.Reads as child-reads
+use Rattle.parse.proofs.tree.close.Reads as close-reads
+use Rattle.parse.proofs.tree.exchange.Reads as exchange-reads
+use Rattle.parse.proofs.tree.reserve.Reads as reserve-reads
+use Rattle.parse.proofs.types.ty.Reads as ty-reads
+use Rattle.parse.proofs.+c-args+c-bare+c-bounded+c-built+c-called+c-cast+c-folding+c-looped+c-named+c-of_type+c-path+c-simple+c-typed+c-whiles+c-wrapped+e-arm+e-arms+e-array+e-assign+e-block+e-body+e-elems+e-expr+e-exprs+e-listed+e-matching+e-parens+e-single.Proof.Common.{e·body-at, e·body-calls}
+
+module _ (t : ℕ) where
+  pub e·body-block-requires : e·body-lts.Need-block-requires (e·body-calls t) (e·body-at t) e·body.Post
+  e·body-block-requires c κs =
+      let y = c .before .before .before .before .before .before .pre .1 in
+      (omega (arith, c .before .before .before .before .before .before .pre .0), (y, c .before .if1 .taken))
+
+  pub e·body-enum-known-inner : e·body-lts.Need-enum-known-inner (e·body-calls t) (e·body-at t) e·body.Post
+  e·body-enum-known-inner c =
+      search needs
+
+  pub e·body-enum-told : e·body-lts.Need-enum-told (e·body-calls t) (e·body-at t) e·body.Post
+  e·body-enum-told c =
+      search needs
+
+  pub e·body-same-length : e·body-lts.Need-same-length (e·body-calls t) (e·body-at t) e·body.Post
+  e·body-same-length c =
+      c .before .before .before .before .block .kept .1 .1 .1 .0
+
+  pub e·body-returns : e·body-lts.Need-returns (e·body-calls t) (e·body-at t) e·body.Post
+  e·body-returns c =
+      let y = c .before .before .before .before .before .before .before .before .before .before .before .pre .1 in
+      let s0 = starts 0 AnyN (nt 45 ∷ []) (c .before .before .before .before .before .before .before .before .before .before .before .args .tree .now) (y .stands) in
+      let d0 = then-turns (nt 5 ∷ nt 53 ∷ []) s0 arm.flat-body (arm.body-block (sym (y .stands .class-is) ∙ c .before .before .before .before .before .before .if1 .taken)) in
+      then-passed d0 (c .before .match .keys2) (λ τ p h. h) (c .before .before .before .before .block .ensures)
+
+  pub e·body-advance-requires : e·body-lts.Need-advance-requires (e·body-calls t) (e·body-at t) e·body.Post
+  e·body-advance-requires c κs =
+      search needs
+
+  pub e·body-same-length-2 : e·body-lts.Need-same-length-2 (e·body-calls t) (e·body-at t) e·body.Post
+  e·body-same-length-2 c =
+      c .before .before .before .before .before .before .before .before .block .kept .1 .1 .1 .0
+
+  pub e·body-returns-2 : e·body-lts.Need-returns-2 (e·body-calls t) (e·body-at t) e·body.Post
+  e·body-returns-2 c =
+      let y = c .before .before .before .before .before .before .before .before .before .before .before .before .before .before .before .pre .1 in
+      let s0 = starts 0 AnyN (nt 45 ∷ []) (c .before .before .before .before .before .before .before .before .before .before .before .before .before .before .before .args .tree .now) (y .stands) in
+      let d0 = then-turns (nt 5 ∷ nt 53 ∷ []) s0 arm.flat-body (arm.body-block (sym (y .stands .class-is) ∙ c .before .before .before .before .before .before .before .before .before .before .if1 .taken)) in
+      let d1 = then-node d0 (c .before .before .before .before .before .before .before .before .block .ensures) (c .before .before .before .before .inner .given .1) in
+      let d2 = advances (then-turns (tok 17 ∷ []) (d1 .amid) arm.flat-comma (arm.a-comma (sym (d1 .amid .lays .stands .class-is) ∙ c .before .if2 .taken))) (c .before .if2 .taken) (omega arith) (c .advance .ensures) (sign-mark 0 17 tt) in
+      read (arm.body-is (d1 .kind) (d1 .low) (d1 .high) (d1 .first) (word 17 ∷ []) d2 (d1 .its-kind) (inr refl))
+
+  pub e·body-same-length-3 : e·body-lts.Need-same-length-3 (e·body-calls t) (e·body-at t) e·body.Post
+  e·body-same-length-3 c =
+      c .before .before .before .before .before .before .before .block .kept .1 .1 .1 .0
+
+  pub e·body-returns-3 : e·body-lts.Need-returns-3 (e·body-calls t) (e·body-at t) e·body.Post
+  e·body-returns-3 c =
+      let y = c .before .before .before .before .before .before .before .before .before .before .before .before .before .before .pre .1 in
+      let s0 = starts 0 AnyN (nt 45 ∷ []) (c .before .before .before .before .before .before .before .before .before .before .before .before .before .before .args .tree .now) (y .stands) in
+      let d0 = then-turns (nt 5 ∷ nt 53 ∷ []) s0 arm.flat-body (arm.body-block (sym (y .stands .class-is) ∙ c .before .before .before .before .before .before .before .before .before .if1 .taken)) in
+      let d1 = then-node d0 (c .before .before .before .before .before .before .before .block .ensures) (c .before .before .before .inner .given .1) in
+      let d3 = then-turns [] (d1 .amid) arm.flat-comma (arm.no-comma (λ h. c .if2 .left (d1 .amid .lays .stands .class-is ∙ h))) in
+      read (arm.body-is (d1 .kind) (d1 .low) (d1 .high) (d1 .first) [] d3 (d1 .its-kind) (inl refl))
+
+  pub e·body-single-requires : e·body-lts.Need-single-requires (e·body-calls t) (e·body-at t) e·body.Post
+  e·body-single-requires c κs =
+      let y = c .before .before .before .before .before .before .pre .1 in
+      (omega (arith, c .before .before .before .before .before .before .pre .0), y)
+
+  pub e·body-enum-known-other : e·body-lts.Need-enum-known-other (e·body-calls t) (e·body-at t) e·body.Post
+  e·body-enum-known-other c =
+      search needs
+
+  pub e·body-enum-told-2 : e·body-lts.Need-enum-told-2 (e·body-calls t) (e·body-at t) e·body.Post
+  e·body-enum-told-2 c =
+      search needs
+
+  pub e·body-same-length-4 : e·body-lts.Need-same-length-4 (e·body-calls t) (e·body-at t) e·body.Post
+  e·body-same-length-4 c =
+      c .before .before .before .before .single .kept .1 .1 .1 .0
+
+  pub e·body-returns-4 : e·body-lts.Need-returns-4 (e·body-calls t) (e·body-at t) e·body.Post
+  e·body-returns-4 c =
+      let y = c .before .before .before .before .before .before .before .before .before .before .before .pre .1 in
+      let s0 = starts 0 AnyN (nt 45 ∷ []) (c .before .before .before .before .before .before .before .before .before .before .before .args .tree .now) (y .stands) in
+      let a0 = then-turns (nt 21 ∷ tok 17 ∷ []) s0 arm.flat-body (arm.body-single (λ h. c .before .before .before .before .before .before .if1 .left (y .stands .class-is ∙ h))) in
+      then-passed a0 (c .before .match2 .keys2) (λ τ p h. h) (c .before .before .before .before .single .ensures)
+
+  pub e·body-eat-requires : e·body-lts.Need-eat-requires (e·body-calls t) (e·body-at t) e·body.Post
+  e·body-eat-requires c κs =
+      search needs
+
+  pub e·body-enum-known-comma : e·body-lts.Need-enum-known-comma (e·body-calls t) (e·body-at t) e·body.Post
+  e·body-enum-known-comma c =
+      search needs
+
+  pub e·body-enum-told-3 : e·body-lts.Need-enum-told-3 (e·body-calls t) (e·body-at t) e·body.Post
+  e·body-enum-told-3 c =
+      search needs
+
+  pub e·body-same-length-5 : e·body-lts.Need-same-length-5 (e·body-calls t) (e·body-at t) e·body.Post
+  e·body-same-length-5 c =
+      c .before .before .before .before .before .before .before .before .single .kept .1 .1 .1 .0
+
+  pub e·body-returns-5 : e·body-lts.Need-returns-5 (e·body-calls t) (e·body-at t) e·body.Post
+  e·body-returns-5 c =
+      let y = c .before .before .before .before .before .before .before .before .before .before .before .before .before .before .before .pre .1 in
+      let s0 = starts 0 AnyN (nt 45 ∷ []) (c .before .before .before .before .before .before .before .before .before .before .before .before .before .before .before .args .tree .now) (y .stands) in
+      let a0 = then-turns (nt 21 ∷ tok 17 ∷ []) s0 arm.flat-body (arm.body-single (λ h. c .before .before .before .before .before .before .before .before .before .before .if1 .left (y .stands .class-is ∙ h))) in
+      let a1 = then-node a0 (c .before .before .before .before .before .before .before .before .single .ensures) (c .before .before .before .before .other .given .1) in
+      then-lacks (a1 .amid) (c .before .match3 .keys2) (λ τ p h. h) (c .before .before .eat .ensures)
+
+  pub e·body-same-length-6 : e·body-lts.Need-same-length-6 (e·body-calls t) (e·body-at t) e·body.Post
+  e·body-same-length-6 c =
+      c .before .before .before .before .before .before .before .before .before .single .kept .1 .1 .1 .0
+
+  pub e·body-returns-6 : e·body-lts.Need-returns-6 (e·body-calls t) (e·body-at t) e·body.Post
+  e·body-returns-6 c =
+      let y = c .before .before .before .before .before .before .before .before .before .before .before .before .before .before .before .before .pre .1 in
+      let s0 = starts 0 AnyN (nt 45 ∷ []) (c .before .before .before .before .before .before .before .before .before .before .before .before .before .before .before .before .args .tree .now) (y .stands) in
+      let a0 = then-turns (nt 21 ∷ tok 17 ∷ []) s0 arm.flat-body (arm.body-single (λ h. c .before .before .before .before .before .before .before .before .before .before .before .if1 .left (y .stands .class-is ∙ h))) in
+      let a1 = then-node a0 (c .before .before .before .before .before .before .before .before .before .single .ensures) (c .before .before .before .before .before .other .given .1) in
+      let a2 = then-eats (a1 .amid) (omega arith) (c .before .before .before .eat .ensures) (c .before .comma .given .1) (sign-mark 0 17 tt) in
+      read (arm.body-is (a1 .kind) (a1 .low) (a1 .high) (a1 .first) (word 17 ∷ []) a2 (a1 .its-kind) (inr refl))

@@ -1,0 +1,56 @@
+-- Runs of words written into a buffer.
+-- Assumes nothing.
+use mathlib.Core.Path.{_≡_, refl, sym, ap, subst, _∙_}
+use Prim.Native.Nat.{ℕ, zero, suc, _+_, _-_, _*_, _<_, _≤_}
+use native.Mathlib.Omega.{arith}
+use native.Mathlib.Nat.{add-zero}
+use mathlib.Core.List.{List, [], _∷_, _++_, append-assoc}
+use lib.ListN.{length, set, take, drop, length-append, length-set, length-take, length-drop}
+use lib.Seq.{sets, sets-eq, length-sets, set-comm, take-at, drop-at, length-take-le}
+use Rattle.parse.specs.Contract.{Put}
+
+-- side by side: one after the other
+pub sets-append : (a b l : List ℕ) (i : ℕ) → sets l i (a ++ b) ≡ sets (sets l i a) (i + length a) b
+sets-append [] b l i = ap (λ (k : ℕ). sets l k b) (sym (add-zero i))
+sets-append (x ∷ a) b l i = sets-append a b (set l i x) (suc i) ∙ ap (λ (k : ℕ). sets (sets (set l i x) (suc i) a) k b) (omega arith)
+
+-- a word in front can be written last
+sets-set : (ws l : List ℕ) (i j x : ℕ) → i < j → sets (set l i x) j ws ≡ set (sets l j ws) i x
+sets-set [] l i j x h = refl
+sets-set (w ∷ ws) l i j x h =
+    ap (λ (m : List ℕ). sets m (suc j) ws) (set-comm l i j x w (omega arith)) ∙ sets-set ws (set l j w) i (suc j) x (omega arith)
+
+-- so can a run of words in front
+sets-sets : (vs ws l : List ℕ) (i j : ℕ) → i + length vs ≤ j → sets (sets l i vs) j ws ≡ sets (sets l j ws) i vs
+sets-sets [] ws l i j h = refl
+sets-sets (v ∷ vs) ws l i j h = sets-sets vs ws (set l i v) (suc i) j (omega arith) ∙ ap (λ (m : List ℕ). sets m (suc i) vs) (sets-set ws l i j v (omega arith))
+
+-- the next run
+pub sets-next : (l : List ℕ) {l₁ l₂ : List ℕ} (a b : List ℕ) (i j : ℕ) → l₁ ≡ sets l i a → l₂ ≡ sets l₁ j b → i + length a ≡ j → l₂ ≡ sets l i (a ++ b)
+sets-next l a b i j p q e = q ∙ (λ k. sets (p k) (sym e k) b) ∙ sym (sets-append a b l i)
+
+-- The header law: a record written after what lies below it.
+pub header : (l : List ℕ) {l₁ l′ : List ℕ} (ws : List ℕ) (out k b e low high z : ℕ) → l₁ ≡ sets l (6 * (out + 1)) ws → Put l₁ out k b e low high z l′ → 6 * out + 6 ≤ length l
+    → l′ ≡ sets l (6 * out) (k ∷ b ∷ e ∷ low ∷ high ∷ z ∷ ws)
+header l {l₁} ws out k b e low high z p q h =
+    let hd : List ℕ = k ∷ b ∷ e ∷ low ∷ high ∷ z ∷ [] in
+    let n : length l₁ ≡ length l = ap length p ∙ length-sets l (6 * (out + 1)) ws in
+    q .put (omega arith) ∙ ap (λ (m : List ℕ). sets m (6 * out) hd) p ∙ sym (sets-sets hd ws l (6 * out) (6 * (out + 1)) (omega arith))
+    ∙ ap (λ (j : ℕ). sets (sets l (6 * out) hd) j ws) (omega arith) ∙ sym (sets-append hd ws l (6 * out))
+
+-- the part of a buffer where two runs stand, turned round
+pub turns : (l₀ u v : List ℕ) (a m b : ℕ) → a + length u ≡ m → m + length v ≡ b → b ≤ length l₀ → {l l′ : List ℕ} → l ≡ sets l₀ a (u ++ v)
+    → l′ ≡ take a l ++ ((drop (m - a) (take (b - a) (drop a l)) ++ take (m - a) (take (b - a) (drop a l))) ++ drop (b - a) (drop a l)) → l′ ≡ sets l₀ a (v ++ u)
+turns l₀ u v a m b p q h {l} {l′} e t =
+    let uv : length (u ++ v) ≡ length u + length v = length-append u v in
+    let vu : length (v ++ u) ≡ length v + length u = length-append v u in
+    let z : l ≡ take a l₀ ++ ((u ++ v) ++ drop (a + length (u ++ v)) l₀) = e ∙ sets-eq (u ++ v) l₀ a (omega arith) ∙ append-assoc (take a l₀) (u ++ v) (drop (a + length (u ++ v)) l₀) in
+    let ta : take a l ≡ take a l₀ = ap (take a) z ∙ take-at (take a l₀) ((u ++ v) ++ drop (a + length (u ++ v)) l₀) a (length-take-le a l₀ (omega arith)) in
+    let da : drop a l ≡ (u ++ v) ++ drop (a + length (u ++ v)) l₀ = ap (drop a) z ∙ drop-at (take a l₀) ((u ++ v) ++ drop (a + length (u ++ v)) l₀) a (length-take-le a l₀ (omega arith)) in
+    let tb : take (b - a) (drop a l) ≡ u ++ v = ap (take (b - a)) da ∙ take-at (u ++ v) (drop (a + length (u ++ v)) l₀) (b - a) (omega arith) in
+    let db : drop (b - a) (drop a l) ≡ drop (a + length (u ++ v)) l₀ = ap (drop (b - a)) da ∙ drop-at (u ++ v) (drop (a + length (u ++ v)) l₀) (b - a) (omega arith) in
+    let tu : take (m - a) (u ++ v) ≡ u = take-at u v (m - a) (omega arith) in
+    let du : drop (m - a) (u ++ v) ≡ v = drop-at u v (m - a) (omega arith) in
+    let same : a + length (u ++ v) ≡ a + length (v ++ u) = omega arith in
+    t ∙ (λ k. ta k ++ ((drop (m - a) (tb k) ++ take (m - a) (tb k)) ++ db k)) ∙ (λ k. take a l₀ ++ ((du k ++ tu k) ++ drop (same k) l₀))
+    ∙ sym (sets-eq (v ++ u) l₀ a (omega arith) ∙ append-assoc (take a l₀) (v ++ u) (drop (a + length (v ++ u)) l₀))

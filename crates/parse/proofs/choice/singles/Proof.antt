@@ -1,0 +1,24 @@
+-- The table's rule, computed over all classes, and past them.
+-- Assumes nothing.
+use native.Mathlib.Omega.{arith}
+use borrow.Author.Needs.{needs}
+use Rattle.parse.proofs.Choices.{single-choices, single-small, single-at, single-past}
+use Rattle.parse.proofs.choice.singles.Statement.{statement}
+use Rattle.parse.proofs.choice.singles.Tie as tie
+
+array-read-result : tie.Need-array-read-result
+array-read-result c = search needs
+
+cast-result : tie.Need-cast-result
+unfolding single-choices
+cast-result c = omega (arith, single-small (c .before .args .class))
+
+returns : tie.Need-returns
+unfolding single-choices
+returns c = single-at _ (c .if1 .taken)
+
+returns-2 : tie.Need-returns-2
+returns-2 c = single-past _ (c .if1 .left)
+
+pub singles-spec : {M : Type 1} → statement M
+singles-spec = tie.close (tie.spec array-read-result cast-result returns returns-2)

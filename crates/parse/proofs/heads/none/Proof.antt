@@ -1,0 +1,121 @@
+-- Made by tools/cycle.py from tools/parse_answers: the answers are what people read and edit.
+-- Assumes nothing.
+use Prim.Native.Nat.{ℕ, _+_, _-_, _*_, _<_, _≤_}
+use mathlib.Core.Path.{_≡_, refl, sym, ap, _∙_}
+use mathlib.Core.List.{List, [], _∷_, _++_}
+use borrow.Author.Tests.{eq-eqb, ne-eqb}
+use native.Mathlib.Omega.{arith}
+use lib.ListN.{length}
+use Rattle.theory.specs.Grammar.{Sym, tok, nt}
+use Rattle.parse.specs.Contract.{text, read, raw}
+use Rattle.parse.proofs.Laws.{then-passed, went, Amid, starts, then-went}
+use Rattle.parse.proofs.Chain.{then-lacks, advances, advances-one, then-eats, onward}
+use Rattle.parse.proofs.PairForms as pairs
+use Rattle.own.specs.Rules.{sorts}
+use Rattle.parse.proofs.Chain2.{then-names, then-names-passed}
+use Rattle.parse.proofs.NameSteps.{child-nt}
+use Rattle.parse.proofs.Roles.{sign-mark, keeping-mark}
+use Rattle.parse.proofs.Lined.{AnyN}
+use Rattle.parse.proofs.HeadForms as form
+use borrow.Author.Needs.{needs}
+use Rattle.parse.proofs.heads.none.Statement.{statement}
+use Rattle.parse.proofs.heads.none.Tie as tie
+use Rattle.parse.proofs.heads.none.Reads as reads
+use Rattle.parse.proofs.heads.none.Lts as lts
+use Rattle.parse.proofs.heads.path.Reads as path-reads
+use Rattle.parse.proofs.token.advance.Reads as advance-reads
+use Rattle.parse.proofs.tree.child.Reads as child-reads
+
+advance-requires : tie.Need-advance-requires
+advance-requires c κs =
+    search needs
+
+returns : tie.Need-returns
+returns c =
+    let i = c .before .before .before .before .before .before .args in
+    let y = c .before .before .before .before .before .before .pre .0 in
+    let e = c .before .before .before .before .before .before .pre .1 in
+    let k = form.at-none (i .st .class) e in
+    let a0 = form.turns (tok 40 ∷ nt 48 ∷ []) (starts 37 AnyN (nt 44 ∷ []) (i .tree .now) (y .stands)) form.flat-head (form.none-row (i .st .class) e) in
+    let a1 = advances a0 k (omega arith) (c .before .before .advance .ensures) (keeping-mark 37 40 tt) in
+    let a2 = form.turns [] a1 form.flat-optional (form.no-optional-row (c .before .before .advance .result .class) (c .if1 .taken)) in
+    read (form.built-in 3 a2 (λ h. omega arith) form.unseen-nil form.none-place (omega arith) (omega arith))
+
+child-requires : tie.Need-child-requires
+child-requires c κs =
+    search needs
+
+path-requires : tie.Need-path-requires
+path-requires c κs =
+    let i = c .before .before .before .before .before .before .before .before .before .before .before .args in
+    let y = c .before .before .before .before .before .before .before .before .before .before .before .pre .0 in
+    let e = c .before .before .before .before .before .before .before .before .before .before .before .pre .1 in
+    let k = form.at-none (i .st .class) e in
+    let o = c .before .before .before .child .ensures in
+    let p = form.named-word 39 y k (c .before .before .before .before .before .before .before .advance .ensures) (o .0) (o .1) in
+    let b0 = form.named-first (tok 40) (nt 48) y (form.none-row (i .st .class) e) (form.none-name k) p in
+    let n = form.reserved-class (c .before .before .before .before .before .before .before .advance .result) (o .1) ∙ c .before .before .before .before .before .if1 .left in
+    let b1 = form.turns (nt 52 ∷ []) b0 form.flat-optional (form.optional-row (c .before .before .before .child .result .class) n) in
+    onward y b1
+
+enum-known-rest : tie.Need-enum-known-rest
+enum-known-rest c =
+    search needs
+
+enum-told : tie.Need-enum-told
+enum-told c =
+    search needs
+
+same-length : tie.Need-same-length
+same-length c =
+    c .before .before .before .before .path .kept .1 .1 .1 .0 ∙ c .before .before .before .before .before .before .before .before .child .kept .0
+
+returns-2 : tie.Need-returns-2
+returns-2 c =
+    let i = c .before .before .before .before .before .before .before .before .before .before .before .before .before .before .before .before .args in
+    let y = c .before .before .before .before .before .before .before .before .before .before .before .before .before .before .before .before .pre .0 in
+    let e = c .before .before .before .before .before .before .before .before .before .before .before .before .before .before .before .before .pre .1 in
+    let k = form.at-none (i .st .class) e in
+    let o = c .before .before .before .before .before .before .before .before .child .ensures in
+    let p = form.named-word 39 y k (c .before .before .before .before .before .before .before .before .before .before .before .before .advance .ensures) (o .0) (o .1) in
+    let b0 = form.named-first (tok 40) (nt 48) y (form.none-row (i .st .class) e) (form.none-name k) p in
+    let n = form.reserved-class (c .before .before .before .before .before .before .before .before .before .before .before .before .advance .result) (o .1) ∙ c .before .before .before .before .before .before .before .before .before .before .if1 .left in
+    let b1 = form.turns (nt 52 ∷ []) b0 form.flat-optional (form.optional-row (c .before .before .before .before .before .before .before .before .child .result .class) n) in
+    then-passed b1 (c .before .match .keys2) (λ τ p h. h) (c .before .before .before .before .path .ensures)
+
+add-t17 : tie.Need-add-t17
+add-t17 c =
+    omega (arith, went (c .before .rest .given .1) (c .before .before .before .before .before .path .ensures) .info .bounded)
+
+same-length-2 : tie.Need-same-length-2
+same-length-2 c =
+    c .before .before .before .before .before .path .kept .1 .1 .1 .0 ∙ c .before .before .before .before .before .before .before .before .before .child .kept .0
+
+returns-3 : tie.Need-returns-3
+returns-3 c =
+    let i = c .before .before .before .before .before .before .before .before .before .before .before .before .before .before .before .before .before .args in
+    let y = c .before .before .before .before .before .before .before .before .before .before .before .before .before .before .before .before .before .pre .0 in
+    let e = c .before .before .before .before .before .before .before .before .before .before .before .before .before .before .before .before .before .pre .1 in
+    let k = form.at-none (i .st .class) e in
+    let o = c .before .before .before .before .before .before .before .before .before .child .ensures in
+    let p = form.named-word 39 y k (c .before .before .before .before .before .before .before .before .before .before .before .before .before .advance .ensures) (o .0) (o .1) in
+    let b0 = form.named-first (tok 40) (nt 48) y (form.none-row (i .st .class) e) (form.none-name k) p in
+    let n = form.reserved-class (c .before .before .before .before .before .before .before .before .before .before .before .before .before .advance .result) (o .1) ∙ c .before .before .before .before .before .before .before .before .before .before .before .if1 .left in
+    let b1 = form.turns (nt 52 ∷ []) b0 form.flat-optional (form.optional-row (c .before .before .before .before .before .before .before .before .before .child .result .class) n) in
+    read (form.arm-went (form.none-name k) b1 (c .before .before .before .before .before .path .ensures) (c .before .rest .given .1))
+
+pub none-spec : {M : Type 1} → statement M
+none-spec =
+    tie.close
+    (tie.spec
+    advance-requires
+    returns
+    child-requires
+    path-requires
+    enum-known-rest
+    enum-told
+    same-length
+    returns-2
+    add-t17
+    same-length-2
+    returns-3)

@@ -1,0 +1,100 @@
+-- Made by tools/cycle.py from tools/parse_answers: the answers are what people read and edit.
+-- Assumes nothing.
+use Prim.Native.Nat.{ℕ, _+_, _-_, _*_, _<_, _≤_}
+use mathlib.Core.Path.{_≡_, refl, sym, ap, _∙_}
+use mathlib.Core.List.{List, [], _∷_, _++_}
+use borrow.Author.Tests.{eq-eqb, ne-eqb}
+use native.Mathlib.Omega.{arith}
+use lib.ListN.{length}
+use Rattle.theory.specs.Grammar.{Sym, tok, nt}
+use Rattle.parse.specs.Contract.{text, read, raw}
+use Rattle.parse.proofs.Laws.{then-passed, went, Amid, starts, then-went}
+use Rattle.parse.proofs.Chain.{then-lacks, advances, advances-one, then-eats, onward}
+use Rattle.parse.proofs.PairForms as pairs
+use Rattle.own.specs.Rules.{sorts}
+use Rattle.parse.proofs.Chain2.{then-names, then-names-passed}
+use Rattle.parse.proofs.NameSteps.{child-nt}
+use Rattle.parse.proofs.Roles.{sign-mark, keeping-mark}
+use Rattle.parse.proofs.Lined.{AnyN}
+use Rattle.parse.proofs.HeadForms as form
+use borrow.Author.Needs.{needs}
+use Rattle.parse.proofs.heads.paths.Statement.{statement}
+use Rattle.parse.proofs.heads.paths.Tie as tie
+use Rattle.parse.proofs.heads.paths.Reads as reads
+use Rattle.parse.proofs.heads.paths.Lts as lts
+use Rattle.parse.proofs.heads.path.Reads as path-reads
+use Rattle.parse.proofs.tree.child.Reads as child-reads
+
+child-requires : tie.Need-child-requires
+child-requires c κs =
+    search needs
+
+path-requires : tie.Need-path-requires
+path-requires c κs =
+    let i = c .before .before .before .before .before .before .before .before .args in
+    let y = c .before .before .before .before .before .before .before .before .pre .0 in
+    let e = c .before .before .before .before .before .before .before .before .pre .1 .0 in
+    let o = c .before .before .before .child .ensures in
+    let p = child-nt y (form.word-pos (i .st .class) e) (c .before .before .before .before .before .before .before .before .pre .1 .1 .0) (o .0) (o .1) form.flat-word (form.word-row (i .st .class) e) in
+    let b0 = form.named-first (nt 49) (nt 50) y (form.wrapped-row (i .st .class) e) (form.word-name (i .st .class) e) p in
+    let n = c .before .before .before .before .before .before .before .before .pre .1 .1 .1 in
+    let b1 = form.turns (nt 52 ∷ []) b0 form.flat-choice (form.other-choice-row (c .before .before .before .child .result .class) (λ h. n (sym (form.reserved-class (i .a) (o .1)) ∙ h))) in
+    onward y b1
+
+enum-known-rest : tie.Need-enum-known-rest
+enum-known-rest c =
+    search needs
+
+enum-told : tie.Need-enum-told
+enum-told c =
+    search needs
+
+same-length : tie.Need-same-length
+same-length c =
+    c .before .before .before .before .path .kept .1 .1 .1 .0 ∙ c .before .before .before .before .before .before .before .before .child .kept .0
+
+returns : tie.Need-returns
+returns c =
+    let i = c .before .before .before .before .before .before .before .before .before .before .before .before .before .args in
+    let y = c .before .before .before .before .before .before .before .before .before .before .before .before .before .pre .0 in
+    let e = c .before .before .before .before .before .before .before .before .before .before .before .before .before .pre .1 .0 in
+    let o = c .before .before .before .before .before .before .before .before .child .ensures in
+    let p = child-nt y (form.word-pos (i .st .class) e) (c .before .before .before .before .before .before .before .before .before .before .before .before .before .pre .1 .1 .0) (o .0) (o .1) form.flat-word (form.word-row (i .st .class) e) in
+    let b0 = form.named-first (nt 49) (nt 50) y (form.wrapped-row (i .st .class) e) (form.word-name (i .st .class) e) p in
+    let n = c .before .before .before .before .before .before .before .before .before .before .before .before .before .pre .1 .1 .1 in
+    let b1 = form.turns (nt 52 ∷ []) b0 form.flat-choice (form.other-choice-row (c .before .before .before .before .before .before .before .before .child .result .class) (λ h. n (sym (form.reserved-class (i .a) (o .1)) ∙ h))) in
+    then-passed b1 (c .before .match .keys2) (λ τ p h. h) (c .before .before .before .before .path .ensures)
+
+add-t16 : tie.Need-add-t16
+add-t16 c =
+    omega (arith, went (c .before .rest .given .1) (c .before .before .before .before .before .path .ensures) .info .bounded)
+
+same-length-2 : tie.Need-same-length-2
+same-length-2 c =
+    c .before .before .before .before .before .path .kept .1 .1 .1 .0 ∙ c .before .before .before .before .before .before .before .before .before .child .kept .0
+
+returns-2 : tie.Need-returns-2
+returns-2 c =
+    let i = c .before .before .before .before .before .before .before .before .before .before .before .before .before .before .args in
+    let y = c .before .before .before .before .before .before .before .before .before .before .before .before .before .before .pre .0 in
+    let e = c .before .before .before .before .before .before .before .before .before .before .before .before .before .before .pre .1 .0 in
+    let o = c .before .before .before .before .before .before .before .before .before .child .ensures in
+    let p = child-nt y (form.word-pos (i .st .class) e) (c .before .before .before .before .before .before .before .before .before .before .before .before .before .before .pre .1 .1 .0) (o .0) (o .1) form.flat-word (form.word-row (i .st .class) e) in
+    let b0 = form.named-first (nt 49) (nt 50) y (form.wrapped-row (i .st .class) e) (form.word-name (i .st .class) e) p in
+    let n = c .before .before .before .before .before .before .before .before .before .before .before .before .before .before .pre .1 .1 .1 in
+    let b1 = form.turns (nt 52 ∷ []) b0 form.flat-choice (form.other-choice-row (c .before .before .before .before .before .before .before .before .before .child .result .class) (λ h. n (sym (form.reserved-class (i .a) (o .1)) ∙ h))) in
+    read (form.arm-went (form.word-name (i .st .class) e) b1 (c .before .before .before .before .before .path .ensures) (c .before .rest .given .1))
+
+pub paths-spec : {M : Type 1} → statement M
+paths-spec =
+    tie.close
+    (tie.spec
+    child-requires
+    path-requires
+    enum-known-rest
+    enum-told
+    same-length
+    returns
+    add-t16
+    same-length-2
+    returns-2)

@@ -1,0 +1,39 @@
+-- Made by tools/cycle.py from tools/parse_answers: the answers are what people read and edit.
+-- Assumes nothing.
+use Prim.Native.Nat.{ℕ, _+_, _-_, _*_, _<_, _≤_}
+use mathlib.Core.Path.{_≡_, refl, sym, ap, _∙_}
+use mathlib.Core.List.{List, [], _∷_, _++_}
+use borrow.Author.Needs.{needs}
+use borrow.Author.Tests.{eq-eqb, ne-eqb}
+use native.Mathlib.Omega.{arith}
+use lib.ListN.{length}
+use Rattle.theory.specs.Grammar.{Sym, tok, nt}
+use Rattle.parse.specs.Contract.{text, read, raw}
+use Rattle.parse.proofs.Laws.{then-passed, went, Amid, starts, then-went}
+use Rattle.parse.proofs.Chain.{then-lacks, advances, advances-one, then-eats, onward}
+use Rattle.parse.proofs.PairForms as pairs
+use Rattle.own.specs.Rules.{sorts}
+use Rattle.parse.proofs.Chain2.{then-names, then-names-passed}
+use Rattle.parse.proofs.NameSteps.{child-nt}
+use Rattle.parse.proofs.Roles.{sign-mark, keeping-mark}
+use Rattle.parse.proofs.Lined.{AnyN}
+use Rattle.parse.proofs.HeadForms as form
+use Rattle.parse.proofs.heads.wrapper.Statement.{statement}
+use Rattle.parse.proofs.heads.wrapper.Tie as tie
+use Rattle.parse.proofs.heads.wrapper.Reads as reads
+use Rattle.parse.proofs.heads.wrapper.Lts as lts
+
+returns : tie.Need-returns
+returns c =
+    rw (eq-eqb (c .before .args .class) 37 (c .match .keys1)) refl
+
+returns-2 : tie.Need-returns-2
+returns-2 c =
+    rw (ne-eqb (c .before .args .class) 37 (λ e. omega (arith, c .match .keys2)), eq-eqb (c .before .args .class) 38 (c .match .keys2)) refl
+
+returns-3 : tie.Need-returns-3
+returns-3 c =
+    rw (ne-eqb (c .before .args .class) 37 (c .match .rest .0 .1), ne-eqb (c .before .args .class) 38 (c .match .rest .1)) refl
+
+pub wrapper-spec : {M : Type 1} → statement M
+wrapper-spec = tie.close (tie.spec returns returns-2 returns-3)

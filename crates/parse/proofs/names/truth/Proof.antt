@@ -1,0 +1,20 @@
+-- Only `true` has a low other than 0.
+-- Assumes nothing.
+use mathlib.Core.List.{[], _∷_}
+use Rattle.kinds.specs.Shape.{has}
+use Rattle.grammar.specs.Records.{literalHead}
+use Rattle.parse.proofs.Keys.{keyed, unkeyed}
+use Rattle.parse.proofs.LiteralHead.{low, low-past}
+use Rattle.parse.proofs.names.truth.Statement.{statement}
+use Rattle.parse.proofs.names.truth.Tie as tie
+
+returns : tie.Need-returns
+unfolding literalHead low
+returns c = keyed low 62 tt (c .if1 .taken)
+
+returns-2 : tie.Need-returns-2
+unfolding literalHead low has
+returns-2 c = unkeyed low (62 ∷ []) tt (low-past _) (tt, c .if1 .left)
+
+pub truth-spec : {M : Type 1} → statement M
+truth-spec = tie.close (tie.spec returns returns-2)

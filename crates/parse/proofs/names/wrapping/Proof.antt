@@ -1,0 +1,35 @@
+-- The kind of each wrapper, and past the classes.
+-- Assumes nothing.
+use mathlib.Core.List.{[], _∷_}
+use Prim.Native.Nat.{ℕ}
+use Rattle.kinds.specs.Classes as t
+use Rattle.kinds.specs.Shape.{has}
+use Rattle.grammar.specs.Records.{placeIn, wrapperHead}
+use Rattle.parse.proofs.Keys.{keyed, unkeyed, place-past}
+use Rattle.parse.proofs.names.wrapping.Statement.{statement}
+use Rattle.parse.proofs.names.wrapping.Tie as tie
+
+-- the kind that the head of a wrapper has
+abbrev wraps : ℕ → ℕ
+wraps c = wrapperHead c .kind
+
+returns : tie.Need-returns
+unfolding placeIn wrapperHead
+returns c = keyed wraps 37 tt (c .match .keys1)
+
+returns-2 : tie.Need-returns-2
+unfolding placeIn wrapperHead
+returns-2 c = keyed wraps 38 tt (c .match .keys2)
+
+returns-3 : tie.Need-returns-3
+unfolding placeIn wrapperHead
+returns-3 c = keyed wraps 39 tt (c .match .keys3)
+
+returns-4 : tie.Need-returns-4
+unfolding placeIn wrapperHead has
+returns-4 c =
+    unkeyed wraps (39 ∷ 38 ∷ 37 ∷ []) tt
+    (λ h. place-past 0 19 (t.Left ∷ t.Right ∷ t.Some ∷ []) _ tt h) (c .match .rest)
+
+pub wrapping-spec : {M : Type 1} → statement M
+wrapping-spec = tie.close (tie.spec returns returns-2 returns-3 returns-4)

@@ -1,0 +1,135 @@
+-- Made by tools/cycle.py from tools/parse_answers: the answers are what people read and edit.
+-- Assumes nothing.
+use Prim.Native.Nat.{ℕ, _+_, _-_, _*_, _<_, _≤_}
+use mathlib.Core.Path.{_≡_, refl, sym, ap, _∙_}
+use mathlib.Core.List.{List, [], _∷_, _++_}
+use borrow.Author.Needs.{needs}
+use native.Mathlib.Omega.{arith}
+use lib.ListN.{length, getD}
+use Rattle.theory.specs.Grammar.{Sym, tok, nt}
+use Rattle.text.specs.Part.{partOf}
+use Rattle.theory.specs.Walk.{k-nt}
+use Rattle.theory.specs.Machine.{expand}
+use Rattle.grammar.specs.Tables.{table}
+use Rattle.parse.specs.Contract.{text, tokAt, Ready, Parsed, read, stuck, Node, PatternKind, Commas}
+use Rattle.parse.proofs.Laws.{Amid, starts, then-turns, then-passed}
+use Rattle.parse.proofs.Shuts.{opens, opens-clean, as-nonterminal, enters}
+use Rattle.parse.proofs.Chain.{further, advances, advances-one, then-eats, then-lacks, then-node}
+use Rattle.parse.proofs.Tokens.{length-text}
+use Rattle.parse.proofs.Roles.{sign-mark, keeping-mark}
+use Rattle.parse.proofs.Lined.{AnyN, Lined}
+use Rattle.parse.proofs.Lined as lined
+use Rattle.parse.proofs.Forms.{shut, shut-judged, number-at, value-is, value-text, first-is}
+use Rattle.parse.proofs.PatternForms as form
+use borrow.Fn.Kinds.{In}
+use borrow.Fn.PlainCycle.{Measures, is, falls, and}
+use Rattle.parse.proofs.pattern.array.Reads as array
+use Rattle.parse.proofs.pattern.array.Kinds as array-kinds
+use Rattle.parse.proofs.pattern.+array+pattern+patterns+tuple.Lts-array as array-lts
+use Rattle.parse.proofs.pattern.pattern.Reads as pattern
+use Rattle.parse.proofs.pattern.pattern.Kinds as pattern-kinds
+use Rattle.parse.proofs.pattern.+array+pattern+patterns+tuple.Lts-pattern as pattern-lts
+use Rattle.parse.proofs.pattern.patterns.Reads as patterns
+use Rattle.parse.proofs.pattern.patterns.Kinds as patterns-kinds
+use Rattle.parse.proofs.pattern.+array+pattern+patterns+tuple.Lts-patterns as patterns-lts
+use Rattle.parse.proofs.pattern.tuple.Reads as tuple
+use Rattle.parse.proofs.pattern.tuple.Kinds as tuple-kinds
+use Rattle.parse.proofs.pattern.+array+pattern+patterns+tuple.Lts-tuple as tuple-lts
+use Rattle.parse.proofs.choice.patterns.Reads as patterns-reads
+use Rattle.parse.proofs.pattern.named.Reads as named-reads
+use Rattle.parse.proofs.token.advance.Reads as advance-reads
+use Rattle.parse.proofs.token.closes.Reads as closes-reads
+use Rattle.parse.proofs.token.eat.Reads as eat-reads
+use Rattle.parse.proofs.tree.close.Reads as close-reads
+use Rattle.parse.proofs.tree.reserve.Reads as reserve-reads
+use Rattle.parse.proofs.pattern.+array+pattern+patterns+tuple.Proof.Common.{array-at, array-calls}
+
+module _ (t : ℕ) where
+  pub array-reserve-requires : array-lts.Need-reserve-requires (array-calls t) (array-at t) array.Post
+  array-reserve-requires c κs =
+      search needs
+
+  pub array-advance-requires : array-lts.Need-advance-requires (array-calls t) (array-at t) array.Post
+  array-advance-requires c κs =
+      search needs
+
+  pub array-patterns-requires : array-lts.Need-patterns-requires (array-calls t) (array-at t) array.Post
+  array-patterns-requires c κs =
+      let y = c .before .before .before .before .before .before .pre .1 .0 in
+      let e = c .before .before .before .before .before .before .pre .1 .1 in
+      let o = opens y (c .before .before .reserve .ensures) in
+      let d0 = starts 16 AnyN form.arrayRhs (c .before .before .before .before .before .before .args .tree .now) (o .stands) in
+      let k = o .class-is ∙ form.at-array (c .before .before .before .before .before .before .args .st .class) e in
+      let d1 = advances d0 k (omega arith) (c .before .advance .ensures) (sign-mark 16 22 tt) in
+      let f1 = further y o d1 (omega arith) in
+      let q = length-text (c .before .before .before .before .before .before .args .draft .now) (c .before .before .before .before .before .before .args .tokens .now) (c .before .before .before .before .before .before .args .count) in
+      (omega (arith, f1 .ahead, f1 .within, q, c .before .before .before .before .before .before .pre .0), f1 .ready)
+
+  pub array-enum-known-inner : array-lts.Need-enum-known-inner (array-calls t) (array-at t) array.Post
+  array-enum-known-inner c =
+      search needs
+
+  pub array-enum-told : array-lts.Need-enum-told (array-calls t) (array-at t) array.Post
+  array-enum-told c =
+      search needs
+
+  pub array-same-length : array-lts.Need-same-length (array-calls t) (array-at t) array.Post
+  array-same-length c =
+      c .before .before .before .before .patterns .kept .1 .1 .1 .0
+
+  pub array-returns : array-lts.Need-returns (array-calls t) (array-at t) array.Post
+  array-returns c =
+      let y = c .before .before .before .before .before .before .before .before .before .before .before .pre .1 .0 in
+      let e = c .before .before .before .before .before .before .before .before .before .before .before .pre .1 .1 in
+      let o = opens y (c .before .before .before .before .before .before .before .reserve .ensures) in
+      let d0 = starts 16 AnyN form.arrayRhs (c .before .before .before .before .before .before .before .before .before .before .before .args .tree .now) (o .stands) in
+      let k = o .class-is ∙ form.at-array (c .before .before .before .before .before .before .before .before .before .before .before .args .st .class) e in
+      let d1 = advances d0 k (omega arith) (c .before .before .before .before .before .before .advance .ensures) (sign-mark 16 22 tt) in
+      then-passed d1 (c .before .match .keys2) (enters form.array-rule y e o) (c .before .before .before .before .patterns .ensures)
+
+  pub array-eat-requires : array-lts.Need-eat-requires (array-calls t) (array-at t) array.Post
+  array-eat-requires c κs =
+      search needs
+
+  pub array-enum-known-bracket : array-lts.Need-enum-known-bracket (array-calls t) (array-at t) array.Post
+  array-enum-known-bracket c =
+      search needs
+
+  pub array-enum-told-2 : array-lts.Need-enum-told-2 (array-calls t) (array-at t) array.Post
+  array-enum-told-2 c =
+      search needs
+
+  pub array-same-length-2 : array-lts.Need-same-length-2 (array-calls t) (array-at t) array.Post
+  array-same-length-2 c =
+      c .before .before .before .before .before .before .before .before .patterns .kept .1 .1 .1 .0
+
+  pub array-returns-2 : array-lts.Need-returns-2 (array-calls t) (array-at t) array.Post
+  array-returns-2 c =
+      let y = c .before .before .before .before .before .before .before .before .before .before .before .before .before .before .before .pre .1 .0 in
+      let e = c .before .before .before .before .before .before .before .before .before .before .before .before .before .before .before .pre .1 .1 in
+      let o = opens y (c .before .before .before .before .before .before .before .before .before .before .before .reserve .ensures) in
+      let d0 = starts 16 AnyN form.arrayRhs (c .before .before .before .before .before .before .before .before .before .before .before .before .before .before .before .args .tree .now) (o .stands) in
+      let k = o .class-is ∙ form.at-array (c .before .before .before .before .before .before .before .before .before .before .before .before .before .before .before .args .st .class) e in
+      let d1 = advances d0 k (omega arith) (c .before .before .before .before .before .before .before .before .before .before .advance .ensures) (sign-mark 16 22 tt) in
+      let d2 = lined.then-list d1 (c .before .before .before .before .before .before .before .before .patterns .ensures) (c .before .before .before .before .inner .given .1) in
+      then-lacks (d2 .amid) (c .before .match2 .keys2) (enters form.array-rule y e o) (c .before .before .eat .ensures)
+
+  pub array-close-requires : array-lts.Need-close-requires (array-calls t) (array-at t) array.Post
+  array-close-requires c κs =
+      search needs
+
+  pub array-same-length-3 : array-lts.Need-same-length-3 (array-calls t) (array-at t) array.Post
+  array-same-length-3 c =
+      c .before .before .close .kept .0 ∙ c .before .before .before .before .before .before .before .before .before .before .before .before .before .patterns .kept .1 .1 .1 .0
+
+  pub array-returns-3 : array-lts.Need-returns-3 (array-calls t) (array-at t) array.Post
+  array-returns-3 c =
+      let y = c .before .before .before .before .before .before .before .before .before .before .before .before .before .before .before .before .before .before .before .before .pre .1 .0 in
+      let e = c .before .before .before .before .before .before .before .before .before .before .before .before .before .before .before .before .before .before .before .before .pre .1 .1 in
+      let o = opens y (c .before .before .before .before .before .before .before .before .before .before .before .before .before .before .before .before .reserve .ensures) in
+      let d0 = starts 16 AnyN form.arrayRhs (c .before .before .before .before .before .before .before .before .before .before .before .before .before .before .before .before .before .before .before .before .args .tree .now) (o .stands) in
+      let k = o .class-is ∙ form.at-array (c .before .before .before .before .before .before .before .before .before .before .before .before .before .before .before .before .before .before .before .before .args .st .class) e in
+      let d1 = advances d0 k (omega arith) (c .before .before .before .before .before .before .before .before .before .before .before .before .before .before .before .advance .ensures) (sign-mark 16 22 tt) in
+      let d2 = lined.then-list d1 (c .before .before .before .before .before .before .before .before .before .before .before .before .before .patterns .ensures) (c .before .before .before .before .before .before .before .before .before .inner .given .1) in
+      let d3 = then-eats (d2 .amid) (omega arith) (c .before .before .before .before .before .before .before .eat .ensures) (c .before .before .before .before .before .bracket .given .1) (sign-mark 16 23 tt) in
+      as-nonterminal form.array-rule y e (read (shut 10 tt y o d3 (omega arith) (form.array-head d3) tt PatternKind (omega arith, omega arith) (c .before .before .close .ensures)))

@@ -1,0 +1,53 @@
+-- Made by tools/cycle.py from tools/parse_answers: the answers are what people read and edit.
+-- Assumes nothing.
+use Prim.Native.Nat.{ℕ, _+_, _-_, _*_, _<_, _≤_}
+use mathlib.Core.Path.{_≡_, refl, sym, ap, _∙_}
+use mathlib.Core.List.{List, [], _∷_, _++_}
+use native.Mathlib.Omega.{arith}
+use lib.ListN.{length, getD}
+use Rattle.theory.specs.Grammar.{Sym, tok, nt}
+use Rattle.theory.specs.Machine.{expand}
+use Rattle.grammar.specs.Tables.{table}
+use Rattle.parse.specs.Contract.{text, tokAt, Ready, Parsed, read, stuck, Node, TypeKind}
+use Rattle.parse.specs.Infos.{ParameterKind, FunctionKind}
+use Rattle.parse.proofs.Laws.{class-at, Amid, starts, then-turns, then-passed, done}
+use Rattle.parse.proofs.Shuts.{opens, as-nonterminal, enters}
+use Rattle.parse.proofs.Chain.{further, onward, advances, then-eats, then-lacks, then-node}
+use Rattle.parse.proofs.Chain2.{then-named}
+use Rattle.parse.proofs.Tokens.{length-text}
+use Rattle.parse.proofs.Roles.{sign-mark}
+use Rattle.parse.proofs.NameRows.{name-role}
+use Rattle.parse.proofs.Named.{identifier-class, function-name-class}
+use Rattle.parse.proofs.Lined.{AnyN, Lined}
+use Rattle.parse.proofs.Lined as lined
+use Rattle.parse.proofs.Forms.{shut}
+use Rattle.parse.proofs.ProgramForms as form
+use Rattle.kinds.specs.Shape.{has}
+use Rattle.kinds.specs.Fields.{counted}
+use Rattle.kinds.specs.Classes as t
+use Rattle.parse.proofs.NameSteps.{refuses-nt}
+use borrow.Author.Needs.{needs}
+use Rattle.parse.proofs.program.block.Statement.{statement}
+use Rattle.parse.proofs.program.block.Tie as tie
+use Rattle.parse.proofs.program.block.Reads as reads
+use Rattle.parse.proofs.program.block.Lts as lts
+use Rattle.parse.proofs.e.block.Reads as block-reads
+
+returns : tie.Need-returns
+returns c =
+    refuses-nt (c .before .before .before .before .before .pre) (form.no-block (c .before .before .before .before .before .args .st .class) (c .if1 .taken))
+
+block-requires : tie.Need-block-requires
+block-requires c κs =
+    search needs
+
+same-length : tie.Need-same-length
+same-length c =
+    c .before .before .block .kept .1 .1 .1 .0
+
+returns-2 : tie.Need-returns-2
+returns-2 c =
+    search needs
+
+pub block-spec : {M : Type 1} → statement M
+block-spec = tie.close (tie.spec returns block-requires same-length returns-2)

@@ -1,0 +1,186 @@
+-- What the functions of the cycle and of arms' heads say besides: of the records of what was read (J, before tokens became records; L, as
+-- laid), of the m tokens that belong to no record yet, and of their two numbers a and b.
+-- Assumes nothing: these are definitions.
+use mathlib.Core.Bool.{Bool, true, false, cond, _||_}
+use mathlib.Core.List.{List, [], _∷_, _++_}
+use mathlib.Core.Logic.{_⊎_}
+use mathlib.Core.Path.{_≡_}
+use Prim.Native.Nat.{ℕ, _+_, _≤_}
+use lib.Dec.{eqb, ltb}
+use Rattle.own.specs.Tree as own
+use Rattle.own.specs.Tree.{Items, partner}
+use Rattle.own.specs.Law.{Sort, word, child}
+use Rattle.own.specs.Rules.{sorts}
+use Rattle.own.specs.Words.{sizes}
+use Rattle.kinds.specs.Shape.{span}
+use Rattle.kinds.specs.Fields.{counted}
+use Rattle.kinds.specs.Classes as t
+use Rattle.grammar.specs.Records.{Head, head, sees, nameCount, lone, unended, armHead, arranged}
+use Rattle.parse.specs.Contract.{Text, Moved, Only, Turned}
+use Rattle.parse.specs.declared.State.{State}
+
+abbrev pub LetKind : ℕ → Type 0
+LetKind k = k ≡ 17
+
+-- Elements of a block: a is 1 if the last has no `;`.
+pub record Elements (J L : Items) (m a b : ℕ) : Type 0 where
+  pub same : L ≡ J
+  pub semis : Only t.Semi (sorts J)
+  pub last-is : a ≡ cond (unended false (sorts J)) 1 0
+
+-- Expressions with commas between them: a is 1 if it is one without a comma.
+pub record Lone (J L : Items) (m a b : ℕ) : Type 0 where
+  pub same : L ≡ J
+  pub commas : Only t.Comma (sorts J)
+  pub lone-is : lone (sorts J) ≡ eqb a 1
+
+-- An argument list, likewise.
+pub record Args (J L : Items) (m a b : ℕ) : Type 0 where
+  pub roles : (K n : ℕ) → arranged K n J ≡ L
+  pub W : List Sort
+  pub sorts-is : sorts J ≡ word t.LParen ∷ (W ++ (word t.RParen ∷ []))
+  pub commas : Only t.Comma W
+  pub lone-is : lone W ≡ eqb a 1
+  pub own : 1 ≤ m
+
+-- What follows the first `::` of an enum construction: a names.
+pub record Path (J L : Items) (m a b : ℕ) : Type 0 where
+  pub roles : (n : ℕ) → arranged 34 n J ≡ L
+  pub count-is : nameCount (sorts J) ≡ a
+  pub bounded : a ≤ 16777216
+  pub angles : sees t.LAngle (sorts J) ≡ false
+
+-- The state behind a name and `::`.
+pub record Begun (x : Text) (st b : State) : Type 0 where
+  pub a : State
+  pub first : Moved x st a
+  pub colons : a .class ≡ t.DoubleColon
+  pub second : Moved x a b
+
+-- Pieces that say nothing of an arm's head: no `::`, no name, no pattern.
+pub record Quiet (w : List Sort) : Type 0 where
+  pub paths : sees t.DoubleColon w ≡ false
+  pub names : nameCount w ≡ 0
+  pub patterns : counted (span 13 16) w ≡ 0
+
+-- `p: T`, and pairs with commas between them: as many patterns as said.
+pub record Pairs (n : ℕ) (J L : Items) (m a b : ℕ) : Type 0 where
+  pub roles : (K i : ℕ) → arranged K i J ≡ L
+  pub paths : sees t.DoubleColon (sorts J) ≡ false
+  pub names : nameCount (sorts J) ≡ 0
+  pub patterns : counted (span 13 16) (sorts J) ≡ n
+
+-- so many as the first number says, and one more than that before
+abbrev pub ManyPairs : Items → Items → ℕ → ℕ → ℕ → Type 0
+ManyPairs J L m a b = Pairs a J L m a b
+
+pub record MorePairs (J L : Items) (m a b : ℕ) : Type 0 where
+  pub k : ℕ
+  pub one-more : a ≡ k + 1
+  pub pairs : Pairs k J L m a b
+
+-- An enum path in an arm's head, from its first `::` on: a names, b pairs.
+pub record HeadPath (J L : Items) (m a b : ℕ) : Type 0 where
+  pub roles : (n : ℕ) → arranged 38 n J ≡ L
+  pub count-is : nameCount (sorts J) ≡ a
+  pub bounded : a ≤ 16777216
+  pub path : sees t.DoubleColon (sorts J) ≡ true
+  pub patterns : counted (span 13 16) (sorts J) ≡ b
+
+-- Kind, low and high of an arm: a built-in one where there are no names (low b), otherwise an enum arm with a names and b pairs.
+unfoldable pub armKind : ℕ → ℕ
+armKind a = cond (eqb a 0) 37 38
+
+unfoldable pub armLow : ℕ → ℕ → ℕ
+armLow a b = cond (eqb a 0) b a
+
+unfoldable pub armHigh : ℕ → ℕ → ℕ
+armHigh a b = cond (eqb a 0) 0 b
+
+-- The head of an arm decides its record, whatever quiet pieces follow.
+pub record ArmHead (J L : Items) (m a b : ℕ) : Type 0 where
+  pub roles : (n : ℕ) → arranged (armKind a) n J ≡ L
+  pub decides : (v : List Sort) → Quiet v → armHead (sorts J ++ v) ≡ head (armKind a) (armLow a b) (armHigh a b)
+  pub low-is : a ≡ 0 → (1 ≤ b) × (b ≤ 6)
+
+-- What an arm has behind its fat arrow.
+pub record Body (J L : Items) (m a b : ℕ) : Type 0 where
+  pub roles : (K n : ℕ) → arranged K n J ≡ L
+  pub quiet : Quiet (sorts J)
+
+-- Kind and low of an arm.
+abbrev pub ArmKind : ℕ → ℕ → Type 0
+ArmKind k l = ((k ≡ 37) × (1 ≤ l) × (l ≤ 6)) ⊎ (k ≡ 38)
+
+-- An arm: a is its kind, b its low.
+pub record Arm (J L : Items) (m a b : ℕ) : Type 0 where
+  pub high : ℕ
+  pub js : Items
+  pub raw-is : J ≡ own.sub a b high js own.none
+  pub laid-is : L ≡ own.sub a b high js own.none
+  pub none-left : m ≡ 0
+  pub its-kind : ArmKind a b
+
+-- The order of arms with one arm more, as a number. 0: none; 1 to 6: one built-in arm, by its low; 7: enum arms; 8 and 9: two built-in
+-- arms that are partners, in the canonical order and the other way round; 10: two that are no partners; 11: more; 12: arms of both sorts.
+unfoldable pub pairArm : ℕ → ℕ → ℕ
+pairArm a b = cond (partner a b) 8 (cond (partner b a) 9 10)
+
+unfoldable pub afterArm : ℕ → ℕ → ℕ → ℕ
+afterArm o k l =
+    cond (eqb k 38) (cond (eqb o 0 || eqb o 7) 7 12) (cond (eqb o 0) l (cond (eqb o 7 || eqb o 12) 12 (cond (ltb 7 o) 11 (pairArm o l))))
+
+unfoldable pub orderFrom : ℕ → List Sort → ℕ
+orderFrom o [] = o
+orderFrom o (word c ∷ w) = orderFrom o w
+orderFrom o (child k l h c ∷ w) = orderFrom (afterArm o k l) w
+
+-- The kind of a match with arms in this order, and its refusal or 0.
+unfoldable pub orderKind : ℕ → ℕ
+orderKind o = cond (eqb o 7 || eqb o 12) 36 35
+
+unfoldable pub orderFault : ℕ → ℕ
+orderFault o = cond (eqb o 0) 11 (cond (eqb o 7 || (eqb o 8 || eqb o 9)) 0 (cond (eqb o 10) 14 (cond (eqb o 12) 12 13)))
+
+-- Nothing but arms.
+abbrev pub Armed : List Sort → Type 0
+Armed [] = Unit {0}
+Armed (word c ∷ w) = ⊥
+Armed (child k l h c ∷ w) = ArmKind k l × Armed w
+
+-- The first of records side by side.
+abbrev pub firstNode : Items → Items
+firstNode own.none = own.none
+firstNode (own.mark t r) = own.none
+firstNode (own.sub k l h js r) = own.sub k l h js own.none
+
+-- Arms side by side from the state st on: a is their order, b the first record after the first of them.
+pub record Arms (st : State) (J L : Items) (m a b : ℕ) : Type 0 where
+  pub same : L ≡ J
+  pub armed : Armed (sorts J)
+  pub order-is : a ≡ orderFrom 0 (sorts J)
+  pub mid-is : b ≡ st .out + sizes (firstNode J)
+
+-- Arms in the order 9 are exchanged, others stay.
+pub data Arranged (o : ℕ) (l : List ℕ) (from mid to : ℕ) (l′ : List ℕ) : Type 0 where
+  exchanged : o ≡ 9 → Turned l from mid to l′ → Arranged o l from mid to l′
+  stayed : (o ≡ 9 → ⊥) → l′ ≡ l → Arranged o l from mid to l′
+
+abbrev pub ParameterKind : ℕ → Type 0
+ParameterKind k = k ≡ 3
+
+abbrev pub FunctionKind : ℕ → Type 0
+FunctionKind k = k ≡ 1
+
+-- Parameters with commas between them: a is how many.
+pub record Parameters (J L : Items) (m a b : ℕ) : Type 0 where
+  pub same : L ≡ J
+  pub commas : Only t.Comma (sorts J)
+  pub count-is : counted (3 ∷ []) (sorts J) ≡ a
+
+-- Nothing, or what begins with a token of the class c, which is a mark: a is n if it is there.
+pub record Optional (c n : ℕ) (J L : Items) (m a b : ℕ) : Type 0 where
+  pub roles : (K i : ℕ) → arranged K i J ≡ L
+  pub there : a ≡ cond (sees c (sorts J)) n 0
+  pub others : (d : ℕ) → (d ≡ c → ⊥) → sees d (sorts J) ≡ false
+  pub no-parameters : counted (3 ∷ []) (sorts J) ≡ 0

@@ -1,0 +1,3 @@
+pub mod Contract
+pub mod Infos
+pub mod Entry

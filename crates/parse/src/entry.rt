@@ -1,0 +1,120 @@
+// From the first token to the answer: refusals 8 to 15 in their order.
+ghost use mathlib.Core.Path.{_≡_};
+ghost use Prim.Native.Nat.{_*_, _≤_};
+ghost use lib.ListN.{length};
+ghost use Rattle.lexer.specs.Buffer.{tokensIn};
+ghost use Rattle.grammar.specs.Answer.{startOf};
+ghost use Rattle.parse.specs.Contract.{text};
+ghost use Rattle.parse.specs.Entry.{tooMany, Starts, ended, judged, answerOf, treeOf};
+use crate::Answer;
+use crate::State;
+use crate::Step;
+use crate::program;
+use crate::token;
+use crate::tree;
+
+// Whether there are more tokens than there may be, or than so many words hold.
+fn too_many(most: usize, count: usize, words: usize) -> bool
+    ensures { λ r. ⌜ r ≡ tooMany most count words ⌝ }
+{
+    if most < count {
+        return true;
+    }
+    words / 3 < count
+}
+
+// The state at the first token.
+fn start(draft: &[u8], tokens: &[u32], count: usize) -> State
+    ensures { λ r. ⌜ Starts (text (now (draft .entry)) (now (tokens .entry)) count) r ⌝ }
+{
+    let t = token::token(draft, tokens, count, 0);
+    State {
+        at: 0,
+        class: t.class,
+        start: t.start,
+        stop: t.stop,
+        end: 0,
+        out: 0,
+        fault: 0,
+        place: 0,
+    }
+}
+
+// Where the token of this number starts, or the length at the end.
+fn place(draft: &[u8], tokens: &[u32], count: usize, at: usize) -> usize
+    requires { ⌜ 3 * count ≤ length (now tokens) ⌝ }
+    ensures { λ r. ⌜ r ≡ startOf (now (draft .entry)) (tokensIn count (now (tokens .entry))) at ⌝ }
+{
+    if at < count {
+        let t = token::token(draft, tokens, count, at);
+        return t.start as usize;
+    }
+    draft.len()
+}
+
+// The answer of the last state, with so many words for the records.
+fn end(draft: &[u8], tokens: &[u32], count: usize, room: usize, z: State) -> Answer
+    requires { ⌜ 3 * count ≤ length (now tokens) ⌝ }
+    ensures { λ r. ⌜ r ≡ ended (now (draft .entry)) (now (tokens .entry)) count room z ⌝ }
+{
+    if z.at < count {
+        return Answer::Refused {
+            number: 8,
+            place: place(draft, tokens, count, z.at),
+        };
+    }
+    if z.fault != 0 {
+        return Answer::Refused {
+            number: z.fault,
+            place: z.place as usize,
+        };
+    }
+    let records = z.out as usize;
+    if room < 6 * records {
+        return Answer::Refused {
+            number: 15,
+            place: 0,
+        };
+    }
+    Answer::Records(records)
+}
+
+// The answer of a step, likewise.
+fn judge(draft: &[u8], tokens: &[u32], count: usize, room: usize, step: Step) -> Answer
+    requires { ⌜ 3 * count ≤ length (now tokens) ⌝ }
+    ensures { λ r. ⌜ r ≡ judged (now (draft .entry)) (now (tokens .entry)) count room step ⌝ }
+{
+    match step {
+        Step::Next(z, _, _) => end(draft, tokens, count, room, z),
+        Step::Refused(at) => Answer::Refused {
+            number: 8,
+            place: place(draft, tokens, count, at),
+        },
+    }
+}
+
+// Writes the records of a draft of so many tokens at most, zeros behind them; on a refusal every word is 0.
+pub(crate) fn parse_within(
+    draft: &[u8],
+    tokens: &[u32],
+    count: usize,
+    tree: &mut [u32],
+    most: usize,
+) -> Answer
+    requires { ⌜ most ≤ 16777216 ⌝ }
+    ensures { λ r. ⌜ r ≡ answerOf most (now (draft .entry)) (now (tokens .entry)) count (length (now (tree .entry))) ⌝ }
+    ensures { λ _. ⌜ now (tree .exit) ≡ treeOf most (now (draft .entry)) (now (tokens .entry)) count (length (now (tree .entry))) ⌝ }
+{
+    tree::clear(tree);
+    if too_many(most, count, tokens.len()) {
+        return Answer::TooMany;
+    }
+    let st = start(draft, tokens, count);
+    let step = program::function(draft, tokens, count, tree, st);
+    let answer = judge(draft, tokens, count, tree.len(), step);
+    let Answer::Records(records) = answer else {
+        tree::clear(tree);
+        return answer;
+    };
+    Answer::Records(records)
+}

@@ -1,0 +1,53 @@
+// The parser of a draft: from its tokens to its records, by recursive descent. One token of look-ahead decides; nothing is tried twice.
+ghost use mathlib.Core.Path.{_≡_};
+ghost use lib.ListN.{length};
+ghost use Rattle.lexer.specs.Limits.{draftLimits};
+ghost use Rattle.parse.specs.Entry.{answerOf, treeOf};
+
+mod arms;
+mod c;
+mod choice;
+mod e;
+mod entry;
+mod fault;
+mod heads;
+mod names;
+mod pattern;
+mod program;
+mod token;
+mod tree;
+mod types;
+
+// Where the parser stands: the number of the next token with its class, start and end; the end of the token before it; how many records
+// there are so far; and the earliest refusal of 9 to 14, its number (0 for none) and place.
+pub struct State {
+    at: usize,
+    class: u32,
+    start: u32,
+    stop: u32,
+    end: u32,
+    out: u32,
+    fault: u32,
+    place: u32,
+}
+
+// What a step of the parser answers: the next state, with two numbers that some steps have besides; or the token where it is stuck.
+pub enum Step {
+    Next(State, u32, u32),
+    Refused(usize),
+}
+
+// What is handed over: so many records; or a refusal by its number, at a place; or that there are too many tokens.
+pub enum Answer {
+    Records(usize),
+    Refused { number: u32, place: usize },
+    TooMany,
+}
+
+// Writes the records of a draft with so many tokens, six words each, and zeros behind them; on a refusal every word is 0.
+pub fn parse(draft: &[u8], tokens: &[u32], count: usize, tree: &mut [u32]) -> Answer
+    ensures { λ r. ⌜ r ≡ answerOf (draftLimits .tokens) (now (draft .entry)) (now (tokens .entry)) count (length (now (tree .entry))) ⌝ }
+    ensures { λ _. ⌜ now (tree .exit) ≡ treeOf (draftLimits .tokens) (now (draft .entry)) (now (tokens .entry)) count (length (now (tree .entry))) ⌝ }
+{
+    entry::parse_within(draft, tokens, count, tree, 2048)
+}

@@ -1,0 +1,101 @@
+// Patterns: `Pattern::parser` of src/parse/grammar/types.rs.
+ghost use mathlib.Core.List.{[], _∷_};
+ghost use mathlib.Core.Path.{_≡_};
+ghost use Rattle.theory.specs.Grammar.{nt};
+ghost use Rattle.theory.specs.Machine.{choose};
+ghost use Rattle.grammar.specs.Tables.{table};
+ghost use Rattle.grammar.specs.TablesIndex.{n-pattern, n-list-pattern};
+ghost use Rattle.parse.specs.Contract.{text, Ready, Parsed, asItems, Node, PatternKind, Commas};
+use crate::State;
+use crate::Step;
+use crate::choice;
+use crate::names;
+use crate::token;
+use crate::tree;
+
+pub(crate) fn pattern(
+    draft: &[u8],
+    tokens: &[u32],
+    count: usize,
+    tree: &mut [u32],
+    st: State,
+) -> Step
+    requires { ⌜ Ready (text (now draft) (now tokens) count) st ⌝ }
+    ensures { λ r. ⌜ Parsed (text (now (draft .entry)) (now (tokens .entry)) count) (nt n-pattern ∷ []) asItems (Node PatternKind) st (now (tree .entry)) (now (tree .exit)) r ⌝ }
+{
+    match choice::patterns(st.class) {
+        1 => named(draft, tokens, count, tree, st),
+        2 => tuple(draft, tokens, count, tree, st),
+        3 => array(draft, tokens, count, tree, st),
+        _ => Step::Refused(st.at),
+    }
+}
+
+// A name, or `_`.
+fn named(draft: &[u8], tokens: &[u32], count: usize, tree: &mut [u32], st: State) -> Step
+    requires { ⌜ Ready (text (now draft) (now tokens) count) st ⌝ }
+    requires { ⌜ choose table n-pattern (st .class) ≡ 1 ⌝ }
+    ensures { λ r. ⌜ Parsed (text (now (draft .entry)) (now (tokens .entry)) count) (nt n-pattern ∷ []) asItems (Node PatternKind) st (now (tree .entry)) (now (tree .exit)) r ⌝ }
+{
+    let a = token::advance(draft, tokens, count, tree::reserve(st));
+    let kind = names::pattern_name(draft, st);
+    tree::close(tree, st, a, kind, 0, 0);
+    Step::Next(a, 0, 0)
+}
+
+// `(p, …)`
+fn tuple(draft: &[u8], tokens: &[u32], count: usize, tree: &mut [u32], st: State) -> Step
+    requires { ⌜ Ready (text (now draft) (now tokens) count) st ⌝ }
+    requires { ⌜ choose table n-pattern (st .class) ≡ 2 ⌝ }
+    ensures { λ r. ⌜ Parsed (text (now (draft .entry)) (now (tokens .entry)) count) (nt n-pattern ∷ []) asItems (Node PatternKind) st (now (tree .entry)) (now (tree .exit)) r ⌝ }
+{
+    let a = token::advance(draft, tokens, count, tree::reserve(st));
+    let inner = patterns(draft, tokens, count, tree, a);
+    let Step::Next(b, _, _) = inner else {
+        return inner;
+    };
+    let paren = token::eat(draft, tokens, count, b, 21);
+    let Step::Next(c, _, _) = paren else {
+        return paren;
+    };
+    tree::close(tree, st, c, 15, 0, 0);
+    Step::Next(c, 0, 0)
+}
+
+// `[p, …]`
+fn array(draft: &[u8], tokens: &[u32], count: usize, tree: &mut [u32], st: State) -> Step
+    requires { ⌜ Ready (text (now draft) (now tokens) count) st ⌝ }
+    requires { ⌜ choose table n-pattern (st .class) ≡ 3 ⌝ }
+    ensures { λ r. ⌜ Parsed (text (now (draft .entry)) (now (tokens .entry)) count) (nt n-pattern ∷ []) asItems (Node PatternKind) st (now (tree .entry)) (now (tree .exit)) r ⌝ }
+{
+    let a = token::advance(draft, tokens, count, tree::reserve(st));
+    let inner = patterns(draft, tokens, count, tree, a);
+    let Step::Next(b, _, _) = inner else {
+        return inner;
+    };
+    let bracket = token::eat(draft, tokens, count, b, 23);
+    let Step::Next(c, _, _) = bracket else {
+        return bracket;
+    };
+    tree::close(tree, st, c, 16, 0, 0);
+    Step::Next(c, 0, 0)
+}
+
+// Patterns with commas between them, up to what closes them.
+fn patterns(draft: &[u8], tokens: &[u32], count: usize, tree: &mut [u32], st: State) -> Step
+    requires { ⌜ Ready (text (now draft) (now tokens) count) st ⌝ }
+    ensures { λ r. ⌜ Parsed (text (now (draft .entry)) (now (tokens .entry)) count) (nt n-list-pattern ∷ []) asItems Commas st (now (tree .entry)) (now (tree .exit)) r ⌝ }
+{
+    let mut here = st;
+    while !token::closes(here.class) {
+        let inner = pattern(draft, tokens, count, tree, here);
+        let Step::Next(a, _, _) = inner else {
+            return inner;
+        };
+        if a.class != 17 {
+            return Step::Next(a, 0, 0);
+        }
+        here = token::advance(draft, tokens, count, a);
+    }
+    Step::Next(here, 0, 0)
+}
