@@ -443,28 +443,8 @@ abbrev pub c·bare-calls : ℕ → c·bare-lts.Claims
 c·bare-calls t = (reserve-reads.Asked, reserve-reads.Learnt, advance-reads.Asked, advance-reads.Learnt, alone-reads.Asked, alone-reads.Learnt, close-reads.Asked, close-reads.Learnt, child-reads.Asked, child-reads.Learnt, c·path-below t, c·path.Post)
 
 abbrev pub c·bounded-calls : ℕ → c·bounded-lts.Claims
-c·bounded-calls t = (
-  advance-reads.Asked,
-  advance-reads.Learnt,
-  function-name-reads.Asked,
-  function-name-reads.Learnt,
-  eat-reads.Asked,
-  eat-reads.Learnt,
-  decimal-reads.Asked,
-  decimal-reads.Learnt,
-  c·args-below t,
-  c·args.Post,
-  call-reads.Asked,
-  call-reads.Learnt,
-  close-reads.Asked,
-  close-reads.Learnt,
-  number-reads.Asked,
-  number-reads.Learnt,
-  size-fault-reads.Asked,
-  size-fault-reads.Learnt,
-  judged-reads.Asked,
-  judged-reads.Learnt,
-)
+c·bounded-calls t =
+    (advance-reads.Asked, advance-reads.Learnt, function-name-reads.Asked, function-name-reads.Learnt, eat-reads.Asked, eat-reads.Learnt, decimal-reads.Asked, decimal-reads.Learnt, c·args-below t, c·args.Post, call-reads.Asked, call-reads.Learnt, close-reads.Asked, close-reads.Learnt, number-reads.Asked, number-reads.Learnt, size-fault-reads.Asked, size-fault-reads.Learnt, judged-reads.Asked, judged-reads.Learnt)
 
 abbrev pub c·built-calls : ℕ → c·built-lts.Claims
 c·built-calls t = (advance-reads.Asked, advance-reads.Learnt, child-reads.Asked, child-reads.Learnt, c·path-below t, c·path.Post, close-reads.Asked, close-reads.Learnt)
@@ -533,60 +513,12 @@ abbrev pub e·listed-calls : ℕ → e·listed-lts.Claims
 e·listed-calls t = (reserve-reads.Asked, reserve-reads.Learnt, advance-reads.Asked, advance-reads.Learnt, eat-reads.Asked, eat-reads.Learnt, e·exprs-below t, e·exprs.Post, close-reads.Asked, close-reads.Learnt)
 
 abbrev pub e·matching-calls : ℕ → e·matching-lts.Claims
-e·matching-calls t = (
-  clean-reads.Asked,
-  clean-reads.Learnt,
-  reserve-reads.Asked,
-  reserve-reads.Learnt,
-  advance-reads.Asked,
-  advance-reads.Learnt,
-  e·expr-below t,
-  e·expr.Post,
-  eat-reads.Asked,
-  eat-reads.Learnt,
-  e·arms-below t,
-  e·arms.Post,
-  arrange-reads.Asked,
-  arrange-reads.Learnt,
-  kind-reads.Asked,
-  kind-reads.Learnt,
-  close-reads.Asked,
-  close-reads.Learnt,
-  fault-reads.Asked,
-  fault-reads.Learnt,
-  judged-reads.Asked,
-  judged-reads.Learnt,
-)
+e·matching-calls t =
+    (clean-reads.Asked, clean-reads.Learnt, reserve-reads.Asked, reserve-reads.Learnt, advance-reads.Asked, advance-reads.Learnt, e·expr-below t, e·expr.Post, eat-reads.Asked, eat-reads.Learnt, e·arms-below t, e·arms.Post, arrange-reads.Asked, arrange-reads.Learnt, kind-reads.Asked, kind-reads.Learnt, close-reads.Asked, close-reads.Learnt, fault-reads.Asked, fault-reads.Learnt, judged-reads.Asked, judged-reads.Learnt)
 
 abbrev pub e·parens-calls : ℕ → e·parens-lts.Claims
 e·parens-calls t = (reserve-reads.Asked, reserve-reads.Learnt, advance-reads.Asked, advance-reads.Learnt, e·exprs-below t, e·exprs.Post, eat-reads.Asked, eat-reads.Learnt, only-reads.Asked, only-reads.Learnt, close-reads.Asked, close-reads.Learnt)
 
 abbrev pub e·single-calls : ℕ → e·single-lts.Claims
-e·single-calls t = (
-  singles-reads.Asked,
-  singles-reads.Learnt,
-  literal-reads.Asked,
-  literal-reads.Learnt,
-  e·parens-below t,
-  e·parens.Post,
-  e·array-below t,
-  e·array.Post,
-  e·listed-below t,
-  e·listed.Post,
-  e·matching-below t,
-  e·matching.Post,
-  c·simple-below t,
-  c·simple.Post,
-  c·cast-below t,
-  c·cast.Post,
-  c·named-below t,
-  c·named.Post,
-  c·bare-below t,
-  c·bare.Post,
-  c·typed-below t,
-  c·typed.Post,
-  c·folding-below t,
-  c·folding.Post,
-  c·whiles-below t,
-  c·whiles.Post,
-)
+e·single-calls t =
+    (singles-reads.Asked, singles-reads.Learnt, literal-reads.Asked, literal-reads.Learnt, e·parens-below t, e·parens.Post, e·array-below t, e·array.Post, e·listed-below t, e·listed.Post, e·matching-below t, e·matching.Post, c·simple-below t, c·simple.Post, c·cast-below t, c·cast.Post, c·named-below t, c·named.Post, c·bare-below t, c·bare.Post, c·typed-below t, c·typed.Post, c·folding-below t, c·folding.Post, c·whiles-below t, c·whiles.Post)
