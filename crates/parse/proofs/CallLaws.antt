@@ -44,10 +44,11 @@ use Rattle.parse.proofs.Forms.{wordsIn, place, number-at, first-is}
 use Rattle.parse.proofs.Named.{function-name-class}
 use Rattle.parse.proofs.Shuts.{Opened}
 use Rattle.parse.proofs.Chain.{advances}
-use Rattle.parse.proofs.Chain2.{NamesOn, then-named, then-decimal}
+use Rattle.parse.proofs.NameChain.{NamesOn, then-named, then-decimal}
 use Rattle.parse.proofs.Roles.{sign-mark}
 use Rattle.parse.proofs.NameRows.{name-role, call-role}
-use Rattle.parse.proofs.CallForms.{For, Apart, called-role, marked-role, number-role, flat-path, path-row, flat-path-args, path-alone, path-args, no-angle-name, args-angle, args-count, count-append, sees-append}
+use Rattle.parse.proofs.CallForms.{For, Apart, called-role, marked-role, number-role, flat-path, path-row, flat-path-args, path-alone, path-args, no-angle-name, args-angle, args-count}
+use Rattle.parse.proofs.Pieces.{sees-append, nameCount-append}
 
 -- A state to parse from is one to read arguments from.
 pub near : {x : Text} {st : State} → Ready x st → Near x st
@@ -334,7 +335,7 @@ module _ {x : Text} {st : State} {l : List ℕ} {a : ℕ} {st₁ : State} {l₁ 
       let d = g .amid in
       finish d (record {
         roles = λ i. d .roles i tt;
-        count-is = ap nameCount (d .sorted) ∙ count-append (n .W) (word t.LParen ∷ (g .W ++ (word t.RParen ∷ []))) ∙ counted;
+        count-is = ap nameCount (d .sorted) ∙ nameCount-append (n .W) (word t.LParen ∷ (g .W ++ (word t.RParen ∷ []))) ∙ counted;
         bounded = n .bounded;
         angles = ap (sees t.LAngle) (d .sorted) ∙ sees-append t.LAngle (n .W) (word t.LParen ∷ (g .W ++ (word t.RParen ∷ []))) ∙ ap₂ (λ (p q : Bool). p || q) names-angle (args-angle (g .W) (g .commas));
       })

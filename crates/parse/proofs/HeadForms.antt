@@ -37,7 +37,7 @@ use Rattle.parse.proofs.Chosen.{alone, is-alone, hit, miss, goes}
 use Rattle.parse.proofs.Laws.{class-at, inside, went, Amid, starts, then-turns, then-went}
 use Rattle.parse.proofs.Steps.{child-went, reads-tok}
 use Rattle.parse.proofs.Lined.{AnyN, finish}
-use Rattle.parse.proofs.Chain2.{NamesOn, then-named}
+use Rattle.parse.proofs.NameChain.{NamesOn, then-named}
 use Rattle.parse.proofs.NameRows.{name-role}
 use Rattle.parse.proofs.Pieces.{nameCount-append, counted-append, unseen-append, seen-first, seen-second, nameCount-name, nameCount-other, sign-no-name}
 

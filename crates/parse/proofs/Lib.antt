@@ -14,7 +14,7 @@ pub mod Tokens
 pub mod Shuts
 pub mod Chain
 pub mod Lined
-pub mod Chain2
+pub mod NameChain
 pub mod NameRows
 pub mod NameSteps
 pub mod Named
@@ -27,6 +27,7 @@ pub mod PairForms
 pub mod HeadForms
 pub mod ExprForms
 pub mod Elements
+pub mod CallRows
 pub mod CallForms
 pub mod CallLaws
 pub mod ArmOrder

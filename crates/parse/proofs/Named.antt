@@ -36,7 +36,7 @@ use Rattle.parse.proofs.Roles.{sign-mark}
 use Rattle.parse.proofs.Laws.{class-at, inside, Amid, starts, then-turns, then-passed, then-went, went}
 use Rattle.parse.proofs.Chain.{advances, onward}
 use Rattle.parse.proofs.Lined.{AnyN, finish}
-use Rattle.parse.proofs.Chain2.{then-named}
+use Rattle.parse.proofs.NameChain.{then-named}
 use Rattle.parse.proofs.NameRows.{expanded-identifier, expanded-function-name, flat-more, more-names, no-more-names, name-role, arranged-names}
 
 -- What was chosen is what the table has.

@@ -43,6 +43,7 @@ use Rattle.parse.proofs.Laws.{Amid, then-went, went}
 use Rattle.parse.proofs.Steps.{decided}
 use Rattle.parse.proofs.Shuts.{Opened, Rule, enters}
 use Rattle.parse.proofs.Lined.{AnyN, Rows, Lined, arranged-zero, arranged-only, comma-mark, finish}
+use Rattle.parse.proofs.Pieces.{sees-append, counted-append}
 
 -- The rules of a function and of a parameter.
 abbrev pub functionRhs : List Sym
@@ -182,13 +183,7 @@ pub named-function : has (1 ∷ 3 ∷ 34 ∷ 38 ∷ []) 1 ≡ true
 unfolding has
 named-function = refl
 
--- How many records of some kinds there are in two lists.
-pub counted-append : (ks : List ℕ) (w v : List Sort) → counted ks (w ++ v) ≡ counted ks w + counted ks v
-unfolding counted
-counted-append ks [] v = omega arith
-counted-append ks (word c ∷ w) v = counted-append ks w v
-counted-append ks (child k l h c ∷ w) v = let e = counted-append ks w v in omega arith
-
+-- How many parameters there are in one piece.
 counted-one : (k l h c : ℕ) → k ≡ 3 → counted (3 ∷ []) (child k l h c ∷ []) ≡ 1
 unfolding counted has
 counted-one k l h c e = ap (λ (k : ℕ). counted (3 ∷ []) (child k l h c ∷ [])) e
@@ -395,17 +390,7 @@ name-no-arrow : (c : ℕ) → has t.functionNames c ≡ true → c ≡ 13 → �
 unfolding has
 name-no-arrow c e q = differ (sym (ap (has t.functionNames) q) ∙ e)
 
--- What is seen in two lists, and in one piece.
-sees-append : (c : ℕ) (w v : List Sort) → sees c (w ++ v) ≡ (sees c w || sees c v)
-unfolding sees
-sees-append c [] v = refl
-sees-append c (word d ∷ w) v = ap (λ (b : Bool). eqb d c || b) (sees-append c w v) ∙ or-assoc (eqb d c) (sees c w) (sees c v)
-  where
-    or-assoc : (a b d : Bool) → (a || (b || d)) ≡ ((a || b) || d)
-    or-assoc true b d = refl
-    or-assoc false b d = refl
-sees-append c (child k l h d ∷ w) v = sees-append c w v
-
+-- What is seen in one piece.
 or-none : (a b : Bool) → b ≡ false → (a || b) ≡ a
 or-none true b e = refl
 or-none false b e = e

@@ -20,7 +20,7 @@ use Rattle.parse.proofs.Tokens.{length-text}
 use Rattle.parse.proofs.Roles.{sign-mark, keeping-mark, word-mark}
 use Rattle.parse.proofs.Lined.{AnyN, Lined, finish}
 use Rattle.parse.proofs.Lined as lined
-use Rattle.parse.proofs.Chain2 as chain2
+use Rattle.parse.proofs.NameChain as chain2
 use Rattle.parse.proofs.Forms.{shut, shut-judged, number-at, value-is, value-text, first-is}
 use Rattle.own.specs.Law.{Sort, word, child}
 use Rattle.grammar.specs.Records.{lone}

@@ -13,7 +13,7 @@ use Rattle.parse.proofs.Laws.{then-passed, went, Amid, starts, then-wen
 use Rattle.parse.proofs.Chain.{then-lacks, advances, advances-one, then-eats, onward}
 use Rattle.parse.proofs.PairForms as pairs
 use Rattle.own.specs.Rules.{sorts}
-use Rattle.parse.proofs.Chain2.{then-names, then-names-passed}
+use Rattle.parse.proofs.NameChain.{then-names, then-names-passed}
 use Rattle.parse.proofs.NameSteps.{child-nt}
 use Rattle.parse.proofs.Roles.{sign-mark, keeping-mark}
 use Rattle.parse.proofs.Lined.{AnyN}

@@ -13,7 +13,7 @@ use Rattle.parse.specs.Infos.{ParameterKind, FunctionKind}
 use Rattle.parse.proofs.Laws.{class-at, Amid, starts, then-turns, then-passed, done}
 use Rattle.parse.proofs.Shuts.{opens, as-nonterminal, enters}
 use Rattle.parse.proofs.Chain.{further, onward, advances, then-eats, then-lacks, then-node}
-use Rattle.parse.proofs.Chain2.{then-named}
+use Rattle.parse.proofs.NameChain.{then-named}
 use Rattle.parse.proofs.Tokens.{length-text}
 use Rattle.parse.proofs.Roles.{sign-mark}
 use Rattle.parse.proofs.NameRows.{name-role}
