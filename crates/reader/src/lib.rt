@@ -7,6 +7,9 @@ ghost use Rattle.grammar.specs.Answer.{answer, tokenBuffer, treeBuffer};
 ghost use Rattle.reader.specs.Read.{handed, Promised};
 use lexer::Lexed;
 
+pub mod entry;
+mod lines;
+
 // What is handed over: the numbers of tokens and records, or the refusal by its number, at a place.
 pub enum Reading {
     Accepted { tokens: usize, records: usize },
