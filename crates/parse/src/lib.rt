@@ -5,10 +5,9 @@ ghost use Rattle.lexer.specs.Limits.{draftLimits};
 ghost use Rattle.parse.specs.Entry.{answerOf, treeOf};
 
 mod arms;
-mod c;
 mod choice;
-mod e;
 mod entry;
+mod expr;
 mod fault;
 mod heads;
 mod names;

@@ -8,7 +8,7 @@ ghost use Rattle.parse.specs.Contract.{text, Ready, Near, Parsed, asItem
 ghost use Rattle.parse.specs.Infos.{ParameterKind, FunctionKind, Parameters, Optional};
 use crate::State;
 use crate::Step;
-use crate::e;
+use crate::expr;
 use crate::names;
 use crate::token;
 use crate::tree;
@@ -139,5 +139,5 @@ fn block(draft: &[u8], tokens: &[u32], count: usize, tree: &mut [u32], st: State
     if st.class != 24 {
         return Step::Refused(st.at);
     }
-    e::block(draft, tokens, count, tree, st)
+    expr::block(draft, tokens, count, tree, st)
 }

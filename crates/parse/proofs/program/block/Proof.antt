@@ -31,7 +31,7 @@ use Rattle.parse.proofs.program.block.Statement.{statement}
 use Rattle.parse.proofs.program.block.Tie as tie
 use Rattle.parse.proofs.program.block.Reads as reads
 use Rattle.parse.proofs.program.block.Lts as lts
-use Rattle.parse.proofs.e.block.Reads as block-reads
+use Rattle.parse.proofs.expr.block.Reads as block-reads
 
 returns : tie.Need-returns
 returns c =

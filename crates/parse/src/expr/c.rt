@@ -1,0 +1,384 @@
+// Calls, wrappers and enum constructions: what begins with a name, a macro, a jet or `<`, within the cycle of expressions.
+ghost use mathlib.Core.Bool.{true};
+ghost use mathlib.Core.List.{[], _∷_};
+ghost use mathlib.Core.Path.{_≡_};
+ghost use Rattle.kinds.specs.Classes as t;
+ghost use Rattle.theory.specs.Grammar.{nt};
+ghost use Rattle.theory.specs.Machine.{choose};
+ghost use Rattle.grammar.specs.Tables.{table};
+ghost use Rattle.kinds.specs.Shape.{has};
+ghost use Rattle.grammar.specs.TablesIndex.{n-single, n-arguments, n-path};
+ghost use Rattle.parse.specs.Contract.{text, Ready, Near, Moved, reserved, cleaned, Parsed, asItems, Node, ExprKind};
+ghost use Rattle.parse.specs.Infos.{Begun, Args, Path};
+use crate::State;
+use crate::Step;
+use crate::expr;
+use crate::fault;
+use crate::names;
+use crate::token;
+use crate::tree;
+use crate::types;
+
+// `(e, …)`; and 1 if it is one expression without a comma.
+fn args(draft: &[u8], tokens: &[u32], count: usize, tree: &mut [u32], st: State) -> Step
+    requires { ⌜ Near (text (now draft) (now tokens) count) st ⌝ }
+    ensures { λ r. ⌜ Parsed (text (now (draft .entry)) (now (tokens .entry)) count) (nt n-arguments ∷ []) asItems Args st (now (tree .entry)) (now (tree .exit)) r ⌝ }
+{
+    let open = token::eat(draft, tokens, count, st, 20);
+    let Step::Next(a, _, _) = open else {
+        return open;
+    };
+    let inner = expr::exprs(draft, tokens, count, tree, a);
+    let Step::Next(b, lone, _) = inner else {
+        return inner;
+    };
+    let paren = token::eat(draft, tokens, count, b, 21);
+    let Step::Next(z, _, _) = paren else {
+        return paren;
+    };
+    Step::Next(z, lone, 0)
+}
+
+// A macro or a jet, called.
+pub(crate) fn simple(
+    draft: &[u8],
+    tokens: &[u32],
+    count: usize,
+    tree: &mut [u32],
+    st: State,
+) -> Step
+    requires { ⌜ Ready (text (now draft) (now tokens) count) st ⌝ }
+    requires { ⌜ choose table n-single (st .class) ≡ 6 ⌝ }
+    ensures { λ r. ⌜ Parsed (text (now (draft .entry)) (now (tokens .entry)) count) (nt n-single ∷ []) asItems (Node ExprKind) st (now (tree .entry)) (now (tree .exit)) r ⌝ }
+{
+    let a = token::advance(draft, tokens, count, tree::reserve(st));
+    let b = names::callee(tree, st, a);
+    let inner = args(draft, tokens, count, tree, b);
+    let Step::Next(z, _, _) = inner else {
+        return inner;
+    };
+    tree::close(tree, st, z, 39, names::call(st.class), 0);
+    Step::Next(z, 0, 0)
+}
+
+// `<T>::into(e, …)`
+pub(crate) fn cast(draft: &[u8], tokens: &[u32], count: usize, tree: &mut [u32], st: State) -> Step
+    requires { ⌜ Ready (text (now draft) (now tokens) count) st ⌝ }
+    requires { ⌜ choose table n-single (st .class) ≡ 7 ⌝ }
+    ensures { λ r. ⌜ Parsed (text (now (draft .entry)) (now (tokens .entry)) count) (nt n-single ∷ []) asItems (Node ExprKind) st (now (tree .entry)) (now (tree .exit)) r ⌝ }
+{
+    let a = token::advance(draft, tokens, count, tree::reserve(st));
+    let inner = types::ty(draft, tokens, count, tree, a);
+    let Step::Next(b, _, _) = inner else {
+        return inner;
+    };
+    let angle = token::eat(draft, tokens, count, b, 27);
+    let Step::Next(d, _, _) = angle else {
+        return angle;
+    };
+    let colons = token::eat(draft, tokens, count, d, 14);
+    let Step::Next(f, _, _) = colons else {
+        return colons;
+    };
+    let into = token::eat(draft, tokens, count, f, 53);
+    let Step::Next(g, _, _) = into else {
+        return into;
+    };
+    let rest = args(draft, tokens, count, tree, g);
+    let Step::Next(z, _, _) = rest else {
+        return rest;
+    };
+    tree::close(tree, st, z, 39, 9, 0);
+    Step::Next(z, 0, 0)
+}
+
+// A name: a call, a wrapper, an enum construction or a variable.
+pub(crate) fn named(draft: &[u8], tokens: &[u32], count: usize, tree: &mut [u32], st: State) -> Step
+    requires { ⌜ Ready (text (now draft) (now tokens) count) st ⌝ }
+    requires { ⌜ choose table n-single (st .class) ≡ 8 ⌝ }
+    ensures { λ r. ⌜ Parsed (text (now (draft .entry)) (now (tokens .entry)) count) (nt n-single ∷ []) asItems (Node ExprKind) st (now (tree .entry)) (now (tree .exit)) r ⌝ }
+{
+    let a = token::advance(draft, tokens, count, tree::reserve(st));
+    let class = a.class;
+    match class {
+        20 => called(draft, tokens, count, tree, st, a),
+        14 => built(draft, tokens, count, tree, st, a),
+        _ => {
+            tree::close(tree, st, a, 29, 0, 0);
+            Step::Next(a, 0, 0)
+        }
+    }
+}
+
+// A call of a name, from its arguments on; a wrapper where it is one expression and no comma.
+fn called(draft: &[u8], tokens: &[u32], count: usize, tree: &mut [u32], st: State, a: State) -> Step
+    requires { ⌜ Ready (text (now draft) (now tokens) count) st ⌝ }
+    requires { ⌜ choose table n-single (st .class) ≡ 8 ⌝ }
+    requires { ⌜ Moved (text (now draft) (now tokens) count) (reserved st) a ⌝ }
+    requires { ⌜ a .class ≡ t.LParen ⌝ }
+    ensures { λ r. ⌜ Parsed (text (now (draft .entry)) (now (tokens .entry)) count) (nt n-single ∷ []) asItems (Node ExprKind) st (now (tree .entry)) (now (tree .exit)) r ⌝ }
+{
+    if names::wrapper(st.class) != 0 {
+        return wrap(draft, tokens, count, tree, st, a);
+    }
+    let b = names::callee(tree, st, a);
+    let inner = args(draft, tokens, count, tree, b);
+    let Step::Next(z, _, _) = inner else {
+        return inner;
+    };
+    tree::close(tree, st, z, 39, names::call(st.class), 0);
+    Step::Next(z, 0, 0)
+}
+
+// `Left(e)` and kin; or a call of that name, whose record is put before the arguments.
+fn wrap(draft: &[u8], tokens: &[u32], count: usize, tree: &mut [u32], st: State, a: State) -> Step
+    requires { ⌜ Ready (text (now draft) (now tokens) count) st ⌝ }
+    requires { ⌜ choose table n-single (st .class) ≡ 8 ⌝ }
+    requires { ⌜ has (t.Left ∷ t.Right ∷ t.Some ∷ []) (st .class) ≡ true ⌝ }
+    requires { ⌜ Moved (text (now draft) (now tokens) count) (reserved st) a ⌝ }
+    requires { ⌜ a .class ≡ t.LParen ⌝ }
+    ensures { λ r. ⌜ Parsed (text (now (draft .entry)) (now (tokens .entry)) count) (nt n-single ∷ []) asItems (Node ExprKind) st (now (tree .entry)) (now (tree .exit)) r ⌝ }
+{
+    let inner = args(draft, tokens, count, tree, a);
+    let Step::Next(b, lone, _) = inner else {
+        return inner;
+    };
+    if lone == 1 {
+        tree::close(tree, st, b, names::wrapping(st.class), 0, 0);
+        return Step::Next(b, 0, 0);
+    }
+    let z = tree::child(tree, st, b, 2, 0, 0);
+    tree::exchange(tree, a.out, b.out, z.out);
+    tree::close(tree, st, z, 39, 10, 0);
+    Step::Next(z, 0, 0)
+}
+
+// An enum construction, from its first `::` on.
+fn built(draft: &[u8], tokens: &[u32], count: usize, tree: &mut [u32], st: State, a: State) -> Step
+    requires { ⌜ Ready (text (now draft) (now tokens) count) st ⌝ }
+    requires { ⌜ choose table n-single (st .class) ≡ 8 ⌝ }
+    requires { ⌜ Moved (text (now draft) (now tokens) count) (reserved st) a ⌝ }
+    requires { ⌜ a .class ≡ t.DoubleColon ⌝ }
+    ensures { λ r. ⌜ Parsed (text (now (draft .entry)) (now (tokens .entry)) count) (nt n-single ∷ []) asItems (Node ExprKind) st (now (tree .entry)) (now (tree .exit)) r ⌝ }
+{
+    let b = token::advance(draft, tokens, count, a);
+    let d = tree::child(tree, st, b, 2, 0, 0);
+    let rest = path(draft, tokens, count, tree, d);
+    let Step::Next(z, number, _) = rest else {
+        return rest;
+    };
+    tree::close(tree, st, z, 34, number + 1, 0);
+    Step::Next(z, 0, 0)
+}
+
+// What follows the first `::` of an enum construction; and how many names.
+fn path(draft: &[u8], tokens: &[u32], count: usize, tree: &mut [u32], st: State) -> Step
+    requires { ⌜ Ready (text (now draft) (now tokens) count) st ⌝ }
+    ensures { λ r. ⌜ Parsed (text (now (draft .entry)) (now (tokens .entry)) count) (nt n-path ∷ []) asItems Path st (now (tree .entry)) (now (tree .exit)) r ⌝ }
+{
+    let inner = names::names(draft, tokens, count, tree, st);
+    let Step::Next(a, number, _) = inner else {
+        return inner;
+    };
+    if a.class != 20 {
+        return Step::Next(a, number, 0);
+    }
+    let rest = args(draft, tokens, count, tree, a);
+    let Step::Next(z, _, _) = rest else {
+        return rest;
+    };
+    Step::Next(z, number, 0)
+}
+
+// A name that is no call: `None`, a variable or the beginning of an enum construction.
+pub(crate) fn bare(draft: &[u8], tokens: &[u32], count: usize, tree: &mut [u32], st: State) -> Step
+    requires { ⌜ Ready (text (now draft) (now tokens) count) st ⌝ }
+    requires { ⌜ choose table n-single (st .class) ≡ 9 ⌝ }
+    ensures { λ r. ⌜ Parsed (text (now (draft .entry)) (now (tokens .entry)) count) (nt n-single ∷ []) asItems (Node ExprKind) st (now (tree .entry)) (now (tree .exit)) r ⌝ }
+{
+    let a = token::advance(draft, tokens, count, tree::reserve(st));
+    if a.class != 14 {
+        tree::close(tree, st, a, names::alone(st.class), 0, 0);
+        return Step::Next(a, 0, 0);
+    }
+    let b = token::advance(draft, tokens, count, a);
+    let d = tree::child(tree, st, b, 2, 0, 0);
+    let rest = path(draft, tokens, count, tree, d);
+    let Step::Next(z, number, _) = rest else {
+        return rest;
+    };
+    tree::close(tree, st, z, 34, number + 1, 0);
+    Step::Next(z, 0, 0)
+}
+
+// `unwrap_left::<T>(e, …)` and kin, an enum construction or a variable.
+pub(crate) fn typed(draft: &[u8], tokens: &[u32], count: usize, tree: &mut [u32], st: State) -> Step
+    requires { ⌜ Ready (text (now draft) (now tokens) count) st ⌝ }
+    requires { ⌜ choose table n-single (st .class) ≡ 10 ⌝ }
+    ensures { λ r. ⌜ Parsed (text (now (draft .entry)) (now (tokens .entry)) count) (nt n-single ∷ []) asItems (Node ExprKind) st (now (tree .entry)) (now (tree .exit)) r ⌝ }
+{
+    let a = token::advance(draft, tokens, count, tree::reserve(st));
+    if a.class != 14 {
+        tree::close(tree, st, a, 29, 0, 0);
+        return Step::Next(a, 0, 0);
+    }
+    let b = token::advance(draft, tokens, count, a);
+    if b.class == 26 {
+        return of_type(draft, tokens, count, tree, st, b);
+    }
+    let d = tree::child(tree, st, b, 2, 0, 0);
+    let rest = path(draft, tokens, count, tree, d);
+    let Step::Next(z, number, _) = rest else {
+        return rest;
+    };
+    tree::close(tree, st, z, 34, number + 1, 0);
+    Step::Next(z, 0, 0)
+}
+
+// The same, from `<` on.
+fn of_type(
+    draft: &[u8],
+    tokens: &[u32],
+    count: usize,
+    tree: &mut [u32],
+    st: State,
+    b: State,
+) -> Step
+    requires { ⌜ Ready (text (now draft) (now tokens) count) st ⌝ }
+    requires { ⌜ choose table n-single (st .class) ≡ 10 ⌝ }
+    requires { ⌜ Begun (text (now draft) (now tokens) count) (reserved st) b ⌝ }
+    requires { ⌜ b .class ≡ t.LAngle ⌝ }
+    ensures { λ r. ⌜ Parsed (text (now (draft .entry)) (now (tokens .entry)) count) (nt n-single ∷ []) asItems (Node ExprKind) st (now (tree .entry)) (now (tree .exit)) r ⌝ }
+{
+    let d = token::advance(draft, tokens, count, b);
+    let inner = types::ty(draft, tokens, count, tree, d);
+    let Step::Next(f, _, _) = inner else {
+        return inner;
+    };
+    let angle = token::eat(draft, tokens, count, f, 27);
+    let Step::Next(g, _, _) = angle else {
+        return angle;
+    };
+    let rest = args(draft, tokens, count, tree, g);
+    let Step::Next(z, _, _) = rest else {
+        return rest;
+    };
+    tree::close(tree, st, z, 39, names::call(st.class), 0);
+    Step::Next(z, 0, 0)
+}
+
+// `fold::<f, n>(e, …)`, `array_fold::<f, n>(e, …)`, an enum construction or a variable.
+pub(crate) fn fold(draft: &[u8], tokens: &[u32], count: usize, tree: &mut [u32], st: State) -> Step
+    requires { ⌜ Ready (text (now draft) (now tokens) count) st ⌝ }
+    requires { ⌜ choose table n-single (st .class) ≡ 11 ⌝ }
+    ensures { λ r. ⌜ Parsed (text (now (draft .entry)) (now (tokens .entry)) count) (nt n-single ∷ []) asItems (Node ExprKind) st (now (tree .entry)) (now (tree .exit)) r ⌝ }
+{
+    let a = token::advance(draft, tokens, count, tree::reserve(fault::clean(st)));
+    if a.class != 14 {
+        tree::close(tree, st, a, 29, 0, 0);
+        let y = fault::judged(st, a, 0, 0);
+        return Step::Next(y, 0, 0);
+    }
+    let b = token::advance(draft, tokens, count, a);
+    if b.class == 26 {
+        return bound(draft, tokens, count, tree, st, b);
+    }
+    let d = tree::child(tree, st, b, 2, 0, 0);
+    let rest = path(draft, tokens, count, tree, d);
+    let Step::Next(z, number, _) = rest else {
+        return rest;
+    };
+    tree::close(tree, st, z, 34, number + 1, 0);
+    let y = fault::judged(st, z, 0, 0);
+    Step::Next(y, 0, 0)
+}
+
+// The same, from `<` on.
+fn bound(draft: &[u8], tokens: &[u32], count: usize, tree: &mut [u32], st: State, b: State) -> Step
+    requires { ⌜ Ready (text (now draft) (now tokens) count) st ⌝ }
+    requires { ⌜ choose table n-single (st .class) ≡ 11 ⌝ }
+    requires { ⌜ Begun (text (now draft) (now tokens) count) (reserved (cleaned st)) b ⌝ }
+    requires { ⌜ b .class ≡ t.LAngle ⌝ }
+    ensures { λ r. ⌜ Parsed (text (now (draft .entry)) (now (tokens .entry)) count) (nt n-single ∷ []) asItems (Node ExprKind) st (now (tree .entry)) (now (tree .exit)) r ⌝ }
+{
+    let d = token::advance(draft, tokens, count, b);
+    let inner = names::function_name(draft, tokens, count, tree, d);
+    let Step::Next(f, _, _) = inner else {
+        return inner;
+    };
+    let comma = token::eat(draft, tokens, count, f, 17);
+    let Step::Next(g, _, _) = comma else {
+        return comma;
+    };
+    let size = names::decimal(draft, tokens, count, tree, g);
+    let Step::Next(h, _, _) = size else {
+        return size;
+    };
+    let angle = token::eat(draft, tokens, count, h, 27);
+    let Step::Next(i, _, _) = angle else {
+        return angle;
+    };
+    let rest = args(draft, tokens, count, tree, i);
+    let Step::Next(y, _, _) = rest else {
+        return rest;
+    };
+    tree::close(tree, st, y, 39, names::call(st.class), 0);
+    let n = names::number(draft, g);
+    let z = fault::judged(st, y, names::size_fault(st.class, n), g.start);
+    Step::Next(z, 0, 0)
+}
+
+// `for_while::<f>(e, …)`, an enum construction or a variable.
+pub(crate) fn whiles(
+    draft: &[u8],
+    tokens: &[u32],
+    count: usize,
+    tree: &mut [u32],
+    st: State,
+) -> Step
+    requires { ⌜ Ready (text (now draft) (now tokens) count) st ⌝ }
+    requires { ⌜ choose table n-single (st .class) ≡ 12 ⌝ }
+    ensures { λ r. ⌜ Parsed (text (now (draft .entry)) (now (tokens .entry)) count) (nt n-single ∷ []) asItems (Node ExprKind) st (now (tree .entry)) (now (tree .exit)) r ⌝ }
+{
+    let a = token::advance(draft, tokens, count, tree::reserve(st));
+    if a.class != 14 {
+        tree::close(tree, st, a, 29, 0, 0);
+        return Step::Next(a, 0, 0);
+    }
+    let b = token::advance(draft, tokens, count, a);
+    if b.class == 26 {
+        return loops(draft, tokens, count, tree, st, b);
+    }
+    let d = tree::child(tree, st, b, 2, 0, 0);
+    let rest = path(draft, tokens, count, tree, d);
+    let Step::Next(z, number, _) = rest else {
+        return rest;
+    };
+    tree::close(tree, st, z, 34, number + 1, 0);
+    Step::Next(z, 0, 0)
+}
+
+// The same, from `<` on.
+fn loops(draft: &[u8], tokens: &[u32], count: usize, tree: &mut [u32], st: State, b: State) -> Step
+    requires { ⌜ Ready (text (now draft) (now tokens) count) st ⌝ }
+    requires { ⌜ choose table n-single (st .class) ≡ 12 ⌝ }
+    requires { ⌜ Begun (text (now draft) (now tokens) count) (reserved st) b ⌝ }
+    requires { ⌜ b .class ≡ t.LAngle ⌝ }
+    ensures { λ r. ⌜ Parsed (text (now (draft .entry)) (now (tokens .entry)) count) (nt n-single ∷ []) asItems (Node ExprKind) st (now (tree .entry)) (now (tree .exit)) r ⌝ }
+{
+    let d = token::advance(draft, tokens, count, b);
+    let inner = names::function_name(draft, tokens, count, tree, d);
+    let Step::Next(f, _, _) = inner else {
+        return inner;
+    };
+    let angle = token::eat(draft, tokens, count, f, 27);
+    let Step::Next(g, _, _) = angle else {
+        return angle;
+    };
+    let rest = args(draft, tokens, count, tree, g);
+    let Step::Next(z, _, _) = rest else {
+        return rest;
+    };
+    tree::close(tree, st, z, 39, 13, 0);
+    Step::Next(z, 0, 0)
+}
