@@ -1,10 +1,10 @@
 #!/usr/bin/env python3
-"""Compares the definition of the answer (crates/grammar) with the partner (partner/reader.rs) on random drafts, every byte of the listing.
+"""Compares the definition of the answer (crates/grammar) with the partner (rust/partner) on random drafts, every byte of the listing.
 
 antt computes the definition: the drafts with the partner's listings become one more file of specs/ in a copy of the repository, and the
 check there refuses it if one of them differs.
-    tools/compare_answer.py SEED COUNT LENGTH    COUNT drafts of each kind of partner/drafts.py, of at most LENGTH bytes
-Needs rustc. The copy proves the crates below first, so a run takes some minutes. Run by hand: the gate does not need it.
+    tools/compare_answer.py SEED COUNT LENGTH    COUNT drafts of each kind of rust/partner/drafts.py, of at most LENGTH bytes
+Needs cargo. The copy proves the crates below first, so a run takes some minutes. Run by hand: the gate does not need it.
 """
 import collections, pathlib, shutil, subprocess, sys, tempfile
 
@@ -47,13 +47,14 @@ def main():
     seed, count, length = sys.argv[1], int(sys.argv[2]), int(sys.argv[3])
     with tempfile.TemporaryDirectory() as folder:
         work = pathlib.Path(folder)
-        subprocess.run(["rustc", "--edition", "2021", "-O", "-o", work / "reader", root / "partner/reader.rs"], check=True)
+        cargo = ["cargo", "build", "--manifest-path", root / "rust/Cargo.toml", "--target-dir", root / "target/rust", "--offline", "--release", "--quiet"]
+        subprocess.run([*cargo, "--package", "partner"], check=True)
         drafts = []
         for kind in ("shaped", "damaged", "tokens"):
-            stream = subprocess.run([sys.executable, root / "partner/drafts.py", seed, str(20 * count), kind], capture_output=True, check=True).stdout
+            stream = subprocess.run([sys.executable, root / "rust/partner/drafts.py", seed, str(20 * count), kind], capture_output=True, check=True).stdout
             drafts += list(dict.fromkeys(d for d in cases(stream) if len(d) <= length))[:count]
         stream = b"".join(b"%d\n%s" % (len(d), d) for d in drafts)
-        listings = cases(subprocess.run([work / "reader", "--many"], input=stream, capture_output=True, check=True).stdout)
+        listings = cases(subprocess.run([root / "target/rust/release/partner", "--many"], input=stream, capture_output=True, check=True).stdout)
         copy = work / "copy"
         copy.mkdir()
         shutil.copy(root / "crates.txt", copy)

@@ -1,6 +1,7 @@
 #!/usr/bin/env bash
-# All tests: generated files are what their scripts write, the layout, the partner's own cases, then `rt ci` (every crate proved, every
-# must-fail edit refused, every program run). The last line, 'N passed, 0 failed', is printed only where everything passed.
+# All tests: generated files are what their scripts write, the layout, then `rt ci` (every crate proved, every must-fail edit refused, every
+# program run), then the comparison with the partner on the library that is built from what was proved.
+# The last line, 'N passed, 0 failed', is printed only where everything passed.
 set -euo pipefail
 cd "$(dirname "$0")/.."
 passed=0
@@ -19,12 +20,17 @@ for script in tools/words.py tools/words_cases.py tools/lexer_cases.py tools/gra
 done
 run diff <(python3 tools/num_cases.py) crates/num_cases/stdout
 run rt fmt --check
-rustc --edition 2021 -O -o "$work/reader" partner/reader.rs
-run "$work/reader" --self-test
+CARGO_TARGET_DIR=$work/rust cargo build --manifest-path rust/Cargo.toml --offline --release --quiet --package partner
+run "$work/rust/release/partner" --self-test
+run python3 tools/reader_cases.py --check --partner "$work/rust/release/partner"
 
 # The last line of rt ci is held back, and printed below with what passed here added.
 echo "test: rt ci"
 rt ci 2>&1 | tee "$log" | grep -vE '^[0-9]+ passed, [0-9]+ failed$' || { tail -n 1 "$log"; exit 1; }
 last=$(tail -n 1 "$log")
 [[ $last =~ ^([0-9]+)\ passed,\ 0\ failed$ ]] || { echo "test: failed: rt ci: $last"; exit 1; }
-echo "$((passed + BASH_REMATCH[1])) passed, 0 failed"
+passed=$((passed + BASH_REMATCH[1]))
+
+run rt staticlib reader
+run bash tools/compare.sh
+echo "$passed passed, 0 failed"

@@ -1,0 +1,56 @@
+-- The loop stays within the slices.
+-- Assumes nothing.
+use borrow.Author.Needs.{needs}
+use Prim.Native.Nat.{_≤_, _*_, _-_}
+use lib.ListN.{length}
+use Rattle.reader_cases.proofs.owned.child_holds.Statement.{statement}
+use Rattle.reader_cases.proofs.owned.child_holds.Tie as tie
+
+abbrev Inv-loop : tie.InvT-loop
+Inv-loop tree i start end stop c₀ c = 6 * stop ≤ length tree
+
+abbrev μ-loop : tie.MeasureT-loop
+μ-loop tree i start end stop c₀ c = stop - c
+
+after-requires : tie.Need-after-requires Inv-loop μ-loop
+after-requires c κs = search needs
+
+add-c : tie.Need-add-c Inv-loop μ-loop
+add-c c = search needs
+
+loop-holds : tie.Need-loop-holds Inv-loop μ-loop
+loop-holds c = search needs
+
+holds-requires : tie.Need-holds-requires Inv-loop μ-loop
+holds-requires c κs = search needs
+
+returns : tie.Need-returns Inv-loop μ-loop
+returns c = search needs
+
+after-requires-2 : tie.Need-after-requires-2 Inv-loop μ-loop
+after-requires-2 c κs = search needs
+
+loop-less : tie.Need-loop-less Inv-loop μ-loop
+loop-less c = search needs
+
+loop-again : tie.Need-loop-again Inv-loop μ-loop
+loop-again c = search needs
+
+returns-2 : tie.Need-returns-2 Inv-loop μ-loop
+returns-2 c = search needs
+
+pub child-holds-spec : {M : Type 1} → statement M
+child-holds-spec =
+    tie.close
+    (tie.spec
+    Inv-loop
+    μ-loop
+    after-requires
+    add-c
+    loop-holds
+    holds-requires
+    returns
+    after-requires-2
+    loop-less
+    loop-again
+    returns-2)

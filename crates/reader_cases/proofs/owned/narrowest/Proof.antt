@@ -1,0 +1,56 @@
+-- The loop stays within the slices.
+-- Assumes nothing.
+use borrow.Author.Needs.{needs}
+use Prim.Native.Nat.{_-_}
+use lib.ListN.{length}
+use Rattle.reader_cases.proofs.owned.narrowest.Statement.{statement}
+use Rattle.reader_cases.proofs.owned.narrowest.Tie as tie
+
+abbrev Inv-loop : tie.InvT-loop
+Inv-loop tree o start end bytes i₀ i = Unit {0}
+
+abbrev μ-loop : tie.MeasureT-loop
+μ-loop tree o start end bytes i₀ i = length tree - i
+
+width-requires : tie.Need-width-requires Inv-loop μ-loop
+width-requires c κs = search needs
+
+loop-holds : tie.Need-loop-holds Inv-loop μ-loop
+loop-holds c = search needs
+
+holds-requires : tie.Need-holds-requires Inv-loop μ-loop
+holds-requires c κs = search needs
+
+width-requires-2 : tie.Need-width-requires-2 Inv-loop μ-loop
+width-requires-2 c κs = search needs
+
+returns : tie.Need-returns Inv-loop μ-loop
+returns c = search needs
+
+add-i : tie.Need-add-i Inv-loop μ-loop
+add-i c = search needs
+
+loop-less : tie.Need-loop-less Inv-loop μ-loop
+loop-less c = search needs
+
+loop-again : tie.Need-loop-again Inv-loop μ-loop
+loop-again c = search needs
+
+returns-2 : tie.Need-returns-2 Inv-loop μ-loop
+returns-2 c = search needs
+
+pub narrowest-spec : {M : Type 1} → statement M
+narrowest-spec =
+    tie.close
+    (tie.spec
+    Inv-loop
+    μ-loop
+    width-requires
+    loop-holds
+    holds-requires
+    width-requires-2
+    returns
+    add-i
+    loop-less
+    loop-again
+    returns-2)

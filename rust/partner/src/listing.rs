@@ -1,0 +1,48 @@
+//! The listing: one line a record, or one line for a refusal.
+
+use crate::{read, Record, TOKENS};
+
+/// Bytes of a line, its end among them.
+const LINE: usize = 36;
+
+/// One line a record, or one line for a refusal, with buffers as large as the limits.
+pub fn listing(draft: &[u8]) -> Vec<u8> {
+    lines(draft).iter().flat_map(line_bytes).collect()
+}
+
+/// The listing in a lent buffer with zeros behind: how many bytes it takes.
+/// Where it does not fit, 0 and all bytes zero.
+pub fn list_into(draft: &[u8], out: &mut [u8]) -> usize {
+    let lines = lines(draft);
+    let needed = LINE * lines.len();
+    let used = if needed <= out.len() { needed } else { 0 };
+    let (listed, behind) = out.split_at_mut(used);
+    for (place, line) in listed.chunks_exact_mut(LINE).zip(&lines) {
+        place.copy_from_slice(&line_bytes(line));
+    }
+    behind.fill(0);
+    used
+}
+
+/// The records of an accepted draft, or a refusal as the words of its line.
+fn lines(draft: &[u8]) -> Vec<Record> {
+    match read(draft, 3 * TOKENS, 6 * TOKENS) {
+        Ok((_, records)) => records,
+        Err((number, place)) => vec![[0, place as u32, place as u32, number, 0, 1]],
+    }
+}
+
+fn line_bytes(line: &Record) -> [u8; LINE] {
+    let mut bytes = [b' '; LINE];
+    let mut at = 0;
+    for (word, width) in line.iter().zip([2, 4, 4, 8, 8, 4]) {
+        for digit in 0..width {
+            let shift = 4 * (width - 1 - digit);
+            bytes[at + digit] = b"0123456789ABCDEF"[(word >> shift) as usize & 15];
+        }
+        // One space stays between words.
+        at += width + 1;
+    }
+    bytes[LINE - 1] = b'\n';
+    bytes
+}

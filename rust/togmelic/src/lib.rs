@@ -1,0 +1,68 @@
+//! A safe wrapper around the proved reader of escrow drafts: lists any bytes as a draft, or reads them to records.
+//!
+//! [`list`] writes the lines into a lent buffer and allocates nothing; [`listing`] and [`read`] bring their own
+//! buffer. Every call may be made with any bytes and from any thread, and no answer depends on an earlier call.
+//! The reader keeps its tokens and its tree on the stack and calls itself for what is nested: the deepest drafts
+//! take about half a MiB, so lend its thread 1 MiB.
+//!
+//! ```
+//! let draft = b"fn f(){Left(1)}";
+//! let tree = togmelic::read(draft).expect("an accepted draft");
+//! assert_eq!(tree.len(), 5);
+//! // Kind 19 is `Left`.
+//! assert_eq!(tree[3].kind, 19);
+//! assert_eq!(&draft[tree[3].place()], b"Left(1)");
+//!
+//! let refusal = togmelic::read(b"fn f(){fold(x)}").unwrap_err();
+//! assert_eq!((refusal.number, refusal.place), (8, 11));
+//! ```
+
+mod record;
+mod refusal;
+
+pub use record::{records, Record};
+pub use refusal::Refusal;
+
+/// Bytes of a line, its line end among them.
+pub const LINE: usize = 36;
+/// No draft has more lines.
+pub const MOST_LINES: usize = 2_048;
+/// A buffer of so many bytes suffices for every draft.
+pub const MOST_BYTES: usize = LINE * MOST_LINES;
+
+extern "C" {
+    fn togmelic_list(
+        draft: *const u8,
+        draft_length: usize,
+        out: *mut u8,
+        out_length: usize,
+    ) -> usize;
+}
+
+/// Lists a draft into `out` and answers the lines, with zeros in the rest of `out`.
+/// `None` only where the lines do not fit; then every byte of `out` is zero.
+/// A refused draft is listed too: one line, of kind 00.
+pub fn list<'out>(draft: &[u8], out: &'out mut [u8]) -> Option<&'out [u8]> {
+    // SAFETY: each pointer is that of a slice, never null and good for the length beside it; `out` is borrowed
+    // alone, so the two do not overlap. The entry reads and writes nothing else and keeps no pointer.
+    let used = unsafe { togmelic_list(draft.as_ptr(), draft.len(), out.as_mut_ptr(), out.len()) };
+    // Every listing has a line, so no bytes used means that the lines do not fit.
+    (used > 0).then(|| &out[..used])
+}
+
+/// The whole listing of a draft: one line a record, or one line for a refusal.
+pub fn listing(draft: &[u8]) -> Vec<u8> {
+    let mut out = vec![0; MOST_BYTES];
+    let used = list(draft, &mut out).map_or(0, <[u8]>::len);
+    out.truncate(used);
+    out
+}
+
+/// The records of a draft, a parent before its children, or the refusal.
+pub fn read(draft: &[u8]) -> Result<Vec<Record>, Refusal> {
+    let tree: Vec<Record> = records(&listing(draft)).collect();
+    match tree.first().copied().and_then(Refusal::from_line) {
+        Some(refusal) => Err(refusal),
+        None => Ok(tree),
+    }
+}

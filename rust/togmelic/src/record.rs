@@ -1,0 +1,58 @@
+//! Records, parsed from the lines of a listing.
+
+use crate::LINE;
+use std::ops::Range;
+
+/// One line of a listing. The kinds and what `low` and `high` hold are in document 01, "Records".
+#[derive(Clone, Copy, Debug, PartialEq, Eq, Hash)]
+pub struct Record {
+    /// 1 to 40; 0 in the one line of a refusal.
+    pub kind: u8,
+    /// The first byte of the record's place in the draft.
+    pub start: usize,
+    /// The byte after its place.
+    pub end: usize,
+    /// What the kind says, else 0.
+    pub low: u32,
+    /// What the kind says, else 0.
+    pub high: u32,
+    /// How many records this one and all beneath it are; its children follow it in order.
+    pub size: usize,
+}
+
+impl Record {
+    /// The place, to cut the record's text out of its draft.
+    pub fn place(&self) -> Range<usize> {
+        self.start..self.end
+    }
+
+    /// `low` and `high` as one number, for the kinds that hold one.
+    pub fn number(&self) -> u64 {
+        u64::from(self.high) << 32 | u64::from(self.low)
+    }
+
+    fn from_line(line: &[u8]) -> Record {
+        Record {
+            kind: hexadecimal(&line[0..2]) as u8,
+            start: hexadecimal(&line[3..7]) as usize,
+            end: hexadecimal(&line[8..12]) as usize,
+            low: hexadecimal(&line[13..21]),
+            high: hexadecimal(&line[22..30]),
+            size: hexadecimal(&line[31..35]) as usize,
+        }
+    }
+}
+
+/// The records of the lines that [`list`](crate::list) answers, without an allocation.
+/// A refusal is one record of kind 0.
+pub fn records(lines: &[u8]) -> impl Iterator<Item = Record> + '_ {
+    lines.chunks_exact(LINE).map(Record::from_line)
+}
+
+/// The value of at most eight hexadecimal digits.
+fn hexadecimal(digits: &[u8]) -> u32 {
+    digits.iter().fold(0, |value, digit| {
+        let digit = char::from(*digit).to_digit(16);
+        value << 4 | digit.expect("a listing has hexadecimal digits here")
+    })
+}

@@ -1,0 +1,96 @@
+//! The typed view: records and refusals of drafts whose results document 01 gives.
+
+use togmelic::{list, read, records, Record, Refusal, MOST_BYTES};
+
+const DRAFT: &[u8] = b"fn f(){match b{true=>1,false=>2,}}";
+
+fn in_body(text: &str) -> Result<Vec<Record>, Refusal> {
+    read(format!("fn f(){{{text}}}").as_bytes())
+}
+
+fn refused(text: &str) -> (u32, usize) {
+    let refusal = in_body(text).expect_err("a refused draft");
+    (refusal.number, refusal.place)
+}
+
+#[test]
+fn example() {
+    let tree = read(DRAFT).expect("an accepted draft");
+    assert_eq!(tree.len(), 9);
+    let function = Record {
+        kind: 1,
+        start: 0,
+        end: 34,
+        low: 0,
+        high: 0,
+        size: 9,
+    };
+    assert_eq!(tree[0], function);
+    let first_arm = Record {
+        kind: 37,
+        start: 23,
+        end: 32,
+        low: 5,
+        high: 0,
+        size: 2,
+    };
+    assert_eq!(tree[5], first_arm);
+    assert_eq!(&DRAFT[tree[5].place()], b"false=>2,");
+}
+
+#[test]
+fn records_of_a_lent_buffer() {
+    let mut out = vec![0xAA; MOST_BYTES];
+    let lines = list(DRAFT, &mut out).expect("room for every draft");
+    assert_eq!(records(lines).collect::<Vec<_>>(), read(DRAFT).unwrap());
+}
+
+#[test]
+fn numbers_of_64_bits() {
+    let tree = in_body("let a:List<u8,9223372036854775808>=1;").unwrap();
+    let list_type = tree.iter().find(|record| record.kind == 12).unwrap();
+    assert_eq!((list_type.low, list_type.high), (0, 1 << 31));
+    assert_eq!(list_type.number(), 9_223_372_036_854_775_808);
+}
+
+#[test]
+fn refusals() {
+    assert_eq!(
+        read(b""),
+        Err(Refusal {
+            number: 8,
+            place: 0
+        })
+    );
+    assert_eq!(
+        read(b"/*/**/"),
+        Err(Refusal {
+            number: 4,
+            place: 0
+        })
+    );
+    assert_eq!(refused("fold::<g,3>(x)"), (9, 16));
+    assert_eq!(refused("array_fold::<g,0>(x)"), (10, 22));
+    assert_eq!(refused("match x{}"), (11, 7));
+    assert_eq!(refused("match x{true=>1,}"), (13, 7));
+    assert_eq!(refused("match x{None=>1,true=>2,}"), (14, 7));
+}
+
+#[test]
+fn refusals_in_words() {
+    let refusal = in_body("match x{}").unwrap_err();
+    assert_eq!(
+        refusal.to_string(),
+        "refusal 11 at byte 7: the match has no arms"
+    );
+}
+
+#[test]
+fn threads_do_not_disturb_each_other() {
+    let expected = read(DRAFT);
+    std::thread::scope(|scope| {
+        for _ in 0..4 {
+            scope.spawn(|| (0..200).for_each(|_| assert_eq!(read(DRAFT), expected)));
+        }
+    });
+}
