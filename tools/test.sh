@@ -1,6 +1,6 @@
 #!/usr/bin/env bash
 # All tests: generated files are what their scripts write, the layout, then `rt ci` (every crate proved, every must-fail edit refused, every
-# program run), then the comparison with the partner on the library that is built from what was proved.
+# program run), then what stands on that: the entry for C from C and from Rust, the drafts of docs/REFUSALS.md, the comparison with the partner.
 # The last line, 'N passed, 0 failed', is printed only where everything passed.
 set -euo pipefail
 cd "$(dirname "$0")/.."
@@ -32,5 +32,6 @@ last=$(tail -n 1 "$log")
 passed=$((passed + BASH_REMATCH[1]))
 
 run rt staticlib reader
+run bash tools/bindings.sh
 run bash tools/compare.sh
 echo "$passed passed, 0 failed"

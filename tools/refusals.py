@@ -1,0 +1,104 @@
+#!/usr/bin/env python3
+"""Runs every draft of docs/REFUSALS.md and compares its line with the one that the document gives.
+
+tools/refusals.py [PROGRAM]; the program lists the draft on its standard input, by default target/bin/listing.
+A section `## N: title` has drafts, each a line `Draft:` with a code span or a `sh` block that writes it, and a `text` block with its line.
+`Call:` stands for a case of crates/reader_cases, which lends `read` its buffers. `Smallest: N bytes` is the length of the next draft.
+"""
+import pathlib, re, subprocess, sys
+
+ROOT = pathlib.Path(__file__).resolve().parent.parent
+DOCUMENT = ROOT / "docs/REFUSALS.md"
+CASES = ROOT / "crates/reader_cases"
+ENTRY = re.compile(r"""^(?:
+      Smallest:[ ](?P<bytes>[\d,]+)[ ]byte
+    | Draft:(?:[ ]`(?P<span>[^`\n]+)`\n|\n\n```sh\n(?P<command>[^`]+)```\n)\n```text\n(?P<line>[^`]+)```$
+    | Call:[ ]`read`[ ]with[ ]draft[ ]`(?P<lent>[^`\n]+)`,[ ](?P<tokens>\d+)[ ]words[ ]for[ ]tokens,[ ](?P<tree>\d+)[ ]words[ ]for[ ]the[ ]tree\n\n
+      ```text\nRefused[ ]{[ ]number:[ ](?P<number>\d+),[ ]place:[ ](?P<place>\d+)[ ]}\n```$
+    )""", re.M | re.X)
+
+
+def sections():
+    """The number and the text of each section."""
+    parts = re.split(r"^## (?:(\d+): )?.*\n", DOCUMENT.read_text(encoding="ascii"), flags=re.M)
+    return [(int(number), text) for number, text in zip(parts[1::2], parts[2::2]) if number]
+
+
+def draft_fault(number, found, draft, program):
+    """What is wrong with a draft and its line, if anything."""
+    line = found["line"].encode()
+    if not re.fullmatch(rb"00 ([0-9A-F]{4}) \1 %08X 00000000 0001\n" % number, line):
+        return f"{line} is not a line of refusal {number}"
+    answer = subprocess.run([program], input=draft, check=True, capture_output=True).stdout
+    return "" if answer == line else f"{draft[:60]} of {len(draft)} bytes: the program writes {answer[:72]}, the document has {line}"
+
+
+def answers():
+    """The answer to each case, by the words of its two buffers and its draft."""
+    stream, found = (CASES / "stdin").read_bytes(), {}
+    results = re.findall(rb"^(?:accepted|refused) .*$", (CASES / "stdout").read_bytes(), re.M)
+    for result in results:
+        sizes, _, stream = stream.partition(b"\n")
+        tokens, tree, _, length = map(int, sizes.split())
+        found[tokens, tree, stream[:length]] = result
+        stream = stream[length + 1:]
+    if stream:
+        sys.exit("refusals: failed: crates/reader_cases has more cases than answers")
+    return found
+
+
+def call_fault(number, found, draft, results):
+    """What is wrong with a call of `read`, if anything."""
+    expected = b"refused %d %d zeros" % (int(found["number"]), int(found["place"]))
+    if int(found["number"]) != number:
+        return f"the call has number {found['number']}"
+    answer = results.get((int(found["tokens"]), int(found["tree"]), draft), b"no such case")
+    return "" if answer == expected else f"crates/reader_cases, {draft}: {answer}, the document has {expected}"
+
+
+def draft_of(found):
+    """The draft that an entry shows, or that its command writes."""
+    if found["command"]:
+        return subprocess.run(["sh", "-c", found["command"]], cwd=ROOT, check=True, capture_output=True).stdout
+    return (found["span"] or found["lent"]).encode()
+
+
+def section_faults(number, text, program, results):
+    """How many drafts a section has, and what is wrong with them."""
+    entries, length, faults = list(ENTRY.finditer(text)), None, []
+    for found in entries:
+        if found["bytes"]:
+            length = int(found["bytes"].replace(",", ""))
+            continue
+        draft = draft_of(found)
+        if length not in (None, len(draft)):
+            faults.append(f"the draft has {len(draft)} bytes, not {length}")
+        faults.append(draft_fault(number, found, draft, program) if found["line"] else call_fault(number, found, draft, results))
+        length = None
+    # What the pattern does not know must not go unseen.
+    sizes = sum(found["bytes"] is not None for found in entries)
+    drafts = len(entries) - sizes
+    if sizes == 0 or drafts == 0 or length is not None:
+        faults.append("no draft, or none that is said to be the smallest")
+    if sizes != text.count("Smallest:") or not drafts == len(re.findall("Draft:|Call:", text)) == text.count("```text"):
+        faults.append("a draft, its size or its line is not written as the others are")
+    return drafts, [f"refusal {number}: {fault}" for fault in faults if fault]
+
+
+def main():
+    program = pathlib.Path(sys.argv[1] if len(sys.argv) > 1 else ROOT / "target/bin/listing").resolve()
+    results, drafts, faults = answers(), 0, []
+    found = sections()
+    if [number for number, _ in found] != list(range(1, 16)):
+        faults.append(f"docs/REFUSALS.md has sections {[number for number, _ in found]}, not 1 to 15")
+    for number, text in found:
+        count, more = section_faults(number, text, program, results)
+        drafts, faults = drafts + count, faults + more
+    for fault in faults:
+        print(f"refusals: failed: {fault}")
+    print(f"refusals: {drafts} drafts")
+    sys.exit(bool(faults))
+
+
+if __name__ == "__main__":
+    main()
