@@ -219,6 +219,9 @@ def cycle(path, cyc):
 
 def single(fn):
     m0 = re.search(r"help: write \S*/proofs/" + re.escape(mod + fn) + r"/Proof\.antt with", text)
+    if not m0:
+        print(f"{fn} is left as it is: PRINTED has no skeleton of it")
+        return
     sk = "\n".join(l for l in block(m0.start()).split("\n") if not l.startswith("-- src"))
     rec, needs = load(f"{gen}/Rattle.{crate}.proofs/proofs/{mod}{fn}/Lts.antt")
     for n, pl in needs:

@@ -206,6 +206,16 @@ def add_smallest(cases):
     cases.add(SMALL, tree=17)
 
 
+def add_differences(cases):
+    """The smallest inputs of docs/DIFFERENCES.md."""
+    for draft in ("\u00e9", "\u00a0", "//\u00e9"):
+        cases.add(draft.encode())
+    for draft in ("# #", "/*/*", 9 * "match ", "fn fold(){}", "fn f(a:[u8;4294967296]){}"):
+        cases.add(draft)
+    cases.add(";", tokens=2)
+    cases.add_bodies("fold(x)", "assert(x)")
+
+
 def add_built_in_arms(cases):
     """Every two of the six built-in arms: three pairs are accepted, each both ways. One, three and none; with an enum arm."""
     heads = ("Left(a:b)", "Right(a:b)", "None", "Some(a:b)", "false", "true")
@@ -268,7 +278,7 @@ def add_random(cases):
 
 SECTIONS = (
     add_bytes_of_drafts, add_tokens, add_brackets, add_matches, add_words_lent, add_bytes_lent, add_functions, add_types, add_statements,
-    add_expressions, add_calls, add_arms, add_enum_arms, add_smallest, add_built_in_arms, add_orders, add_wrong_shapes, add_random,
+    add_expressions, add_calls, add_arms, add_enum_arms, add_smallest, add_differences, add_built_in_arms, add_orders, add_wrong_shapes, add_random,
 )
 
 

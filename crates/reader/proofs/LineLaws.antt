@@ -7,9 +7,15 @@ use native.Mathlib.Omega.{arith}
 use native.Mathlib.Nat.{add-zero}
 use lib.ListN.{length, getD, set, drop, length-append, length-set}
 use lib.Seq.{sets, length-sets, set-comm, append-snoc, getD-drop}
+use Rattle.text.specs.Ascii.{ascii, asciiFrom}
 use Rattle.own.specs.Tree.{Rec}
 use Rattle.own.specs.Words.{recs}
 use Rattle.grammar.specs.Lines.{upperHex, hex, line, lines, hex-length, line-length, lines-length}
+
+-- The digits that are lent, computed once.
+pub digits-held : (48 ∷ 49 ∷ 50 ∷ 51 ∷ 52 ∷ 53 ∷ 54 ∷ 55 ∷ 56 ∷ 57 ∷ 65 ∷ 66 ∷ 67 ∷ 68 ∷ 69 ∷ 70 ∷ []) ≡ upperHex
+unfolding upperHex ascii asciiFrom
+digits-held = refl
 
 -- one after the other
 pub sets-append : (a b l : List ℕ) (i : ℕ) → sets l i (a ++ b) ≡ sets (sets l i a) (i + length a) b

@@ -45,7 +45,8 @@ fn refusal(out: &mut [u8], number: u32, place: usize) -> usize
         return 0;
     }
     let p = (place % 65536) as u32;
-    lines::line(out, 0, 0, p, p, number, 0, 1);
+    let digits = lines::DIGITS;
+    lines::line(&digits, out, 0, 0, p, p, number, 0, 1);
     36
 }
 

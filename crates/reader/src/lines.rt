@@ -7,35 +7,20 @@ ghost use lib.Seq.{sets};
 ghost use Rattle.own.specs.Words.{recs};
 ghost use Rattle.grammar.specs.Lines as spec;
 
-// The upper-case hexadecimal digits.
-const DIGITS: [u8; 16] = [
-    48,
-    49,
-    50,
-    51,
-    52,
-    53,
-    54,
-    55,
-    56,
-    57,
-    65,
-    66,
-    67,
-    68,
-    69,
-    70,
-];
+// The upper-case hexadecimal digits. They are held once and lent on, since a constant that is read is laid out anew at each read.
+pub(crate) const DIGITS: [u8; 16] = *b"0123456789ABCDEF";
 
 // The last hexadecimal digit of v.
-fn digit(v: u32) -> u8
+fn digit(digits: &[u8; 16], v: u32) -> u8
+    requires { ⌜ now digits ≡ spec.upperHex ⌝ }
     ensures { λ r. ⌜ r ≡ getD spec.upperHex (v % 16) 0 ⌝ }
 {
-    DIGITS[(v % 16) as usize]
+    digits[(v % 16) as usize]
 }
 
 // Writes the last n hexadecimal digits of v from `at` on.
-fn hex(out: &mut [u8], at: usize, n: usize, v: u32)
+fn hex(digits: &[u8; 16], out: &mut [u8], at: usize, n: usize, v: u32)
+    requires { ⌜ now digits ≡ spec.upperHex ⌝ }
     requires { ⌜ at + n ≤ length (now out) ⌝ }
     ensures { λ _. ⌜ now (out .exit) ≡ sets (now (out .entry)) at (spec.hex n v) ⌝ }
 {
@@ -43,22 +28,24 @@ fn hex(out: &mut [u8], at: usize, n: usize, v: u32)
     let mut w = v;
     while 0 < i {
         i -= 1;
-        out[at + i] = digit(w);
+        out[at + i] = digit(digits, w);
         w = w / 16;
     }
 }
 
 // Writes a number in n digits, and one byte after it.
-fn field(out: &mut [u8], at: usize, n: usize, v: u32, after: u8)
+fn field(digits: &[u8; 16], out: &mut [u8], at: usize, n: usize, v: u32, after: u8)
+    requires { ⌜ now digits ≡ spec.upperHex ⌝ }
     requires { ⌜ at + n < length (now out) ⌝ }
     ensures { λ _. ⌜ now (out .exit) ≡ sets (now (out .entry)) at (spec.hex n v ++ (after ∷ [])) ⌝ }
 {
-    hex(out, at, n, v);
+    hex(digits, out, at, n, v);
     out[at + n] = after;
 }
 
 // Writes the line of a record.
 pub(crate) fn line(
+    digits: &[u8; 16],
     out: &mut [u8],
     at: usize,
     kind: u32,
@@ -68,15 +55,17 @@ pub(crate) fn line(
     high: u32,
     size: u32,
 )
+    requires { ⌜ now digits ≡ spec.upperHex ⌝ }
     requires { ⌜ at + 36 ≤ length (now out) ⌝ }
     ensures { λ _. ⌜ now (out .exit) ≡ sets (now (out .entry)) at (spec.line (record { kind = kind; start = start; stop = end; low = low; high = high; size = size })) ⌝ }
 {
-    field(out, at, 2, kind, b' ');
-    field(out, at + 3, 4, start, b' ');
-    field(out, at + 8, 4, end, b' ');
-    field(out, at + 13, 8, low, b' ');
-    field(out, at + 22, 8, high, b' ');
-    field(out, at + 31, 4, size, b'\n');
+    let last = at + 31;
+    field(digits, out, at, 2, kind, b' ');
+    field(digits, out, at + 3, 4, start, b' ');
+    field(digits, out, at + 8, 4, end, b' ');
+    field(digits, out, at + 13, 8, low, b' ');
+    field(digits, out, at + 22, 8, high, b' ');
+    field(digits, out, last, 4, size, b'\n');
 }
 
 // Writes the lines of the first records of a tree buffer.
@@ -85,10 +74,12 @@ pub(crate) fn lines(out: &mut [u8], tree: &[u32], records: usize)
     requires { ⌜ 36 * records ≤ length (now out) ⌝ }
     ensures { λ _. ⌜ now (out .exit) ≡ sets (now (out .entry)) 0 (spec.lines (recs records (now (tree .entry)))) ⌝ }
 {
+    let digits = DIGITS;
     let mut i = 0;
     while i < records {
         let w = 6 * i;
         line(
+            &digits,
             out,
             36 * i,
             tree[w],

@@ -12,8 +12,11 @@ use Rattle.turn.proofs.rotate.Tie as tie
 as-it-is : (l : List ℕ) (k : ℕ) → length l ≤ k → l ≡ drop k l ++ take k l
 as-it-is l k h = sym (take-all k l h) ∙ ap (λ x. x ++ take k l) (sym (drop-of-length-le l h))
 
-turned-requires : tie.Need-turned-requires
-turned-requires c κs = search needs
+sub-parted : tie.Need-sub-parted
+sub-parted c = search needs
+
+parted-requires : tie.Need-parted-requires
+parted-requires c κs = search needs
 
 same-length : tie.Need-same-length
 same-length c = search needs
@@ -25,4 +28,4 @@ returns-2 : tie.Need-returns-2
 returns-2 c = as-it-is _ _ (c .if1 .left)
 
 pub rotate-spec : {M : Type 1} → statement M
-rotate-spec = tie.close (tie.spec turned-requires same-length returns returns-2)
+rotate-spec = tie.close (tie.spec sub-parted parted-requires same-length returns returns-2)

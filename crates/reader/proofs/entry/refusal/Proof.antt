@@ -8,7 +8,7 @@ use lib.Seq.{sets}
 use Rattle.own.specs.Words.{recs}
 use Rattle.grammar.specs.Answer as answers
 use Rattle.grammar.specs.Lines as spec
-use Rattle.reader.proofs.LineLaws.{lines-long}
+use Rattle.reader.proofs.LineLaws.{digits-held, lines-long}
 use Rattle.reader.proofs.EntryLaws as law
 use borrow.Author.Needs.{needs}
 use Rattle.reader.proofs.entry.refusal.Statement.{statement}
@@ -31,7 +31,7 @@ cast-p c =
 
 line-requires : tie.Need-line-requires
 line-requires c κs =
-    search needs
+    (digits-held, omega (arith, c .before .before .if1 .left))
 
 same-length : tie.Need-same-length
 same-length c =
@@ -39,11 +39,11 @@ same-length c =
 
 returns-2 : tie.Need-returns-2
 returns-2 c =
-    let o = c .before .before .before .before .before .before .args .out .now in
-    let n = c .before .before .before .before .before .before .args .number in
-    let p = c .before .before .before .before .before .before .args .place in
+    let o = c .before .before .before .before .before .before .before .args .out .now in
+    let n = c .before .before .before .before .before .before .before .args .number in
+    let p = c .before .before .before .before .before .before .before .args .place in
     let k = law.refusal-long n p in
-    law.in-room o (spec.lines (spec.listed (answers.refused n p) [])) (c .before .before .before .before .before .before .pre) (c .before .before .line .ensures ∙ ap (sets o 0) (law.refusal-is n p)) k (omega (arith, k, c .before .before .before .before .if1 .left))
+    law.in-room o (spec.lines (spec.listed (answers.refused n p) [])) (c .before .before .before .before .before .before .before .pre) (c .before .before .line .ensures ∙ ap (sets o 0) (law.refusal-is n p)) k (omega (arith, k, c .before .before .before .before .before .if1 .left))
 
 pub refusal-spec : {M : Type 1} → statement M
 refusal-spec = tie.close (tie.spec returns cast-p line-requires same-length returns-2)

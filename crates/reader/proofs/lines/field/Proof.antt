@@ -1,8 +1,11 @@
 -- Made by tools/cycle.py from tools/parse_answers: the answers are what people read and edit.
 -- Assumes nothing.
 use native.Mathlib.Omega.{arith}
-use Prim.Native.Nat.{_-_}
-use Rattle.reader.proofs.LineLaws.{field-is, line-is, Listing, listing-start, listing-more, listing-end}
+use mathlib.Core.List.{List}
+use mathlib.Core.Path.{ap}
+use Prim.Native.Nat.{ℕ, _-_, _%_}
+use lib.ListN.{getD}
+use Rattle.reader.proofs.LineLaws.{digits-held, Digits, digits-start, digits-more, digits-end, field-is, line-is, Listing, listing-start, listing-more, listing-end}
 use borrow.Author.Needs.{needs}
 use Rattle.reader.proofs.lines.field.Statement.{statement}
 use Rattle.reader.proofs.lines.field.Tie as tie

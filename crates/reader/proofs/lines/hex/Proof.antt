@@ -1,43 +1,59 @@
--- The loop writes the last digit that is left.
+-- Made by tools/cycle.py from tools/parse_answers: the answers are what people read and edit.
 -- Assumes nothing.
 use borrow.Author.Needs.{needs}
 use native.Mathlib.Omega.{arith}
-use Rattle.reader.proofs.LineLaws.{Digits, digits-start, digits-more, digits-end}
+use mathlib.Core.List.{List}
+use mathlib.Core.Path.{ap}
+use Prim.Native.Nat.{ℕ, _-_, _%_}
+use lib.ListN.{getD}
+use Rattle.reader.proofs.LineLaws.{digits-held, Digits, digits-start, digits-more, digits-end, field-is, line-is, Listing, listing-start, listing-more, listing-end}
 use Rattle.reader.proofs.lines.hex.Statement.{statement}
 use Rattle.reader.proofs.lines.hex.Tie as tie
+use Rattle.reader.proofs.lines.hex.Reads as reads
+use Rattle.reader.proofs.lines.hex.Lts as lts
+use Rattle.reader.proofs.lines.digit.Reads as digit-reads
 
 abbrev Inv-loop : tie.InvT-loop
-Inv-loop out₀ at n v i₀ w₀ out i w = Digits out₀ at n v out i w
+Inv-loop digits out₀ at n v i₀ w₀ out i w = Digits out₀ at n v out i w
 
 abbrev μ-loop : tie.MeasureT-loop
-μ-loop out₀ at n v i₀ w₀ out i w = i
+μ-loop digits out₀ at n v i₀ w₀ out i w = i
 
 loop-holds : tie.Need-loop-holds Inv-loop μ-loop
-loop-holds c = digits-start _ _ _ _
+loop-holds c =
+    digits-start _ _ _ _
 
 sub-i : tie.Need-sub-i Inv-loop μ-loop
-sub-i c = search needs
+sub-i c =
+    search needs
 
 digit-requires : tie.Need-digit-requires Inv-loop μ-loop
-digit-requires c κs = search needs
+digit-requires c κs =
+    c .before .before .before .pre .0
 
 add-out : tie.Need-add-out Inv-loop μ-loop
-add-out c = search needs
+add-out c =
+    search needs
 
 slice-write-out : tie.Need-slice-write-out Inv-loop μ-loop
-slice-write-out c = search needs
+slice-write-out c =
+    search needs
 
 loop-less : tie.Need-loop-less Inv-loop μ-loop
-loop-less c = search needs
+loop-less c =
+    search needs
 
 loop-again : tie.Need-loop-again Inv-loop μ-loop
-loop-again c = digits-more (c .before .before .loop .inv) (c .digit .ensures) (c .before .loop-test .taken)
+loop-again c =
+    digits-more (c .before .before .loop .inv) (c .digit .ensures) (c .before .loop-test .taken)
 
 same-length : tie.Need-same-length Inv-loop μ-loop
-same-length c = c .before .loop .inv .long
+same-length c =
+    c .before .loop .inv .long
 
 returns : tie.Need-returns Inv-loop μ-loop
-returns c = digits-end (c .before .loop .inv) (omega arith)
+returns c =
+    digits-end (c .before .loop .inv) (omega arith)
 
 pub hex-spec : {M : Type 1} → statement M
 hex-spec =

@@ -1,14 +1,21 @@
 -- Made by tools/cycle.py from tools/parse_answers: the answers are what people read and edit.
 -- Assumes nothing.
 use native.Mathlib.Omega.{arith}
-use Prim.Native.Nat.{_-_}
-use Rattle.reader.proofs.LineLaws.{field-is, line-is, Listing, listing-start, listing-more, listing-end}
+use mathlib.Core.List.{List}
+use mathlib.Core.Path.{ap}
+use Prim.Native.Nat.{ℕ, _-_, _%_}
+use lib.ListN.{getD}
+use Rattle.reader.proofs.LineLaws.{digits-held, Digits, digits-start, digits-more, digits-end, field-is, line-is, Listing, listing-start, listing-more, listing-end}
 use borrow.Author.Needs.{needs}
 use Rattle.reader.proofs.lines.line.Statement.{statement}
 use Rattle.reader.proofs.lines.line.Tie as tie
 use Rattle.reader.proofs.lines.line.Reads as reads
 use Rattle.reader.proofs.lines.line.Lts as lts
 use Rattle.reader.proofs.lines.field.Reads as field-reads
+
+add-last : tie.Need-add-last
+add-last c =
+    search needs
 
 field-requires : tie.Need-field-requires
 field-requires c κs =
@@ -20,7 +27,7 @@ add-field c =
 
 field-requires-2 : tie.Need-field-requires-2
 field-requires-2 c κs =
-    search needs
+    (c .before .before .before .before .before .before .pre .0, omega (arith, c .before .before .before .before .before .before .pre .1, c .before .before .before .field .kept .1 .0))
 
 add-field-2 : tie.Need-add-field-2
 add-field-2 c =
@@ -28,31 +35,52 @@ add-field-2 c =
 
 field-requires-3 : tie.Need-field-requires-3
 field-requires-3 c κs =
-    search needs
+    (c .before .before .before .before .before .before .before .before .before .before .pre .0, omega (arith, c .before .before .before .before .before .before .before .before .before .before .pre .1, c .before .before .before .before .before .before .before .field .kept .1 .0, c .before .before .before .field2 .kept .1 .0))
 
 add-field-3 : tie.Need-add-field-3
 add-field-3 c =
     search needs
 
 field-requires-4 : tie.Need-field-requires-4
-field-requires-4 c κs =
-    search needs
+field-requires-4 c κs = (
+  c .before .before .before .before .before .before .before .before .before .before .before .before .before .before .pre .0,
+  omega
+      (arith, c .before .before .before .before .before .before .before .before .before .before .before .before .before .before .pre .1, c .before .before .before .before .before .before .before .before .before .before .before .field .kept .1 .0, c .before .before .before .before .before .before .before .field2 .kept .1 .0, c .before .before .before .field3 .kept .1 .0),
+)
 
 add-field-4 : tie.Need-add-field-4
 add-field-4 c =
     search needs
 
 field-requires-5 : tie.Need-field-requires-5
-field-requires-5 c κs =
-    search needs
-
-add-field-5 : tie.Need-add-field-5
-add-field-5 c =
-    search needs
+field-requires-5 c κs = (
+  c .before .before .before .before .before .before .before .before .before .before .before .before .before .before .before .before .before .before .pre .0,
+  omega (
+    arith,
+    c .before .before .before .before .before .before .before .before .before .before .before .before .before .before .before .before .before .before .pre .1,
+    c .before .before .before .before .before .before .before .before .before .before .before .before .before .before .before .field .kept .1 .0,
+    c .before .before .before .before .before .before .before
+        .before .before .before .before .field2 .kept .1 .0,
+    c .before .before .before .before .before .before .before .field3 .kept .1 .0,
+    c .before .before .before .field4 .kept .1 .0,
+  ),
+)
 
 field-requires-6 : tie.Need-field-requires-6
-field-requires-6 c κs =
-    search needs
+field-requires-6 c κs = (
+  c .before .before .before .before .before .before .before .before .before .before .before .before .before .before .before .before .before .before .before .before .before .before .pre .0,
+  omega (
+    arith,
+    c .before .before .before .before .before .before .before .before .before .before .before .before .before .before .before .before .before .before .before .before .before .before .pre .1,
+    c .before .before .before .before .before .before .before .before .before .before .before .before .before .before .before .before .before .before .before .field .kept .1
+        .0,
+    c .before .before .before .before .before .before .before .before .before .before .before .before .before .before .before .field2 .kept .1 .0,
+    c .before .before .before .before .before .before .before .before .before .before .before .field3 .kept .1 .0,
+    c .before .before .before .before .before .before .before .field4 .kept .1 .0,
+    c .before .before .before
+        .field5 .kept .1 .0,
+  ),
+)
 
 same-length : tie.Need-same-length
 same-length c =
@@ -75,6 +103,7 @@ pub line-spec : {M : Type 1} → statement M
 line-spec =
     tie.close
     (tie.spec
+    add-last
     field-requires
     add-field
     field-requires-2
@@ -84,7 +113,6 @@ line-spec =
     field-requires-4
     add-field-4
     field-requires-5
-    add-field-5
     field-requires-6
     same-length
     returns)

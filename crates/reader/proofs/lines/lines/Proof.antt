@@ -2,8 +2,11 @@
 -- Assumes nothing.
 use borrow.Author.Needs.{needs}
 use native.Mathlib.Omega.{arith}
-use Prim.Native.Nat.{_-_}
-use Rattle.reader.proofs.LineLaws.{field-is, line-is, Listing, listing-start, listing-more, listing-end}
+use mathlib.Core.List.{List}
+use mathlib.Core.Path.{ap}
+use Prim.Native.Nat.{ℕ, _-_, _%_}
+use lib.ListN.{getD}
+use Rattle.reader.proofs.LineLaws.{digits-held, Digits, digits-start, digits-more, digits-end, field-is, line-is, Listing, listing-start, listing-more, listing-end}
 use Rattle.reader.proofs.lines.lines.Statement.{statement}
 use Rattle.reader.proofs.lines.lines.Tie as tie
 use Rattle.reader.proofs.lines.lines.Reads as reads
@@ -11,10 +14,10 @@ use Rattle.reader.proofs.lines.lines.Lts as lts
 use Rattle.reader.proofs.lines.line.Reads as line-reads
 
 abbrev Inv-loop : tie.InvT-loop
-Inv-loop out₀ tree records i₀ out i = Listing out₀ tree records out i
+Inv-loop out₀ tree records digits i₀ out i = Listing out₀ tree records out i
 
 abbrev μ-loop : tie.MeasureT-loop
-μ-loop out₀ tree records i₀ out i = records - i
+μ-loop out₀ tree records digits i₀ out i = records - i
 
 loop-holds : tie.Need-loop-holds Inv-loop μ-loop
 loop-holds c =
@@ -98,7 +101,7 @@ shared-slice-read-line-6 c =
 
 line-requires : tie.Need-line-requires Inv-loop μ-loop
 line-requires c κs =
-    search needs
+    (digits-held, omega (arith, c .before .before .before .before .before .before .before .before .before .before .before .before .pre .1, c .before .before .before .before .before .before .before .before .before .loop .inv .long, c .before .before .before .before .before .before .before .before .loop-test .taken))
 
 add-i : tie.Need-add-i Inv-loop μ-loop
 add-i c =
@@ -110,7 +113,7 @@ loop-less c =
 
 loop-again : tie.Need-loop-again Inv-loop μ-loop
 loop-again c =
-    listing-more (c .before .before .before .before .before .before .before .before .before .before .before .loop .inv) (c .before .before .before .before .before .before .before .before .before .before .loop-test .taken) (c .before .before .line .ensures)
+    listing-more (c .before .before .before .before .before .before .before .before .before .before .before .before .loop .inv) (c .before .before .before .before .before .before .before .before .before .before .before .loop-test .taken) (c .before .before .line .ensures)
 
 same-length : tie.Need-same-length Inv-loop μ-loop
 same-length c =
