@@ -94,20 +94,22 @@ records-fit draft tree tw rw n m a e =
     let s = a .records-number in
     omega (arith, ap length e ∙ law-4-lengths draftLimits draft tw rw .1)
 
-module _ (draft text : List ℕ) {o : List ℕ} (tw rw size k : ℕ) {r : ℕ} (et : tw ≡ 6144) (er : rw ≡ 12288) (ek : k ≡ size) (u : r ≡ used text k) (b : o ≡ padded text k) where
-  is-listed : text ≡ listing draftLimits draft tw rw → (r ≡ usedOf draft size) × (o ≡ bytesOf draft size)
-  unfolding usedOf bytesOf
-  is-listed e =
-      let f : text ≡ listingOf draft = e ∙ ap₂ (λ (x y : ℕ). listing draftLimits draft x y) et er in
-      (u ∙ ap₂ (λ (x : List ℕ) (y : ℕ). used x y) f ek, b ∙ ap₂ (λ (x : List ℕ) (y : ℕ). padded x y) f ek)
+-- What is handed over of a text that is the listing,
+is-listed : (text : List ℕ) {o listed : List ℕ} (k : ℕ) {r : ℕ} → r ≡ used text k → o ≡ padded text k → text ≡ listed → (r ≡ used listed k) × (o ≡ padded listed k)
+is-listed text k u b e = (u ∙ ap (λ (x : List ℕ). used x k) e, b ∙ ap (λ (x : List ℕ). padded x k) e)
 
--- What is handed over of an accepted draft, and of a refusal.
-pub accepted-is : (draft tree : List ℕ) {o : List ℕ} (tw rw n m size k : ℕ) {r : ℕ} → tw ≡ 6144 → rw ≡ 12288 → k ≡ size → r ≡ used (lines (recs m tree)) k → o ≡ padded (lines (recs m tree)) k
-    → Accepted draftLimits draft tw rw n m → tree ≡ treeBuffer draftLimits draft tw rw → (r ≡ usedOf draft size) × (o ≡ bytesOf draft size)
-accepted-is draft tree tw rw n m size k et er ek u b a e =
-    is-listed draft (lines (recs m tree)) tw rw size k et er ek u b (ap (λ (w : List ℕ). lines (recs m w)) e ∙ accepted-listing draftLimits draft tw rw n m a)
+-- of an accepted draft, and of a refusal,
+pub accepted-is : (draft tree : List ℕ) {o : List ℕ} (tw rw n m k : ℕ) {r : ℕ} → r ≡ used (lines (recs m tree)) k → o ≡ padded (lines (recs m tree)) k
+    → Accepted draftLimits draft tw rw n m → tree ≡ treeBuffer draftLimits draft tw rw
+    → (r ≡ used (listing draftLimits draft tw rw) k) × (o ≡ padded (listing draftLimits draft tw rw) k)
+accepted-is draft tree tw rw n m k u b a e =
+    is-listed (lines (recs m tree)) k u b (ap (λ (w : List ℕ). lines (recs m w)) e ∙ accepted-listing draftLimits draft tw rw n m a)
 
-pub refused-is : (draft : List ℕ) {o : List ℕ} (tw rw c p size k : ℕ) {r : ℕ} → tw ≡ 6144 → rw ≡ 12288 → k ≡ size → r ≡ used (lines (listed (refused c p) [])) k
-    → o ≡ padded (lines (listed (refused c p) [])) k → Refusal draftLimits draft tw rw c p → (r ≡ usedOf draft size) × (o ≡ bytesOf draft size)
-refused-is draft tw rw c p size k et er ek u b a =
-    is-listed draft (lines (listed (refused c p) [])) tw rw size k et er ek u b (refused-listing draftLimits draft tw rw c p a)
+pub refused-is : (draft : List ℕ) {o : List ℕ} (tw rw c p k : ℕ) {r : ℕ} → r ≡ used (lines (listed (refused c p) [])) k → o ≡ padded (lines (listed (refused c p) [])) k
+    → Refusal draftLimits draft tw rw c p → (r ≡ used (listing draftLimits draft tw rw) k) × (o ≡ padded (listing draftLimits draft tw rw) k)
+refused-is draft tw rw c p k u b a = is-listed (lines (listed (refused c p) [])) k u b (refused-listing draftLimits draft tw rw c p a)
+
+-- and by way of any buffers that give the draft's listing.
+pub whole-is : (draft text : List ℕ) {o : List ℕ} (size k : ℕ) {r : ℕ} → text ≡ listingOf draft → k ≡ size → r ≡ used text k → o ≡ padded text k → (r ≡ usedOf draft size) × (o ≡ bytesOf draft size)
+unfolding usedOf bytesOf
+whole-is draft text size k f ek u b = (u ∙ ap₂ (λ (x : List ℕ) (y : ℕ). used x y) f ek, b ∙ ap₂ (λ (x : List ℕ) (y : ℕ). padded x y) f ek)

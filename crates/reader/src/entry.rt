@@ -3,6 +3,7 @@ ghost use mathlib.Core.Path.{_≡_};
 ghost use mathlib.Core.List.{[]};
 ghost use Prim.Native.Nat.{_*_, _≤_};
 ghost use lib.ListN.{length, replicate};
+ghost use Rattle.lexer.specs.Limits.{draftLimits};
 ghost use Rattle.own.specs.Words.{recs};
 ghost use Rattle.grammar.specs.Answer.{refused};
 ghost use Rattle.grammar.specs.Lines as spec;
@@ -50,18 +51,33 @@ fn refusal(out: &mut [u8], number: u32, place: usize) -> usize
     36
 }
 
-// Lists a draft: 36 bytes a line, zeros behind them; 0 and zeros alone if the buffer is too short for them.
+// Lists a draft into zeros, by way of these buffers for its tokens and its tree.
+fn list_by(draft: &[u8], out: &mut [u8], tokens: &mut [u32], tree: &mut [u32]) -> usize
+    requires { ⌜ now out ≡ replicate (length (now out)) 0 ⌝ }
+    ensures used { λ r. ⌜ r ≡ used (spec.listing draftLimits (now (draft .entry)) (length (now (tokens .entry))) (length (now (tree .entry)))) (length (now (out .entry))) ⌝ }
+    ensures bytes { λ _. ⌜ now (out .exit) ≡ padded (spec.listing draftLimits (now (draft .entry)) (length (now (tokens .entry))) (length (now (tree .entry)))) (length (now (out .entry))) ⌝ }
+{
+    let reading = crate::read(draft, tokens, tree);
+    match reading {
+        Reading::Accepted { tokens: _, records } => accepted(out, tree, records),
+        Reading::Refused { number, place } => refusal(out, number, place),
+    }
+}
+
+// Lists a draft: 36 bytes a line, zeros behind them; 0 and zeros alone if the buffer is too short for them. A short draft has no more tokens than
+// bytes, and no more records than tokens: smaller buffers give the same, and take less time to clear.
 #[no_mangle]
 pub extern "C" fn togmelic_list(draft: &[u8], out: &mut [u8]) -> usize
     ensures used { λ r. ⌜ r ≡ usedOf (now (draft .entry)) (length (now (out .entry))) ⌝ }
     ensures bytes { λ _. ⌜ now (out .exit) ≡ bytesOf (now (draft .entry)) (length (now (out .entry))) ⌝ }
 {
     clear(out);
+    if draft.len() <= 512 {
+        let mut tokens = [0u32; 1536];
+        let mut tree = [0u32; 3072];
+        return list_by(draft, out, &mut tokens, &mut tree);
+    }
     let mut tokens = [0u32; 6144];
     let mut tree = [0u32; 12288];
-    let reading = crate::read(draft, &mut tokens, &mut tree);
-    match reading {
-        Reading::Accepted { tokens: _, records } => accepted(out, &tree, records),
-        Reading::Refused { number, place } => refusal(out, number, place),
-    }
+    list_by(draft, out, &mut tokens, &mut tree)
 }
