@@ -67,7 +67,17 @@ told (accepted n m) (buffers x y) rs bytes tb rb = buffers tb rb
 
 -- What the definitions say of a draft.
 unfoldable pub defined : Case → Result
-unfolding ascii asciiFrom partOf same FUNCTION_RESERVED KEYWORDS MACROS MODULE_RESERVED RULE_NAMES BOOLEANS RULE_WORDS find wordOf among whitespace lineEnds plainBytes binaryDigits decimalDigits hexDigits underscore nameStarts nameBytes run begins lexeme.space lexeme.comment lexeme.lineComment lexeme.inside lexeme.closing lexeme.blockComment lexeme.nameLength lexeme.qualified lexeme.macro lexeme.word lexeme.digits lexeme.hexadecimal lexeme.binary lexeme.decimal lexeme.marks lexeme.mark lexeme.noLexeme lexeme.lexeme lexeme.lexemesFrom lexeme.lexemes class.classOf depthAfter rowAfter tooDeep room lexedOf look row alt pick choose kindsOf sortOf ex thenWord thenRest thenSub exec saves need judge parse BOOL UINT_TYPES BUILTIN_ALIASES digits.plain decimalFrom fitted numberOf powerUpTo boundOk sizeOk yield partner canonical turned has count span counted classOf shapes table means shapeOf lowHalf highHalf reads sees opening nameCount partCount lone unended placeIn builtinType unsignedType boolType typeName patternName literalHead functionHead callHead wrapperHead calledHead aloneHead nameHead armHead headOf forms formOf roleOf placed arranged textOf firstTok firstOf decimal headFor recorded recordItems top recordTree unless armLows mates armsFault faultsAt faults earlier earliest faultOf classesOf toksOf startOf reading answer recordsRead returned upperHex hex line refusalRec lines listing tokenWords tokenBuffer treeBuffer
+unfolding ascii asciiFrom partOf same FUNCTION_RESERVED KEYWORDS MACROS MODULE_RESERVED RULE_NAMES BOOLEANS RULE_WORDS find wordOf among whitespace
+    lineEnds plainBytes binaryDigits decimalDigits hexDigits underscore nameStarts nameBytes run begins lexeme.space lexeme.comment
+    lexeme.lineComment lexeme.inside lexeme.closing lexeme.blockComment lexeme.nameLength lexeme.qualified lexeme.macro lexeme.word lexeme.digits
+    lexeme.hexadecimal lexeme.binary lexeme.decimal lexeme.marks lexeme.mark lexeme.noLexeme lexeme.lexeme lexeme.lexemesFrom lexeme.lexemes
+    class.classOf depthAfter rowAfter tooDeep room lexedOf look row alt pick choose kindsOf sortOf ex thenWord thenRest thenSub exec saves need
+    judge parse BOOL UINT_TYPES BUILTIN_ALIASES digits.plain decimalFrom fitted numberOf powerUpTo boundOk sizeOk yield partner canonical turned has
+    count span counted classOf shapes table means shapeOf lowHalf highHalf reads sees opening nameCount partCount lone unended placeIn builtinType
+    unsignedType boolType typeName patternName literalHead functionHead callHead wrapperHead calledHead aloneHead nameHead armHead headOf forms
+    formOf roleOf placed arranged textOf firstTok firstOf decimal headFor recorded recordItems top recordTree unless armLows mates armsFault
+    faultsAt faults earlier earliest faultOf classesOf toksOf startOf reading answer recordsRead returned upperHex hex line refusalRec lines listing
+    tokenWords tokenBuffer treeBuffer
 defined k =
     let l = k .limits in
     let tw = k .tokenSpace in

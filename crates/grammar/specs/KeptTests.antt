@@ -79,5 +79,8 @@ pub record Tests (n : ℕ) : Type 0 where
 
 -- They pass, by computation.
 pub tests : (n : ℕ) → Tests n
-unfolding shapes seen partShapes both kindsIn bodyShape exactIn formIn formsOf forms fixed counts some all variants pairs rowIn atomIn manyIn shapeIn pieceIn tokenIn marksOf isPart kindsOf onlyKinds roleOf has span count doubled fits free freeOf sure isThe lacks hasParts loneRow crowdedRow unroll judge opened lonelyRow literalRow typeRow patternRow allBelow functionCase functionRow angledRow armRow placeIn literalHead callHead wrapperHead aloneHead wrapsRow callsRow genericRow pathRow parensRow aloneRow plainRow nameRow nameRows foldNumber
+unfolding shapes seen partShapes both kindsIn bodyShape exactIn formIn formsOf forms fixed counts some all variants pairs rowIn atomIn manyIn
+    shapeIn pieceIn tokenIn marksOf isPart kindsOf onlyKinds roleOf has span count doubled fits free freeOf sure isThe lacks hasParts loneRow
+    crowdedRow unroll judge opened lonelyRow literalRow typeRow patternRow allBelow functionCase functionRow angledRow armRow placeIn literalHead
+    callHead wrapperHead aloneHead wrapsRow callsRow genericRow pathRow parensRow aloneRow plainRow nameRow nameRows foldNumber
 tests n = record { parameter = tt; tuple-type = tt; tuple-pattern = tt; array-pattern = tt; assignment = tt; array = tt; list = tt; function = tt; either-type = tt; option-type = tt; list-type = tt; type-name = tt; array-type = tt; pattern-name = tt; literal = tt; parens = tt; simple-call = tt; cast-call = tt; named = tt; bare = tt; typed = tt; for-while = tt; folding = tt; arm = tt }

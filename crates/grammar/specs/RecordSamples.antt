@@ -68,7 +68,15 @@ handed show draft ts (stuck p) = []
 
 -- The records of a draft; it opens all that it computes with.
 unfoldable pub recordsOf : (Rec → List ℕ) → String → List (List ℕ)
-unfolding classed toksOf classes judged handed ascii asciiFrom partOf same KEYWORDS MACROS MODULE_RESERVED RULE_WORDS RULE_NAMES FUNCTION_RESERVED BOOLEANS BOOL UINT_TYPES BUILTIN_ALIASES find wordOf digits.plain decimalFrom fitted numberOf powerUpTo boundOk sizeOk among whitespace lineEnds plainBytes binaryDigits decimalDigits hexDigits underscore nameStarts nameBytes run begins lex.space lex.comment lex.lineComment lex.inside lex.closing lex.blockComment lex.nameLength lex.qualified lex.macro lex.word lex.digits lex.hexadecimal lex.binary lex.decimal lex.marks lex.mark lex.noLexeme lex.lexeme lex.lexemesFrom lexemes classOf look row alt pick choose shape.kindsOf shape.sortOf shape.yield ex thenWord thenRest thenSub exec saves need judge parse partner canonical turned has count span counted shapes table means shapeOf lowHalf highHalf reads sees opening nameCount partCount lone unended placeIn builtinType unsignedType boolType typeName patternName literalHead functionHead callHead wrapperHead calledHead aloneHead nameHead armHead headOf forms formOf roleOf placed arranged textOf firstTok firstOf decimal headFor recorded recordItems top recordTree unless armLows mates armsFault faultsAt faults earlier earliest faultOf
+unfolding classed toksOf classes judged handed ascii asciiFrom partOf same KEYWORDS MACROS MODULE_RESERVED RULE_WORDS RULE_NAMES FUNCTION_RESERVED
+    BOOLEANS BOOL UINT_TYPES BUILTIN_ALIASES find wordOf digits.plain decimalFrom fitted numberOf powerUpTo boundOk sizeOk among whitespace lineEnds
+    plainBytes binaryDigits decimalDigits hexDigits underscore nameStarts nameBytes run begins lex.space lex.comment lex.lineComment lex.inside
+    lex.closing lex.blockComment lex.nameLength lex.qualified lex.macro lex.word lex.digits lex.hexadecimal lex.binary lex.decimal lex.marks
+    lex.mark lex.noLexeme lex.lexeme lex.lexemesFrom lexemes classOf look row alt pick choose shape.kindsOf shape.sortOf shape.yield ex thenWord
+    thenRest thenSub exec saves need judge parse partner canonical turned has count span counted shapes table means shapeOf lowHalf highHalf reads
+    sees opening nameCount partCount lone unended placeIn builtinType unsignedType boolType typeName patternName literalHead functionHead callHead
+    wrapperHead calledHead aloneHead nameHead armHead headOf forms formOf roleOf placed arranged textOf firstTok firstOf decimal headFor recorded
+    recordItems top recordTree unless armLows mates armsFault faultsAt faults earlier earliest faultOf
 recordsOf show text =
     let draft = ascii text in
     let ts = toksOf draft (lexemes draft) in
@@ -244,8 +252,13 @@ expressions = refl
 pub matches : map (λ text. drop 3 (made text)) ("fn f(){match x{A::B=>1,A::C(p:u1,(q,):u2)=>{}A::D(_:T,)=>2,}}"
     ∷ "fn f(){match x{Right(a:u1)=>a,Left(b:u2)=>b,}}"
     ∷ "fn f(){match x{Some(a:T)=>1,None=>{2}}}" ∷ [])
-    ≡ ((36 ∷ 0 ∷ 0 ∷ 21 ∷ []) ∷ (29 ∷ 0 ∷ 0 ∷ 1 ∷ []) ∷ (38 ∷ 2 ∷ 0 ∷ 4 ∷ []) ∷ (2 ∷ 0 ∷ 0 ∷ 1 ∷ []) ∷ (2 ∷ 0 ∷ 0 ∷ 1 ∷ []) ∷ (24 ∷ 0 ∷ 0 ∷ 1 ∷ []) ∷ (38 ∷ 2 ∷ 2 ∷ 9 ∷ []) ∷ (2 ∷ 0 ∷ 0 ∷ 1 ∷ []) ∷ (2 ∷ 0 ∷ 0 ∷ 1 ∷ []) ∷ (13 ∷ 0 ∷ 0 ∷ 1 ∷ []) ∷ (7 ∷ 1 ∷ 0 ∷ 1 ∷ []) ∷ (15 ∷ 0 ∷ 0 ∷ 2 ∷ []) ∷ (13 ∷ 0 ∷ 0 ∷ 1 ∷ []) ∷ (7 ∷ 2 ∷ 0 ∷ 1 ∷ []) ∷ (18 ∷ 0 ∷ 0 ∷ 1 ∷ []) ∷ (38 ∷ 2 ∷ 1 ∷ 6 ∷ []) ∷ (2 ∷ 0 ∷ 0 ∷ 1 ∷ []) ∷ (2 ∷ 0 ∷ 0 ∷ 1 ∷ []) ∷ (14 ∷ 0 ∷ 0 ∷ 1 ∷ []) ∷ (4 ∷ 0 ∷ 0 ∷ 1 ∷ []) ∷ (24 ∷ 0 ∷ 0 ∷ 1 ∷ []) ∷ [])
-    ∷ ((35 ∷ 0 ∷ 0 ∷ 10 ∷ []) ∷ (29 ∷ 0 ∷ 0 ∷ 1 ∷ []) ∷ (37 ∷ 1 ∷ 0 ∷ 4 ∷ []) ∷ (13 ∷ 0 ∷ 0 ∷ 1 ∷ []) ∷ (7 ∷ 2 ∷ 0 ∷ 1 ∷ []) ∷ (29 ∷ 0 ∷ 0 ∷ 1 ∷ []) ∷ (37 ∷ 2 ∷ 0 ∷ 4 ∷ []) ∷ (13 ∷ 0 ∷ 0 ∷ 1 ∷ []) ∷ (7 ∷ 1 ∷ 0 ∷ 1 ∷ []) ∷ (29 ∷ 0 ∷ 0 ∷ 1 ∷ []) ∷ [])
-    ∷ ((35 ∷ 0 ∷ 0 ∷ 9 ∷ []) ∷ (29 ∷ 0 ∷ 0 ∷ 1 ∷ []) ∷ (37 ∷ 3 ∷ 0 ∷ 3 ∷ []) ∷ (18 ∷ 1 ∷ 0 ∷ 2 ∷ []) ∷ (24 ∷ 0 ∷ 0 ∷ 1 ∷ []) ∷ (37 ∷ 4 ∷ 0 ∷ 4 ∷ []) ∷ (13 ∷ 0 ∷ 0 ∷ 1 ∷ []) ∷ (4 ∷ 0 ∷ 0 ∷ 1 ∷ []) ∷ (24 ∷ 0 ∷ 0 ∷ 1 ∷ []) ∷ []) ∷ []
+    ≡ ((36 ∷ 0 ∷ 0 ∷ 21 ∷ []) ∷ (29 ∷ 0 ∷ 0 ∷ 1 ∷ []) ∷ (38 ∷ 2 ∷ 0 ∷ 4 ∷ []) ∷ (2 ∷ 0 ∷ 0 ∷ 1 ∷ []) ∷ (2 ∷ 0 ∷ 0 ∷ 1 ∷ []) ∷ (24 ∷ 0 ∷ 0 ∷ 1 ∷ [])
+    ∷ (38 ∷ 2 ∷ 2 ∷ 9 ∷ []) ∷ (2 ∷ 0 ∷ 0 ∷ 1 ∷ []) ∷ (2 ∷ 0 ∷ 0 ∷ 1 ∷ []) ∷ (13 ∷ 0 ∷ 0 ∷ 1 ∷ []) ∷ (7 ∷ 1 ∷ 0 ∷ 1 ∷ []) ∷ (15 ∷ 0 ∷ 0 ∷ 2 ∷ [])
+    ∷ (13 ∷ 0 ∷ 0 ∷ 1 ∷ []) ∷ (7 ∷ 2 ∷ 0 ∷ 1 ∷ []) ∷ (18 ∷ 0 ∷ 0 ∷ 1 ∷ []) ∷ (38 ∷ 2 ∷ 1 ∷ 6 ∷ []) ∷ (2 ∷ 0 ∷ 0 ∷ 1 ∷ []) ∷ (2 ∷ 0 ∷ 0 ∷ 1 ∷ [])
+    ∷ (14 ∷ 0 ∷ 0 ∷ 1 ∷ []) ∷ (4 ∷ 0 ∷ 0 ∷ 1 ∷ []) ∷ (24 ∷ 0 ∷ 0 ∷ 1 ∷ []) ∷ [])
+    ∷ ((35 ∷ 0 ∷ 0 ∷ 10 ∷ []) ∷ (29 ∷ 0 ∷ 0 ∷ 1 ∷ []) ∷ (37 ∷ 1 ∷ 0 ∷ 4 ∷ []) ∷ (13 ∷ 0 ∷ 0 ∷ 1 ∷ []) ∷ (7 ∷ 2 ∷ 0 ∷ 1 ∷ []) ∷ (29 ∷ 0 ∷ 0 ∷ 1 ∷ [])
+    ∷ (37 ∷ 2 ∷ 0 ∷ 4 ∷ []) ∷ (13 ∷ 0 ∷ 0 ∷ 1 ∷ []) ∷ (7 ∷ 1 ∷ 0 ∷ 1 ∷ []) ∷ (29 ∷ 0 ∷ 0 ∷ 1 ∷ []) ∷ [])
+    ∷ ((35 ∷ 0 ∷ 0 ∷ 9 ∷ []) ∷ (29 ∷ 0 ∷ 0 ∷ 1 ∷ []) ∷ (37 ∷ 3 ∷ 0 ∷ 3 ∷ []) ∷ (18 ∷ 1 ∷ 0 ∷ 2 ∷ []) ∷ (24 ∷ 0 ∷ 0 ∷ 1 ∷ []) ∷ (37 ∷ 4 ∷ 0 ∷ 4 ∷ [])
+    ∷ (13 ∷ 0 ∷ 0 ∷ 1 ∷ []) ∷ (4 ∷ 0 ∷ 0 ∷ 1 ∷ []) ∷ (24 ∷ 0 ∷ 0 ∷ 1 ∷ []) ∷ []) ∷ []
 unfolding recordsOf
 matches = refl

@@ -5,24 +5,13 @@ ghost use Prim.Native.Nat.{_*_, _-_, _≤_};
 ghost use lib.ListN.{length, take, replicate};
 ghost use Rattle.lexer.specs.Buffer.{putAt};
 
-// Sets every word to 0.
-pub(crate) fn clear(out: &mut [u32])
-    ensures { λ _. ⌜ now (out .exit) ≡ replicate (length (now (out .entry))) 0 ⌝ }
-{
-    let mut i = 0;
-    while i < out.len() {
-        out[i] = 0;
-        i += 1;
-    }
-}
-
 // Sets every word behind the first n tokens to 0.
 pub(crate) fn clear_behind(out: &mut [u32], n: usize)
     requires { ⌜ 3 * n ≤ length (now out) ⌝ }
     ensures { λ _. ⌜ now (out .exit) ≡ take (3 * n) (now (out .entry)) ++ replicate (length (now (out .entry)) - 3 * n) 0 ⌝ }
 {
     let at = 3 * n;
-    clear(&mut out[at..]);
+    text::clear(&mut out[at..]);
 }
 
 // Writes token number n, if it is below the room.

@@ -110,7 +110,7 @@ pub(crate) fn lex_within(draft: &[u8], out: &mut [u32], bytes: usize, tokens: us
 {
     let r = judge(draft, out, bytes, tokens);
     let Lexed::Tokens(n) = r else {
-        buffer::clear(out);
+        text::clear(out);
         return r;
     };
     Lexed::Tokens(n)

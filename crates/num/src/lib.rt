@@ -1,7 +1,7 @@
 // Digit runs: their numbers, their digit texts, and which numbers are good bounds and sizes. Port of src/num.rs.
 ghost use mathlib.Core.Path.{_≡_};
 ghost use Prim.Native.Nat.{_+_, _-_, _*_};
-ghost use lib.ListN.{length, replicate};
+ghost use lib.ListN.{length};
 ghost use Rattle.text.specs.Part.{partOf};
 ghost use Rattle.num.specs.Digits.{plain, afterBase, digitsOf, answerOf, bufferOf};
 ghost use Rattle.num.specs.Value.{fitted, numberOf};
@@ -64,23 +64,12 @@ pub fn number(draft: &[u8], start: usize, end: usize) -> Value
     run_number(text::part(draft, start, end))
 }
 
-// All zeros.
-fn clear(out: &mut [u8])
-    ensures { λ _. ⌜ now (out .exit) ≡ replicate (length (now (out .entry))) 0 ⌝ }
-{
-    let mut i: usize = 0;
-    while i < out.len() {
-        out[i] = 0;
-        i += 1;
-    }
-}
-
 // The bytes of a run without `_`, then zeros.
 fn write_plain(run: &[u8], out: &mut [u8]) -> DigitText
     ensures answer { λ r. ⌜ r ≡ answerOf (plain (now (run .entry))) (length (now (out .entry))) ⌝ }
     ensures buffer { λ _. ⌜ now (out .exit) ≡ bufferOf (plain (now (run .entry))) (length (now (out .entry))) ⌝ }
 {
-    clear(out);
+    text::clear_bytes(out);
     let mut i: usize = 0;
     let mut n: usize = 0;
     while i < run.len() {
@@ -90,7 +79,7 @@ fn write_plain(run: &[u8], out: &mut [u8]) -> DigitText
             continue;
         }
         if n == out.len() {
-            clear(out);
+            text::clear_bytes(out);
             return DigitText::Short;
         }
         out[n] = b;

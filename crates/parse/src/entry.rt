@@ -11,7 +11,6 @@ use crate::State;
 use crate::Step;
 use crate::program;
 use crate::token;
-use crate::tree;
 
 // Whether there are more tokens than there may be, or than so many words hold.
 fn too_many(most: usize, count: usize, words: usize) -> bool
@@ -105,7 +104,7 @@ pub(crate) fn parse_within(
     ensures { λ r. ⌜ r ≡ answerOf most (now (draft .entry)) (now (tokens .entry)) count (length (now (tree .entry))) ⌝ }
     ensures { λ _. ⌜ now (tree .exit) ≡ treeOf most (now (draft .entry)) (now (tokens .entry)) count (length (now (tree .entry))) ⌝ }
 {
-    tree::clear(tree);
+    text::clear(tree);
     if too_many(most, count, tokens.len()) {
         return Answer::TooMany;
     }
@@ -113,7 +112,7 @@ pub(crate) fn parse_within(
     let step = program::function(draft, tokens, count, tree, st);
     let answer = judge(draft, tokens, count, tree.len(), step);
     let Answer::Records(records) = answer else {
-        tree::clear(tree);
+        text::clear(tree);
         return answer;
     };
     Answer::Records(records)

@@ -1,20 +1,8 @@
 // The tree buffer: six words a record, written where they fit.
 ghost use mathlib.Core.Path.{_≡_};
 ghost use Prim.Native.Nat.{_-_};
-ghost use lib.ListN.{length, replicate};
 ghost use Rattle.parse.specs.Contract.{reserved, Put, Turned};
 use crate::State;
-
-// Sets every word to 0.
-pub(crate) fn clear(tree: &mut [u32])
-    ensures { λ _. ⌜ now (tree .exit) ≡ replicate (length (now (tree .entry))) 0 ⌝ }
-{
-    let mut i = 0;
-    while i < tree.len() {
-        tree[i] = 0;
-        i += 1;
-    }
-}
 
 // a - b, or 0.
 fn less(a: u32, b: u32) -> u32

@@ -11,17 +11,6 @@ ghost use Rattle.reader.specs.Listed.{used, padded, usedOf, bytesOf};
 use crate::Reading;
 use crate::lines;
 
-// Sets every byte to 0.
-fn clear(out: &mut [u8])
-    ensures { λ _. ⌜ now (out .exit) ≡ replicate (length (now (out .entry))) 0 ⌝ }
-{
-    let mut i = 0;
-    while i < out.len() {
-        out[i] = 0;
-        i += 1;
-    }
-}
-
 // Writes the lines of so many records, if they fit, and returns how many bytes they take.
 fn accepted(out: &mut [u8], tree: &[u32], records: usize) -> usize
     requires { ⌜ now out ≡ replicate (length (now out)) 0 ⌝ }
@@ -71,7 +60,7 @@ pub extern "C" fn togmelic_list(draft: &[u8], out: &mut [u8]) -> usize
     ensures used { λ r. ⌜ r ≡ usedOf (now (draft .entry)) (length (now (out .entry))) ⌝ }
     ensures bytes { λ _. ⌜ now (out .exit) ≡ bytesOf (now (draft .entry)) (length (now (out .entry))) ⌝ }
 {
-    clear(out);
+    text::clear_bytes(out);
     if draft.len() <= 512 {
         let mut tokens = [0u32; 1536];
         let mut tree = [0u32; 3072];

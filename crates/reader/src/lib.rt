@@ -1,6 +1,6 @@
 // The reader: from the bytes of a draft to its tokens and the records of its tree, or one refusal with its place.
 ghost use mathlib.Core.Path.{_≡_};
-ghost use lib.ListN.{length, replicate};
+ghost use lib.ListN.{length};
 ghost use Rattle.lexer.specs.Limits.{draftLimits, lexedOf, bufferOf};
 ghost use Rattle.lexer.specs.declared.Lexed.the-variants.{Tokens};
 ghost use Rattle.grammar.specs.Answer.{answer, tokenBuffer, treeBuffer};
@@ -16,17 +16,6 @@ pub enum Reading {
     Refused { number: u32, place: usize },
 }
 
-// Sets every word to 0.
-fn clear(out: &mut [u32])
-    ensures { λ _. ⌜ now (out .exit) ≡ replicate (length (now (out .entry))) 0 ⌝ }
-{
-    let mut i = 0;
-    while i < out.len() {
-        out[i] = 0;
-        i += 1;
-    }
-}
-
 // Reads a draft: three words a token, six words a record, zeros behind them; on a refusal every word of both buffers is 0.
 pub fn read(draft: &[u8], tokens: &mut [u32], tree: &mut [u32]) -> Reading
     ensures answer { λ r. ⌜ r ≡ handed (answer draftLimits (now (draft .entry)) (length (now (tokens .entry))) (length (now (tree .entry)))) ⌝ }
@@ -37,7 +26,7 @@ pub fn read(draft: &[u8], tokens: &mut [u32], tree: &mut [u32]) -> Reading
     let lexed = lexer::lex(draft, tokens);
     match lexed {
         Lexed::Refused { number, place } => {
-            clear(tree);
+            text::clear(tree);
             Reading::Refused { number, place }
         }
         Lexed::Tokens(count) => parsed(draft, tokens, count, tree),
@@ -59,11 +48,11 @@ fn parsed(draft: &[u8], tokens: &mut [u32], count: usize, tree: &mut [u32]) -> R
             records,
         },
         parse::Answer::Refused { number, place } => {
-            clear(tokens);
+            text::clear(tokens);
             Reading::Refused { number, place }
         }
         parse::Answer::TooMany => {
-            clear(tokens);
+            text::clear(tokens);
             Reading::Refused {
                 number: 6,
                 place: 0,

@@ -1,5 +1,6 @@
-// The text of a draft by its places.
+// The text of a draft by its places, and buffers set to zeros.
 ghost use mathlib.Core.Path.{_≡_};
+ghost use lib.ListN.{length, replicate};
 ghost use Rattle.text.specs.Part.{partOf};
 
 // The raw text of a start and an end: that part of the caller's draft, or the empty part at 0 if it is out of range.
@@ -14,5 +15,27 @@ pub fn part(draft: &[u8], start: usize, end: usize) -> &[u8]
         }
     } else {
         &draft[..0]
+    }
+}
+
+// Sets every word to 0.
+pub fn clear(out: &mut [u32])
+    ensures { λ _. ⌜ now (out .exit) ≡ replicate (length (now (out .entry))) 0 ⌝ }
+{
+    let mut i = 0;
+    while i < out.len() {
+        out[i] = 0;
+        i += 1;
+    }
+}
+
+// Sets every byte to 0.
+pub fn clear_bytes(bytes: &mut [u8])
+    ensures { λ _. ⌜ now (bytes .exit) ≡ replicate (length (now (bytes .entry))) 0 ⌝ }
+{
+    let mut i: usize = 0;
+    while i < bytes.len() {
+        bytes[i] = 0;
+        i += 1;
     }
 }

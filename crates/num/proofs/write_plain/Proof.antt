@@ -16,11 +16,11 @@ Inv-loop run out₀ i₀ n₀ out i n = Filled run out i n (length out₀)
 abbrev μ-loop : tie.MeasureT-loop
 μ-loop run out₀ i₀ n₀ out i n = length run - i
 
-clear-requires : tie.Need-clear-requires Inv-loop μ-loop
-clear-requires c κs = search needs
+clear-bytes-requires : tie.Need-clear-bytes-requires Inv-loop μ-loop
+clear-bytes-requires c κs = search needs
 
 loop-holds : tie.Need-loop-holds Inv-loop μ-loop
-loop-holds c = starts _ _ (length (now (c .before .before .before .before .before .before .args .out))) (c .before .before .clear .ensures)
+loop-holds c = starts _ _ (length (now (c .before .before .before .before .before .before .args .out))) (c .before .before .clear-bytes .ensures)
 
 shared-slice-read-b : tie.Need-shared-slice-read-b Inv-loop μ-loop
 shared-slice-read-b c = search needs
@@ -34,11 +34,11 @@ loop-less c = search needs
 loop-again : tie.Need-loop-again Inv-loop μ-loop
 loop-again c = passes _ _ _ _ _ (c .before .before .before .loop .inv) (c .before .before .loop-test .taken) (c .if1 .taken)
 
-clear-requires-2 : tie.Need-clear-requires-2 Inv-loop μ-loop
-clear-requires-2 c κs = search needs
+clear-bytes-requires-2 : tie.Need-clear-bytes-requires-2 Inv-loop μ-loop
+clear-bytes-requires-2 c κs = search needs
 
 same-length : tie.Need-same-length Inv-loop μ-loop
-same-length c = let l = c .before .before .before .before .before .before .before .before in c .before .before .clear2 .kept .0 ∙ l .loop .inv .long ∙ l .before .before .before .clear .kept .0
+same-length c = let l = c .before .before .before .before .before .before .before .before in c .before .before .clear-bytes2 .kept .0 ∙ l .loop .inv .long ∙ l .before .before .before .clear-bytes .kept .0
 
 returns : tie.Need-returns Inv-loop μ-loop
 returns c =
@@ -46,7 +46,7 @@ returns c =
     let t = f .before .before .before in
     let a = t .before .loop .inv in
     let r = overflows _ _ _ _ _ a (t .loop-test .taken) (f .before .if1 .left) (f .if2 .taken ∙ a .long) in
-    rw (← t .before .before .before .before .clear .kept .0) (r .0, c .before .before .clear2 .ensures ∙ ap (λ j. replicate j 0) (a .long) ∙ r .1)
+    rw (← t .before .before .before .before .clear-bytes .kept .0) (r .0, c .before .before .clear-bytes2 .ensures ∙ ap (λ j. replicate j 0) (a .long) ∙ r .1)
 
 slice-write-out : tie.Need-slice-write-out Inv-loop μ-loop
 slice-write-out c = let a = c .before .before .before .before .loop .inv in omega (arith, a .long, a .room)
@@ -63,10 +63,10 @@ loop-again-2 c =
     stores _ _ _ _ _ a (c .before .before .before .loop-test .taken) (c .before .if1 .left) (omega (arith, a .long, a .room))
 
 same-length-2 : tie.Need-same-length-2 Inv-loop μ-loop
-same-length-2 c = c .before .loop .inv .long ∙ c .before .before .before .before .clear .kept .0
+same-length-2 c = c .before .loop .inv .long ∙ c .before .before .before .before .clear-bytes .kept .0
 
 returns-2 : tie.Need-returns-2 Inv-loop μ-loop
-returns-2 c = rw (← c .before .before .before .before .clear .kept .0) (ends _ _ _ _ _ (c .before .loop .inv) (c .loop-test .left))
+returns-2 c = rw (← c .before .before .before .before .clear-bytes .kept .0) (ends _ _ _ _ _ (c .before .loop .inv) (c .loop-test .left))
 
 pub write-plain-spec : {M : Type 1} → statement M
 write-plain-spec =
@@ -74,13 +74,13 @@ write-plain-spec =
     (tie.spec
     Inv-loop
     μ-loop
-    clear-requires
+    clear-bytes-requires
     loop-holds
     shared-slice-read-b
     add-i
     loop-less
     loop-again
-    clear-requires-2
+    clear-bytes-requires-2
     same-length
     returns
     slice-write-out

@@ -12,7 +12,7 @@ use Rattle.reader.proofs.parsed.Tie as tie
 use Rattle.reader.proofs.parsed.Reads as reads
 use Rattle.reader.proofs.parsed.Lts as lts
 use Rattle.parse.proofs.parse.Reads as parse-reads
-use Rattle.reader.proofs.clear.Reads as clear-reads
+use Rattle.text.proofs.clear.Reads as clear-reads
 
 parse-requires : tie.Need-parse-requires
 parse-requires c κs =

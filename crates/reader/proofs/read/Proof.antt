@@ -12,8 +12,8 @@ use Rattle.reader.proofs.read.Tie as tie
 use Rattle.reader.proofs.read.Reads as reads
 use Rattle.reader.proofs.read.Lts as lts
 use Rattle.lexer.proofs.lex.Reads as lex-reads
-use Rattle.reader.proofs.clear.Reads as clear-reads
 use Rattle.reader.proofs.parsed.Reads as parsed-reads
+use Rattle.text.proofs.clear.Reads as clear-reads
 
 lex-requires : tie.Need-lex-requires
 lex-requires c κs =

@@ -19,7 +19,7 @@ use Rattle.parse.proofs.entry.judge.Reads as judge-reads
 use Rattle.parse.proofs.entry.start.Reads as start-reads
 use Rattle.parse.proofs.entry.too_many.Reads as too-many-reads
 use Rattle.parse.proofs.program.function.Reads as function-reads
-use Rattle.parse.proofs.tree.clear.Reads as clear-reads
+use Rattle.text.proofs.clear.Reads as clear-reads
 
 clear-requires : tie.Need-clear-requires
 clear-requires c κs =

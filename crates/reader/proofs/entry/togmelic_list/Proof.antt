@@ -18,11 +18,11 @@ use Rattle.reader.proofs.entry.togmelic_list.Statement.{statement}
 use Rattle.reader.proofs.entry.togmelic_list.Tie as tie
 use Rattle.reader.proofs.entry.togmelic_list.Reads as reads
 use Rattle.reader.proofs.entry.togmelic_list.Lts as lts
-use Rattle.reader.proofs.entry.clear.Reads as clear-reads
 use Rattle.reader.proofs.entry.list_by.Reads as list-by-reads
+use Rattle.text.proofs.clear_bytes.Reads as clear-bytes-reads
 
-clear-requires : tie.Need-clear-requires
-clear-requires c κs =
+clear-bytes-requires : tie.Need-clear-bytes-requires
+clear-bytes-requires c κs =
     search needs
 
 slice-aggregate-list-by : tie.Need-slice-aggregate-list-by
@@ -36,7 +36,7 @@ slice-aggregate-list-by-2 c =
 list-by-requires : tie.Need-list-by-requires
 list-by-requires c κs =
     let z = length (c .before .before .before .before .before .before .before .before .before .before .args .out .now) in
-    law.zeros-long z (c .before .before .before .before .before .before .clear .ensures)
+    law.zeros-long z (c .before .before .before .before .before .before .clear-bytes .ensures)
 
 same-length : tie.Need-same-length
 same-length c =
@@ -46,8 +46,8 @@ returns : tie.Need-returns
 returns c =
     let d = c .before .before .before .before .before .before .before .before .before .before .before .before .before .before .before .args .draft .now in
     let z = length (c .before .before .before .before .before .before .before .before .before .before .before .before .before .before .before .args .out .now) in
-    let k = length (c .before .before .before .before .before .before .before .before .before .before .before .clear .last .0) in
-    law.whole-is d (spec.listing draftLimits d 1536 3072) z k (short-listing d 512 (c .before .before .before .before .before .before .before .before .if1 .taken) (omega arith)) (c .before .before .before .before .before .before .before .before .before .before .before .clear .kept .0) (c .before .before .before .before .list-by .ensures .0)
+    let k = length (c .before .before .before .before .before .before .before .before .before .before .before .clear-bytes .last .0) in
+    law.whole-is d (spec.listing draftLimits d 1536 3072) z k (short-listing d 512 (c .before .before .before .before .before .before .before .before .if1 .taken) (omega arith)) (c .before .before .before .before .before .before .before .before .before .before .before .clear-bytes .kept .0) (c .before .before .before .before .list-by .ensures .0)
     (c .before .before .before .before .list-by .ensures .1)
 
 slice-aggregate-list-by-3 : tie.Need-slice-aggregate-list-by-3
@@ -61,7 +61,7 @@ slice-aggregate-list-by-4 c =
 list-by-requires-2 : tie.Need-list-by-requires-2
 list-by-requires-2 c κs =
     let z = length (c .before .before .before .before .before .before .before .before .before .before .args .out .now) in
-    law.zeros-long z (c .before .before .before .before .before .before .clear .ensures)
+    law.zeros-long z (c .before .before .before .before .before .before .clear-bytes .ensures)
 
 same-length-2 : tie.Need-same-length-2
 same-length-2 c =
@@ -71,14 +71,14 @@ returns-2 : tie.Need-returns-2
 returns-2 c =
     let d = c .before .before .before .before .before .before .before .before .before .before .before .before .before .before .before .args .draft .now in
     let z = length (c .before .before .before .before .before .before .before .before .before .before .before .before .before .before .before .args .out .now) in
-    let k = length (c .before .before .before .before .before .before .before .before .before .before .before .clear .last .0) in
-    law.whole-is d (listingOf d) z k refl (c .before .before .before .before .before .before .before .before .before .before .before .clear .kept .0) (c .before .before .before .before .list-by2 .ensures .0) (c .before .before .before .before .list-by2 .ensures .1)
+    let k = length (c .before .before .before .before .before .before .before .before .before .before .before .clear-bytes .last .0) in
+    law.whole-is d (listingOf d) z k refl (c .before .before .before .before .before .before .before .before .before .before .before .clear-bytes .kept .0) (c .before .before .before .before .list-by2 .ensures .0) (c .before .before .before .before .list-by2 .ensures .1)
 
 pub togmelic-list-spec : {M : Type 1} → statement M
 togmelic-list-spec =
     tie.close
     (tie.spec
-    clear-requires
+    clear-bytes-requires
     slice-aggregate-list-by
     slice-aggregate-list-by-2
     list-by-requires

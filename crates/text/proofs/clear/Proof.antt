@@ -4,9 +4,9 @@ use borrow.Author.Needs.{needs}
 use native.Mathlib.Omega.{arith}
 use Prim.Native.Nat.{_-_}
 use lib.ListN.{length}
 use Rattle.text.specs.Clear.{Cleared, clear-start, clear-more, clear-end}
-use Rattle.reader.proofs.clear.Statement.{statement}
-use Rattle.reader.proofs.clear.Tie as tie
+use Rattle.text.proofs.clear.Statement.{statement}
+use Rattle.text.proofs.clear.Tie as tie
 
 abbrev Inv-loop : tie.InvT-loop
 Inv-loop out₀ i₀ out i = Cleared out₀ out i
