@@ -5,9 +5,10 @@ tools/refusals.py [PROGRAM]; the program lists the draft on its standard input, 
 A section `## N: title` has drafts, each a line `Draft:` with a code span or a `sh` block that writes it, and a `text` block with its line.
 `Call:` stands for a case of crates/reader_cases, which lends `read` its buffers. `Smallest: N bytes` is the length of the next draft.
 """
-import pathlib, re, subprocess, sys
+import re, subprocess, sys
 
-ROOT = pathlib.Path(__file__).resolve().parent.parent
+from program import ROOT, finish, listing
+
 DOCUMENT = ROOT / "docs/REFUSALS.md"
 CASES = ROOT / "crates/reader_cases"
 ENTRY = re.compile(r"""^(?:
@@ -24,12 +25,12 @@ def sections():
     return [(int(number), text) for number, text in zip(parts[1::2], parts[2::2]) if number]
 
 
-def draft_fault(number, found, draft, program):
+def draft_fault(number, found, draft):
     """What is wrong with a draft and its line, if anything."""
     line = found["line"].encode()
     if not re.fullmatch(rb"00 ([0-9A-F]{4}) \1 %08X 00000000 0001\n" % number, line):
         return f"{line} is not a line of refusal {number}"
-    answer = subprocess.run([program], input=draft, check=True, capture_output=True).stdout
+    answer = listing(draft)
     return "" if answer == line else f"{draft[:60]} of {len(draft)} bytes: the program writes {answer[:72]}, the document has {line}"
 
 
@@ -63,7 +64,7 @@ def draft_of(found):
     return (found["span"] or found["lent"]).encode()
 
 
-def section_faults(number, text, program, results):
+def section_faults(number, text, results):
     """How many drafts a section has, and what is wrong with them."""
     entries, length, faults = list(ENTRY.finditer(text)), None, []
     for found in entries:
@@ -73,7 +74,7 @@ def section_faults(number, text, program, results):
         draft = draft_of(found)
         if length not in (None, len(draft)):
             faults.append(f"the draft has {len(draft)} bytes, not {length}")
-        faults.append(draft_fault(number, found, draft, program) if found["line"] else call_fault(number, found, draft, results))
+        faults.append(draft_fault(number, found, draft) if found["line"] else call_fault(number, found, draft, results))
         length = None
     # What the pattern does not know must not go unseen.
     sizes = sum(found["bytes"] is not None for found in entries)
@@ -86,18 +87,14 @@ def section_faults(number, text, program, results):
 
 
 def main():
-    program = pathlib.Path(sys.argv[1] if len(sys.argv) > 1 else ROOT / "target/bin/listing").resolve()
     results, drafts, faults = answers(), 0, []
     found = sections()
     if [number for number, _ in found] != list(range(1, 16)):
         faults.append(f"docs/REFUSALS.md has sections {[number for number, _ in found]}, not 1 to 15")
     for number, text in found:
-        count, more = section_faults(number, text, program, results)
+        count, more = section_faults(number, text, results)
         drafts, faults = drafts + count, faults + more
-    for fault in faults:
-        print(f"refusals: failed: {fault}")
-    print(f"refusals: {drafts} drafts")
-    sys.exit(bool(faults))
+    finish("refusals", f"{drafts} drafts", faults)
 
 
 if __name__ == "__main__":

@@ -1,4 +1,5 @@
--- What `togmelic_list` hands over: the bytes used, and every byte of the buffer.
+-- What `togmelic_list` hands over (document 01, "The listing program"): "it gets the bytes used, 36 times the lines, the rest zero. It gets 0, all
+-- bytes zero, only when the lines do not fit."
 -- Assumes nothing.
 use mathlib.Core.Bool.{cond}
 use mathlib.Core.List.{List, _++_}

@@ -1,6 +1,6 @@
 // Rotating a slice in place: what puts a later part of a tree before an earlier one.
 ghost use mathlib.Core.Path.{_≡_};
-ghost use Prim.Native.Nat.{_<_, _≤_, _+_};
+ghost use Prim.Native.Nat.{min, _<_, _≤_, _+_};
 ghost use mathlib.Core.List.{_++_};
 ghost use lib.ListN.{length, take, drop};
 ghost use lib.Seq.{paste};
@@ -123,40 +123,43 @@ fn many() -> [u32; MANY]
     [0; MANY]
 }
 
-// Rotates a slice of k and n elements: by way of the larger array if a part fits it, else by reversals.
-fn larger(a: &mut [u32], k: usize, n: usize)
-    requires { ⌜ k + n ≡ length (now a) ⌝ }
-    ensures { λ _. ⌜ now (a .exit) ≡ drop k (now (a .entry)) ++ take k (now (a .entry)) ⌝ }
+// The lesser of two numbers.
+fn least(k: usize, n: usize) -> usize
+    ensures { λ r. ⌜ r ≡ min k n ⌝ }
 {
-    if k <= MANY {
-        let mut spare = many();
-        first_aside(a, k, n, &mut spare);
-        return;
-    }
-    if n <= MANY {
-        let mut spare = many();
-        second_aside(a, k, n, &mut spare);
-        return;
-    }
-    turned(a, k);
+    if k < n { k } else { n }
 }
 
-// The same, by way of the smaller array if a part fits it.
+// Rotates a slice of k and n elements by way of a spare slice that has room for one of the two parts.
+fn aside(a: &mut [u32], k: usize, n: usize, spare: &mut [u32])
+    requires { ⌜ k + n ≡ length (now a) ⌝ }
+    requires { ⌜ min k n ≤ length (now spare) ⌝ }
+    ensures { λ _. ⌜ now (a .exit) ≡ drop k (now (a .entry)) ++ take k (now (a .entry)) ⌝ }
+{
+    if k <= spare.len() {
+        first_aside(a, k, n, spare);
+        return;
+    }
+    second_aside(a, k, n, spare);
+}
+
+// Rotates a slice of k and n elements: by way of a spare array if a part fits it, else by reversals.
 fn parted(a: &mut [u32], k: usize, n: usize)
     requires { ⌜ k + n ≡ length (now a) ⌝ }
     ensures { λ _. ⌜ now (a .exit) ≡ drop k (now (a .entry)) ++ take k (now (a .entry)) ⌝ }
 {
-    if k <= FEW {
+    let part = least(k, n);
+    if part <= FEW {
         let mut spare = few();
-        first_aside(a, k, n, &mut spare);
+        aside(a, k, n, &mut spare);
         return;
     }
-    if n <= FEW {
-        let mut spare = few();
-        second_aside(a, k, n, &mut spare);
+    if part <= MANY {
+        let mut spare = many();
+        aside(a, k, n, &mut spare);
         return;
     }
-    larger(a, k, n);
+    turned(a, k);
 }
 
 // Puts what follows the first k elements before them; a slice of k elements or fewer stays as it is.
