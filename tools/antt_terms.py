@@ -1,6 +1,6 @@
 """Reads the definitions of antt files that hold only names for numbers, lists and expressions of a grammar, and computes them.
 
-It knows what specs/Classes of crate `kinds` and specs/ShapeKind, Notation and Shapes of crate `grammar` use: clauses by name,
+It knows what specs/Classes of crate `lexer` and specs/ShapeKind, Notation and Shapes of crate `grammar` use: clauses by name,
 variable, [] and ( x ∷ l ); application; the operators below; numerals; one form of record. A file may be read under a short name, as
 `use .. as t` has it: then its names are t.NAME.
 """

@@ -24,7 +24,7 @@ TEXTS = ([k for k in KINDS if k != "simc"] + ["1", "0x1", "0b1", "jet::j", "witn
 
 
 def class_of(text):
-    """The class of a token, as crates/kinds/specs/Classes.antt numbers it."""
+    """The class of a token, as crates/lexer/specs/Classes.antt numbers it."""
     if text in WORDS:
         return 37 + WORDS.index(text)
     if text in RESERVED and text != "match":

@@ -6,7 +6,7 @@ and specs/TablesIndex.antt, a name for each nonterminal.
     tools/grammar.py --check    write nothing; exit 1 if a file is not what would be written
     tools/grammar.py --list     print the nonterminals
 
-The grammar is read from the specs (Classes of crate kinds; ShapeKind, Notation, Shapes) by tools/antt_terms.py. Nothing
+The grammar is read from the specs (Classes of crate lexer; ShapeKind, Notation, Shapes) by tools/antt_terms.py. Nothing
 here needs trust: antt computes `good`, `sames` and `paid` on the result. A conflict of the table is named here, since the
 checks only say that there is one.
 """
@@ -19,7 +19,7 @@ from antt_terms import Values  # noqa: E402
 
 ROOT = os.path.join(os.path.dirname(os.path.abspath(__file__)), "..")
 SPECS = os.path.join(ROOT, "crates", "grammar", "specs")
-CLASSES = os.path.join(ROOT, "crates", "kinds", "specs", "Classes.antt")
+CLASSES = os.path.join(ROOT, "crates", "lexer", "specs", "Classes.antt")
 SOURCES = [(CLASSES, "t")] + [(os.path.join(SPECS, name + ".antt"), None) for name in ("ShapeKind", "Notation", "Shapes")]
 PER_TOKEN = 64  # the fuel for each token, as in theory's Fuel.antt
 
@@ -306,7 +306,7 @@ def written(grammar, shapes, table, printer):
         "use mathlib.Core.List.{List, [], _∷_}",
         "use Rattle.theory.specs.Grammar.{tok, nt, on, Row}",
         f"use Rattle.theory.specs.Ebnf.{{Ex, {', '.join(ebnf)}}}",
-        "use Rattle.kinds.specs.Classes as t",
+        "use Rattle.lexer.specs.Classes as t",
         f"use Rattle.grammar.specs.ShapeKind.{{{', '.join(shapes_used['ShapeKind'])}}}",
         f"use Rattle.grammar.specs.Shapes.{{{', '.join(shapes_used['Shapes'])}}}",
         "",

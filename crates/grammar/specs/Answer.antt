@@ -14,7 +14,8 @@ use Rattle.lexer.specs.Limits.{Limits, noToken, lexedOf, tokenWords, tokensOf}
 use Rattle.lexer.specs.declared.Lexed.{Lexed}
 use Rattle.lexer.specs.declared.Lexed.the-variants.{Tokens, Refused}
 use Rattle.own.specs.Tree.{Tok, Node, Rec, records}
-use Rattle.own.specs.Words.{recWide, recWords}
+use Rattle.text.specs.Widths.{recWide}
+use Rattle.own.specs.Words.{recWords}
 use Rattle.kinds.specs.Words.{classOf}
 use Rattle.grammar.specs.WellShaped.{shapeOf}
 use Rattle.grammar.specs.Records.{recordTree}

@@ -5,6 +5,7 @@ use Prim.Native.Nat.{ℕ, _*_}
 use Prim.Native.String.{String}
 use lib.ListN.{length, getD}
 use Rattle.own.specs.Flat.{blank}
+use Rattle.text.specs.Widths.{tokWide, recWide}
 use Rattle.text.specs.Ascii.{ascii, asciiFrom}
 use Rattle.text.specs.Part.{partOf}
 use Rattle.text.specs.Same.{same}
@@ -87,7 +88,7 @@ defined k =
 -- With the limits of a draft and words enough for every draft: three for each of 2,048 tokens, six for each record, of which there are
 -- no more than tokens.
 abbrev pub roomy : List ℕ → Result → Case
-roomy draft r = record { limits = draftLimits; tokenSpace = 3 * 2048; treeSpace = 6 * 2048; draft = draft; result = r }
+roomy draft r = record { limits = draftLimits; tokenSpace = tokWide * 2048; treeSpace = recWide * 2048; draft = draft; result = r }
 
 -- A whole draft.
 abbrev pub whole : String → Result → Case

@@ -13,7 +13,7 @@ use Rattle.own.specs.Tree.{Tok, Items, marks, partner}
 use Rattle.own.specs.Law.{Sort, word, child}
 use Rattle.own.specs.Rules.{sorts}
 use Rattle.kinds.specs.Fields.{counted}
-use Rattle.kinds.specs.Classes as t
+use Rattle.lexer.specs.Classes as t
 use Rattle.grammar.specs.ShapeKind.{ListTypeShape, MatchShape, FoldingShape}
 use Rattle.grammar.specs.Records.{sees, opening, firstTok, firstOf, decimal, recordItems}
 

@@ -9,7 +9,8 @@ use Rattle.lexer.specs.Lexemes.{Token, tokens, lexemes}
 use Rattle.lexer.specs.Limits.{tokenWords}
 use Rattle.lexer.specs.Tokens.{Between, tokens-between}
 use Rattle.own.specs.Tree.{InOrder, Rec}
-use Rattle.own.specs.Words.{toks, tokWide, recWide, recWords}
+use Rattle.text.specs.Widths.{tokWide, recWide}
+use Rattle.own.specs.Words.{toks, recWords}
 use Rattle.kinds.specs.Words.{classOf}
 use Rattle.grammar.specs.KeptTokens.{classesOf, length-classes}
 use Rattle.grammar.specs.Answer.{toksOf}

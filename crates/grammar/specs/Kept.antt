@@ -34,7 +34,7 @@ use Rattle.kinds.specs.Rules as rules
 use Rattle.kinds.specs.Build.{the-mark}
 use Rattle.kinds.specs.Spelled.{Spelled, formsOf}
 use Rattle.kinds.specs.Ownership.{Right, law-3}
-use Rattle.kinds.specs.Classes as class
+use Rattle.lexer.specs.Classes as class
 use Rattle.grammar.specs.ShapeKind.{ListTypeShape, MatchShape, FoldingShape}
 use Rattle.grammar.specs.Shapes.{shapes}
 use Rattle.grammar.specs.WellShaped.{Shape, shapeOf}

@@ -19,7 +19,7 @@ use Rattle.kinds.specs.Shape.{Part, of, arm, Shape, nothing, never, part, mark,
 use Rattle.kinds.specs.Fields.{counted, holds}
 use Rattle.kinds.specs.Rules.{the, element, expression, braces, enumArm, arms, forms}
 use Rattle.kinds.specs.Spelled.{Spelled, formsOf}
-use Rattle.kinds.specs.Classes as class
+use Rattle.lexer.specs.Classes as class
 use Rattle.grammar.specs.KeptRows.{Row, r-end, r-more, pairs, variants}
 use Rattle.grammar.specs.KeptInto.{all-has, dealt, roled, rowIn, marksOf, isPart, kindsOf, onlyKinds, tokenIn, pieceIn, shapeIn, manyIn, atomIn}
 use Rattle.grammar.specs.KeptHeads.{one-has}

@@ -19,7 +19,7 @@ use Rattle.kinds.specs.Fields.{counted, holds}
 use Rattle.kinds.specs.Rules.{the, element, expression, braces}
 use Rattle.kinds.specs.Rules as rules
 use Rattle.kinds.specs.Spelled.{Spelled, formsOf}
-use Rattle.kinds.specs.Classes as class
+use Rattle.lexer.specs.Classes as class
 use Rattle.grammar.specs.KeptRows.{Row, r-end, r-more, variants}
 use Rattle.grammar.specs.KeptInto.{dealt}
 use Rattle.grammar.specs.KeptHeads.{not-true, sure, free, row-sure, row-free, lacks, row-lacks}

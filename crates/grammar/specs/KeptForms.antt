@@ -23,7 +23,7 @@ use Rattle.kinds.specs.Shape as k
 use Rattle.kinds.specs.Fields.{Fields, plain, low, below, among, wide, bounded, parameters, names, pairs, counted, halves, holds}
 use Rattle.kinds.specs.Rules.{the, Form}
 use Rattle.kinds.specs.Spelled.{formsOf, Written, Spelled}
-use Rattle.kinds.specs.Classes as class
+use Rattle.lexer.specs.Classes as class
 use Rattle.grammar.specs.KeptRows.{Row, r-end, r-more, row-join, variants, variants-in}
 use Rattle.grammar.specs.KeptInto.{dealt, rowIn, atomIn, row-into}
 use Rattle.grammar.specs.KeptHeads.{sure, free, row-sure, row-free}

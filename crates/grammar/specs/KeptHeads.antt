@@ -18,7 +18,7 @@ use Rattle.kinds.specs.Fields.{Fields, plain, low, below, among, wide, bounded,
 use Rattle.kinds.specs.Rules.{the, Form}
 use Rattle.kinds.specs.Build.{the-mark}
 use Rattle.kinds.specs.Spelled.{formsOf, Written, Spelled}
-use Rattle.kinds.specs.Classes as class
+use Rattle.lexer.specs.Classes as class
 use Rattle.grammar.specs.KeptRows.{Row, r-end, r-more, variants, variants-in}
 use Rattle.grammar.specs.KeptInto.{all-has, roled, dealt, onlyKinds, kindsOf, fit-kinds, rowIn, atomIn, row-into}
 use Rattle.grammar.specs.Records.{Role, aMark, asName, asNumber, roleOf, sees, opening, nameCount, lowHalf, highHalf}

@@ -23,7 +23,7 @@ use Rattle.own.specs.Places.{or-right}
 use Rattle.kinds.specs.Lists.{all}
 use Rattle.kinds.specs.Shape.{Part, of, name, arm, bound, size, has, span, count, isBound, number, fits, Spells}
 use Rattle.kinds.specs.Fields.{counted}
-use Rattle.kinds.specs.Classes as class
+use Rattle.lexer.specs.Classes as class
 use Rattle.grammar.specs.ShapeKind.{ListTypeShape, MatchShape, FoldingShape}
 use Rattle.grammar.specs.Shapes.{shapes}
 use Rattle.grammar.specs.KeptShapes.{kindsIn, both, seen, partShapes, has-within, nth-none}

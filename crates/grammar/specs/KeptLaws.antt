@@ -23,7 +23,7 @@ use Rattle.kinds.specs.Shape.{Part, of, name, arm, bound, size, Shape, nothing,
 use Rattle.kinds.specs.Shape as k
 use Rattle.kinds.specs.Fields.{counted}
 use Rattle.kinds.specs.Rules.{the}
-use Rattle.kinds.specs.Classes as class
+use Rattle.lexer.specs.Classes as class
 use Rattle.grammar.specs.KeptRows.{Row, variants}
 use Rattle.grammar.specs.KeptInto.{dealt}
 use Rattle.grammar.specs.KeptHeads.{sure, free, row-sure, row-free, row-opening, row-opened, lacks, row-lacks, counted-dealt, names-dealt}

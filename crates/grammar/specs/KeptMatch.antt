@@ -18,7 +18,7 @@ use Rattle.kinds.specs.Shape.{of, arm, Shape, part, _▸_, _∣_, many, has, co
 use Rattle.kinds.specs.Fields.{counted, holds}
 use Rattle.kinds.specs.Rules.{the, expression, enumArm, arms, braces, forms}
 use Rattle.kinds.specs.Spelled.{Spelled, formsOf}
-use Rattle.kinds.specs.Classes as class
+use Rattle.lexer.specs.Classes as class
 use Rattle.grammar.specs.KeptInto.{all-has, dealt, roled}
 use Rattle.grammar.specs.KeptHeads.{not-true, counted-append}
 use Rattle.grammar.specs.KeptForms.{SpelledAs}

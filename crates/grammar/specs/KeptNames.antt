@@ -14,7 +14,7 @@ use Rattle.own.specs.Places.{or-cases}
 use Rattle.kinds.specs.Lists.{some, all}
 use Rattle.kinds.specs.Shape.{Part, Shape, has, count, span, number, isBound, Spells}
 use Rattle.kinds.specs.Fields.{counted, halves}
-use Rattle.kinds.specs.Classes as class
+use Rattle.lexer.specs.Classes as class
 use Rattle.grammar.specs.KeptRows.{Row, variants}
 use Rattle.grammar.specs.KeptInto.{dealt}
 use Rattle.grammar.specs.KeptHeads.{sure, free, row-sure, row-free, lacks, row-lacks, counted-dealt, names-dealt}

@@ -17,7 +17,7 @@ use Rattle.own.specs.Places.{or-cases}
 use Rattle.kinds.specs.Lists.{Some, here, there, some, some-sound, all, all-some, from-some, only-one}
 use Rattle.kinds.specs.Shape.{Part, of, name, arm, bound, size, Shape, nothing, never, part, _▸_, _∣_, many, has, fits, Spells, empty, one-mark, one-part, seq, left, right, stop, more}
 use Rattle.kinds.specs.Shape as k
-use Rattle.kinds.specs.Classes as class
+use Rattle.lexer.specs.Classes as class
 use Rattle.grammar.specs.KeptShapes.{has-within}
 use Rattle.grammar.specs.Records.{Role, aMark, asName, asNumber, roleOf, placed, arranged, lowHalf, highHalf}
 

@@ -20,7 +20,7 @@ use Rattle.kinds.specs.Lists.{all}
 use Rattle.kinds.specs.Rules.{the, optional, element, expression}
 use Rattle.kinds.specs.Rules as rules
 use Rattle.kinds.specs.Build.{the-mark}
-use Rattle.kinds.specs.Classes as t
+use Rattle.lexer.specs.Classes as t
 use Rattle.grammar.specs.Shapes.{shapes, elementsPart, argumentsPart, pathPart, headPathPart, pairPart}
 
 -- The kinds of the records that the shapes of a category become.

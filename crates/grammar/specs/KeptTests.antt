@@ -14,7 +14,7 @@ use Rattle.kinds.specs.Lists.{some, all}
 use Rattle.kinds.specs.Shape.{Part, of, name, arm, bound, size, Shape, has, span, count, doubled, fits, Spells}
 use Rattle.kinds.specs.Rules.{forms}
 use Rattle.kinds.specs.Spelled.{formsOf}
-use Rattle.kinds.specs.Classes as class
+use Rattle.lexer.specs.Classes as class
 use Rattle.grammar.specs.Shapes.{shapes}
 use Rattle.grammar.specs.KeptShapes.{kindsIn, both, seen, partShapes, spelt}
 use Rattle.grammar.specs.KeptRows.{pairs, variants}

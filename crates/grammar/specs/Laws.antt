@@ -18,7 +18,8 @@ use Rattle.lexer.specs.Limits as lexer
 use Rattle.lexer.specs.Tokens.{lexeme-refused}
 use Rattle.own.specs.Tree.{Rec, tokens, records}
 use Rattle.own.specs.Law.{Ownership}
-use Rattle.own.specs.Words.{toks, recs, tokWide, recWide, recWords, recs-words}
+use Rattle.text.specs.Widths.{tokWide, recWide}
+use Rattle.own.specs.Words.{toks, recs, recWords, recs-words}
 use Rattle.kinds.specs.Words.{classOf}
 use Rattle.kinds.specs.Spelled.{Spelled}
 use Rattle.kinds.specs.Ownership.{Right, law-3-handed}

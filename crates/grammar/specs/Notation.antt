@@ -5,7 +5,7 @@ use mathlib.Core.List.{List, [], _∷_}
 use Prim.Native.Nat.{ℕ}
 use Rattle.theory.specs.Check.{mem}
 use Rattle.theory.specs.Ebnf.{Ex, eps, mark, seq, or, list, tail}
-use Rattle.kinds.specs.Classes as t
+use Rattle.lexer.specs.Classes as t
 
 -- How expressions are written: `e ⨾ f` is e and then f, `e ∣ f` is e or f.
 infixr 42 _⨾_

@@ -19,7 +19,7 @@ use Rattle.lexer.specs.Limits.{Limits, tooDeep, room, noToken, deep, judged, le
 use Rattle.lexer.specs.declared.Lexed.{Lexed}
 use Rattle.lexer.specs.declared.Lexed.the-variants.{Tokens, Refused}
 use Rattle.own.specs.Tree.{records}
-use Rattle.own.specs.Words.{tokWide, recWide}
+use Rattle.text.specs.Widths.{tokWide, recWide}
 use Rattle.grammar.specs.Shapes.{shapes}
 use Rattle.grammar.specs.WellShaped.{Shape, shapeOf, shape-exactly, stuck-shape-exactly}
 use Rattle.grammar.specs.Faults.{Fault, faultOf}

@@ -17,7 +17,7 @@ use Rattle.lexer.specs.Tokens.{Between, tokens-between, lexeme-refused}
 use Rattle.own.specs.Tree.{Tok, Items, marks}
 use Rattle.own.specs.Lists.{All, nil, _&_}
 use Rattle.own.specs.Rules.{sorts}
-use Rattle.kinds.specs.Classes as t
+use Rattle.lexer.specs.Classes as t
 use Rattle.kinds.specs.Fields.{counted}
 use Rattle.grammar.specs.ShapeKind.{ListTypeShape, MatchShape, FoldingShape}
 use Rattle.grammar.specs.Records.{sees, opening, firstTok, firstOf, decimal, recorded, recordItems}

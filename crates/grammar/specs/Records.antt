@@ -22,7 +22,7 @@ use Rattle.own.specs.Law.{Sort, word, child}
 use Rattle.own.specs.Rules.{sorts}
 use Rattle.kinds.specs.Shape.{has, span}
 use Rattle.kinds.specs.Fields.{counted}
-use Rattle.kinds.specs.Classes as t
+use Rattle.lexer.specs.Classes as t
 
 -- The fields of a record that its shape decides.
 pub record Head : Type 0 where

@@ -13,7 +13,7 @@ use Rattle.theory.specs.Same.{ex}
 use Rattle.theory.specs.Exec.{thenWord, thenRest, thenSub, exec}
 use Rattle.theory.specs.Fuel.{saves, need}
 use Rattle.theory.specs.Parse.{Found, found, stuck, judge, parse}
-use Rattle.kinds.specs.Classes as t
+use Rattle.lexer.specs.Classes as t
 use Rattle.grammar.specs.ShapeKind.{FunctionShape, BlockShape, LiteralShape, MatchShape, NamedShape, ArmShape}
 use Rattle.grammar.specs.Shapes.{shapes}
 use Rattle.grammar.specs.Tables.{table, means}

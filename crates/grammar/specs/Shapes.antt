@@ -4,7 +4,7 @@
 -- Assumes nothing.
 use mathlib.Core.List.{[], _∷_}
 use Rattle.theory.specs.Ebnf.{Ex, eps, mark, many, Ebnf}
-use Rattle.kinds.specs.Classes as t
+use Rattle.lexer.specs.Classes as t
 use Rattle.grammar.specs.ShapeKind.{parameter, type, pattern, block, assignment, single, arm, elements, arguments, path, headPath, pair, FunctionShape, ParameterShape}
 use Rattle.grammar.specs.ShapeKind.{EitherTypeShape, OptionTypeShape, ListTypeShape, NamedTypeShape, TupleTypeShape, ArrayTypeShape, NamePatternShape}
 use Rattle.grammar.specs.ShapeKind.{TuplePatternShape, ArrayPatternShape, BlockShape, AssignmentShape, LiteralShape, ParensShape, ArrayShape, ListShape, MatchShape}

@@ -6,7 +6,7 @@ use mathlib.Core.Bool.{true, false}
 use mathlib.Core.List.{List, [], _∷_}
 use Rattle.theory.specs.Grammar.{tok, nt, on, Row}
 use Rattle.theory.specs.Ebnf.{Ex, eps, mark, seq, or, many, list, tail}
-use Rattle.kinds.specs.Classes as t
+use Rattle.lexer.specs.Classes as t
 use Rattle.grammar.specs.ShapeKind.{function, parameter, type, pattern, block, assignment, single, arm, elements, arguments, path, headPath, pair}
 use Rattle.grammar.specs.Shapes.{expression, identifier, functionName, namedType, literal, otherName, head}
 

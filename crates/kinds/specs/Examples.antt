@@ -6,7 +6,7 @@ use mathlib.Core.Path.{_≡_, refl}
 use Prim.Native.Nat.{ℕ}
 use lib.Dec.{eqb}
 use Rattle.own.specs.Law.{Sort, word, child}
-use Rattle.kinds.specs.Classes as t
+use Rattle.lexer.specs.Classes as t
 use Rattle.kinds.specs.Lists.{all}
 use Rattle.kinds.specs.Shape.{has, span}
 use Rattle.kinds.specs.Spelled.{spelled}

@@ -3,7 +3,7 @@
 use mathlib.Core.Bool.{Bool, cond}
 use mathlib.Core.List.{List, [], _∷_}
 use Prim.Native.Nat.{ℕ, _+_, _*_}
-use Rattle.kinds.specs.Classes as t
+use Rattle.lexer.specs.Classes as t
 use Rattle.kinds.specs.Lists.{some}
 use Rattle.kinds.specs.Shape.{has, span}
 use Rattle.kinds.specs.Decide.{mayOwn, mayHold}

@@ -1,4 +1,3 @@
-pub mod Classes
 pub mod Lists
 pub mod Words
 pub mod Shape

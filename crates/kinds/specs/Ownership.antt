@@ -19,7 +19,7 @@ use Rattle.kinds.specs.Words.{classOf}
 use Rattle.kinds.specs.Lists.{some, all, all-keep, all-some, from-some, only-one}
 use Rattle.kinds.specs.Shape.{count, span, arm, fits, Shape, nothing, never, part, _▸_, _∣_, many, Spells, empty, one-mark, one-part, seq, left, right, stop, more}
 use Rattle.kinds.specs.Shape as shape
-use Rattle.kinds.specs.Classes as t
+use Rattle.lexer.specs.Classes as t
 use Rattle.kinds.specs.Rules.{forms, the, expression, braces, arms}
 use Rattle.kinds.specs.Spelled.{formsOf, Spelled}
 

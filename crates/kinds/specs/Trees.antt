@@ -10,7 +10,7 @@ use Rattle.text.specs.Table.{first-of, second-of}
 use Rattle.own.specs.Tree.{Tok, Items, none, mark, sub, Node, node, roots, Each, partner, canonical, turned, Rec, tokens, records}
 use Rattle.own.specs.Law.{Ownership}
 use Rattle.own.specs.Rules.{sorts, Keeps}
-use Rattle.kinds.specs.Classes as t
+use Rattle.lexer.specs.Classes as t
 use Rattle.kinds.specs.Spelled.{Spelled, spelled, spelled-sound}
 use Rattle.kinds.specs.Ownership.{Right, law-3}
 

@@ -10,7 +10,7 @@ use Rattle.text.specs.Part.{partOf}
 use Rattle.text.specs.Same.{same}
 use Rattle.words.specs.Words.{FUNCTION_RESERVED, MACROS, RULE_NAMES, BOOLEANS, RULE_WORDS, find, wordOf}
 use Rattle.lexer.specs.Class as lexer
-use Rattle.kinds.specs.Classes as t
+use Rattle.lexer.specs.Classes as t
 use Rattle.kinds.specs.Lists.{some, all}
 
 -- The class of the token of this kind, start and end in a draft: its kind, or the word or macro that its text is.

@@ -22,7 +22,7 @@ use Rattle.lexer.specs.Places.{Based, decimalAt}
 use Rattle.lexer.specs.Step.{stepFrom, lexemeAt}
 use Rattle.lexer.specs.declared.Step.{Step}
 use Rattle.lexer.specs.declared.Step.the-variants.{Token, Trivia, Refused}
-use Rattle.lexer.proofs.Classes.{class-in, class-above, space-classes, plain-classes, decimal-run, hex-classes, hex-run, binary-classes, binary-run, over-among, low, digit-apart, notDigit, each-fails}
+use Rattle.lexer.proofs.ByteClasses.{class-in, class-above, space-classes, plain-classes, decimal-run, hex-classes, hex-run, binary-classes, binary-run, over-among, low, digit-apart, notDigit, each-fails}
 use Rattle.lexer.proofs.Rest.{rest-first, rest-cons, rest-drop, begins-one}
 use Rattle.lexer.proofs.Runs.{run-same}
 

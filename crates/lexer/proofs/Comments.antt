@@ -24,7 +24,7 @@ use Rattle.lexer.specs.declared.trivia.Close.{Close}
 use Rattle.lexer.specs.declared.trivia.Close.the-variants.{At, Never}
 use Rattle.lexer.proofs.Rest.{rest-first, rest-cons, rest-drop, rest-take, begins-one}
 use Rattle.lexer.proofs.Runs.{run-same}
-use Rattle.lexer.proofs.Classes.{plain-classes}
+use Rattle.lexer.proofs.ByteClasses.{plain-classes}
 
 -- ---- the end of a line
 

@@ -1,5 +1,5 @@
 pub mod Runs
-pub mod Classes
+pub mod ByteClasses
 pub mod Rest
 pub mod Comments
 pub mod Names

@@ -22,7 +22,7 @@ use Rattle.lexer.specs.Places.{Named, keywordAt}
 use Rattle.lexer.specs.Step.{stepFrom, lexemeAt}
 use Rattle.lexer.specs.declared.Step.{Step}
 use Rattle.lexer.specs.declared.Step.the-variants.{Token, Refused}
-use Rattle.lexer.proofs.Classes.{name-classes, name-apart, notName, each-fails}
+use Rattle.lexer.proofs.ByteClasses.{name-classes, name-apart, notName, each-fails}
 use Rattle.lexer.proofs.Rest.{rest-first, rest-cons, rest-drop, part-rest, begins-one, begins-two}
 use Rattle.lexer.proofs.Runs.{run-same, run-end-within}
 

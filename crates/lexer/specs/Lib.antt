@@ -10,3 +10,4 @@ pub mod Limits
 pub mod Buffer
 pub mod Class
 pub mod Samples
+pub mod Classes

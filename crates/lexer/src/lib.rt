@@ -11,6 +11,7 @@ use words::Table;
 
 mod buffer;
 mod chars;
+pub mod classes;
 mod depth;
 mod limits;
 pub mod scan;

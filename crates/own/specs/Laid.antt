@@ -7,7 +7,8 @@ use native.Mathlib.Omega.{arith}
 use lib.ListN.{length, take, drop, length-append, take-append-drop}
 use lib.Seq.{take-at, drop-at, take-add, take-append-seam, drop-append-add, length-take-le, sets, sets-eq, length-sets}
 use Rattle.own.specs.Tree.{Items, none, mark, sub, Node, yield, begin, end, turned, arrange, concat, roots, records}
-use Rattle.own.specs.Words.{recWide, recs, nodeWords, words, wordGroups, sizes, recs-are}
+use Rattle.text.specs.Widths.{recWide}
+use Rattle.own.specs.Words.{recThen, recs, nodeWords, words, wordGroups, sizes, recs-are}
 
 -- from w with `out` records to w′ with out′: the words ws came after
 pub record Laid (w : List ℕ) (out : ℕ) (w′ : List ℕ) (out′ : ℕ) (ws : List ℕ) : Type 0 where
@@ -86,9 +87,9 @@ laid-close {w} {w′} {ws} {out} {out′} six e a =
 
 -- so a node is laid, where what is beneath it was laid in the order handed over
 pub laid-node : {w w′ : List ℕ} {out out′ : ℕ} (n : Node) → Laid w (out + 1) w′ out′ (concat (arrange (turned (n .kind) (n .items)) (wordGroups (n .items))))
-    → Laid w out (sets w′ (recWide * out) (n .kind ∷ begin (yield (n .items)) ∷ end 0 (yield (n .items)) ∷ n .low ∷ n .high ∷
-    (1 + sizes (n .items)) ∷ [])) out′ (nodeWords n)
-laid-node n a = laid-close (n .kind ∷ begin (yield (n .items)) ∷ end 0 (yield (n .items)) ∷ n .low ∷ n .high ∷ (1 + sizes (n .items)) ∷ []) refl a
+    → Laid w out (sets w′ (recWide * out) (recThen (n .kind) (begin (yield (n .items))) (end 0 (yield (n .items))) (n .low) (n .high)
+    (1 + sizes (n .items)) [])) out′ (nodeWords n)
+laid-node n a = laid-close (recThen (n .kind) (begin (yield (n .items))) (end 0 (yield (n .items))) (n .low) (n .high) (1 + sizes (n .items)) []) refl a
 
 -- two parts that change places: x and y stand last, and in w″ they stand the other way round
 pub laid-turn : {w w′ : List ℕ} {out out′ : ℕ} (w″ p x y : List ℕ) → Laid w out w′ out′ (p ++ (x ++ y))

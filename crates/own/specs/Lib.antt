@@ -12,3 +12,6 @@ pub mod Rules
 pub mod Words
 pub mod Laid
 pub mod Examples
+pub mod Kinds
+pub mod Arms
+pub mod Calls

@@ -1,4 +1,4 @@
--- The two lists in buffers of words: three words a token, six a record, and from the buffers back to the lists.
+-- The two lists in buffers of words: three words a token, `recWide` a record, and from the buffers back to the lists.
 -- A token's class is not in its buffer: c gives it from the token's three words, kind, start and end (and the draft behind c).
 -- Assumes nothing.
 use mathlib.Core.Path.{_≡_, refl, sym, ap, _∙_, subst}
@@ -8,6 +8,7 @@ use Prim.Native.Nat.{ℕ, zero, suc, _+_, _*_, _<_}
 use native.Mathlib.Omega.{arith}
 use lib.ListN.{length, getD, drop, length-append, length-map}
 use lib.Seq.{getD-drop}
+use Rattle.text.specs.Widths.{tokWide, recWide}
 use Rattle.own.specs.Tree.{Tok, Items, none, mark, sub, Node, node, roots, yield, begin, end, Each, turned, arrange, concat, groups, nodes, Rec, recordOf, tokens, all, records, Fine}
 use Rattle.own.specs.Flat.{blank, no-token}
 use Rattle.own.specs.Law.{Rule, Ownership}
@@ -15,13 +16,9 @@ use Rattle.own.specs.Lists.{All, nil, _&_, arrange-map}
 use Rattle.own.specs.Count.{weigh, weigh-arrange}
 use Rattle.own.specs.Rules.{Keeps, ownership}
 
--- How many words a token takes.
-abbrev pub tokWide : ℕ
-tokWide = 3
-
--- How many words a record takes.
-abbrev pub recWide : ℕ
-recWide = 6
+-- The words of a record, before other words.
+abbrev pub recThen : ℕ → ℕ → ℕ → ℕ → ℕ → ℕ → List ℕ → List ℕ
+recThen kind start stop low high size ws = kind ∷ start ∷ stop ∷ low ∷ high ∷ size ∷ ws
 
 -- The first n tokens of a buffer.
 abbrev pub toks : (ℕ → ℕ → ℕ → ℕ) → ℕ → List ℕ → List Tok
@@ -80,7 +77,7 @@ tok-at c (suc n) (suc j) w h =
 -- writing: the words of records, and reading them back
 abbrev pub recWords : List Rec → List ℕ
 recWords [] = []
-recWords (r ∷ rs) = r .kind ∷ r .start ∷ r .stop ∷ r .low ∷ r .high ∷ r .size ∷ recWords rs
+recWords (r ∷ rs) = recThen (r .kind) (r .start) (r .stop) (r .low) (r .high) (r .size) (recWords rs)
 
 -- Written and read back.
 pub recs-words : (rs : List Rec) (z : List ℕ) → recs (length rs) (recWords rs ++ z) ≡ rs
@@ -96,30 +93,30 @@ recWords-append (r ∷ k) l = let e = recWords-append k l in cc
 pub rec-at : (n j : ℕ) (w : List ℕ) → j < n
     → getD (recs n w) j blank
     ≡ record {
-      kind = getD w (6 * j) 0;
-      start = getD w (6 * j + 1) 0;
-      stop = getD w (6 * j + 2) 0;
-      low = getD w (6 * j + 3) 0;
+      kind = getD w (recWide * j) 0;
+      start = getD w (recWide * j + 1) 0;
+      stop = getD w (recWide * j + 2) 0;
+      low = getD w (recWide * j + 3) 0;
       high = getD w
-          (6 * j + 4) 0;
-      size = getD w (6 * j + 5) 0;
+          (recWide * j + 4) 0;
+      size = getD w (recWide * j + 5) 0;
     }
 rec-at zero j w h = absurd (omega arith)
 rec-at (suc n) zero w h = refl
 rec-at (suc n) (suc j) w h =
-    rec-at n j (drop 6 w) (omega arith)
+    rec-at n j (drop recWide w) (omega arith)
     ∙ λ i.
     record {
-      kind = word (6 * j) (6 * suc j) (omega arith) i;
-      start = word (6 * j + 1) (6 * suc j + 1) (omega arith) i;
-      stop = word (6 * j + 2) (6 * suc j + 2) (omega arith) i;
-      low = word (6 * j + 3) (6 * suc j + 3) (omega arith) i;
-      high = word (6 * j + 4) (6 * suc j + 4) (omega arith) i;
-      size = word (6 * j + 5) (6 * suc j + 5) (omega arith) i;
+      kind = word (recWide * j) (recWide * suc j) (omega arith) i;
+      start = word (recWide * j + 1) (recWide * suc j + 1) (omega arith) i;
+      stop = word (recWide * j + 2) (recWide * suc j + 2) (omega arith) i;
+      low = word (recWide * j + 3) (recWide * suc j + 3) (omega arith) i;
+      high = word (recWide * j + 4) (recWide * suc j + 4) (omega arith) i;
+      size = word (recWide * j + 5) (recWide * suc j + 5) (omega arith) i;
     }
   where
-    word : (c e : ℕ) → 6 + c ≡ e → getD (drop 6 w) c 0 ≡ getD w e 0
-    word c e q = getD-drop 6 w c 0 ∙ ap (λ (k : ℕ). getD w k 0) q
+    word : (c e : ℕ) → recWide + c ≡ e → getD (drop recWide w) c 0 ≡ getD w e 0
+    word c e q = getD-drop recWide w c 0 ∙ ap (λ (k : ℕ). getD w k 0) q
 
 -- what a writer counts: a record, and all beneath it
 abbrev pub sizes : Items → ℕ
@@ -161,17 +158,17 @@ place-stop (suc p) [] (t ∷ u ∷ y) b d e h = place-stop p [] (u ∷ y) b d (o
 place-stop zero (x ∷ a) (t ∷ y) b d e h = absurd (omega arith)
 place-stop (suc p) (x ∷ a) (t ∷ y) b d e h = place-stop p a (t ∷ y) b d (omega arith) h
 
--- of each node right beneath, in the order of the text: its six words, then those of all beneath it, in the order handed over
+-- of each node right beneath, in the order of the text: its words, then those of all beneath it, in the order handed over
 abbrev pub wordGroups : Items → List (List ℕ)
 wordGroups none = []
 wordGroups (mark t r) = wordGroups r
-wordGroups (sub k l h js r) = (k ∷ begin (yield js) ∷ end 0 (yield js) ∷ l ∷ h ∷ (1 + sizes js) ∷ concat (arrange (turned k js) (wordGroups js))) ∷ wordGroups r
+wordGroups (sub k l h js r) = recThen k (begin (yield js)) (end 0 (yield js)) l h (1 + sizes js) (concat (arrange (turned k js) (wordGroups js))) ∷ wordGroups r
 
 -- the words of a node and of all beneath it
 abbrev pub nodeWords : Node → List ℕ
 nodeWords n =
-    n .kind ∷ begin (yield (n .items)) ∷ end 0 (yield (n .items)) ∷ n .low ∷ n .high ∷ (1 + sizes (n .items))
-    ∷ concat (arrange (turned (n .kind) (n .items)) (wordGroups (n .items)))
+    recThen (n .kind) (begin (yield (n .items))) (end 0 (yield (n .items))) (n .low) (n .high) (1 + sizes (n .items))
+    (concat (arrange (turned (n .kind) (n .items)) (wordGroups (n .items))))
 
 -- the words of trees side by side: all that a record buffer begins with
 abbrev pub words : List Node → List ℕ

@@ -1,1 +1,4 @@
-// The record tree and its laws are definitions and theorems in specs/: this crate has no code of its own.
+// The record tree and its laws are definitions and theorems in specs/. For the code of other crates there are the numbers that records hold.
+pub mod arm;
+pub mod call;
+pub mod kind;

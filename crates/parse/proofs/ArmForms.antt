@@ -16,7 +16,7 @@ use denote.Enum.Declared.{tagOf}
 use Rattle.text.specs.Same.{differ}
 use Rattle.kinds.specs.Shape.{has, span, count}
 use Rattle.kinds.specs.Fields.{counted}
-use Rattle.kinds.specs.Classes as t
+use Rattle.lexer.specs.Classes as t
 use Rattle.theory.specs.Grammar.{Sym, tok, nt, Case, on, look, Row, row, alt, pick}
 use Rattle.theory.specs.Machine.{choose, expand}
 use Rattle.theory.specs.Ebnf as shape
@@ -25,6 +25,7 @@ use Rattle.theory.specs.Same.{ex}
 use Rattle.theory.specs.Walk.{Reads, n-end, n-tok, n-flat, n-sub, Sticks, k-tok, k-nt, k-eat, k-in}
 use Rattle.own.specs.Tree as own
 use Rattle.own.specs.Tree.{Tok, Items, sub, marks, arrange, concat}
+use Rattle.text.specs.Widths.{recWide}
 use Rattle.own.specs.Words.{wordGroups}
 use Rattle.own.specs.Law.{Sort, word, child}
 use Rattle.own.specs.Rules.{sorts}
@@ -301,7 +302,7 @@ arm-shut {x} {st} {r} {rhs} {l} {ms} {m} {st₁} {l₁} {l′} a b W U {kind} {l
     shuts-as 25 y o d one hd tt
     (record { high = armHigh a b; js = d .L; raw-is = its-raw 25 y o d one hd tt; laid-is = refl; none-left = refl; its-kind = arm-kinds a b i })
     (d .lays .long)
-    (λ k. d .lays .laid k ∙ ap (λ u. sets l (6 * r .out) (concat (arrange u (wordGroups (d .L))))) (sym (unturned (armKind a) (d .L) (arm-unturned a))))
+    (λ k. d .lays .laid k ∙ ap (λ u. sets l (recWide * r .out) (concat (arrange u (wordGroups (d .L))))) (sym (unturned (armKind a) (d .L) (arm-unturned a))))
     put′ refl (record { at-is = refl; out-is = refl }) (d .lays .stands)
     (d .lays .worst ∙ ap₂ sooner (o .kept-is) (sym (its-fault 25 y o d one hd tt ∙ ap (λ u. sooner (earliest u) (faultIn x (r .at) (d .pre))) (no-fault (x .draft) 25 (raw x (r .at) (d .pre)) tt)))) in
     subst (λ u. Went x rhs (asNode 25) Arm st l st₁ l′ kind u) (sym (e .1)) (subst (λ u. Went x rhs (asNode 25) Arm st l st₁ l′ u (armLow a b)) (sym (e .0)) base)

@@ -15,7 +15,7 @@ use Rattle.own.specs.Law.{Sort, word, child}
 use Rattle.own.specs.Rules.{sorts}
 use Rattle.kinds.specs.Shape.{has}
 use Rattle.kinds.specs.Fields.{counted}
-use Rattle.kinds.specs.Classes as t
+use Rattle.lexer.specs.Classes as t
 use Rattle.grammar.specs.KeptHeads.{counted-append}
 use Rattle.grammar.specs.Records.{plain, aMatch, headOf, firstTok}
 use Rattle.grammar.specs.Faults.{unless, armLows, mates, armsFault, faultsAt, earlier, earliest}

@@ -16,7 +16,8 @@ use Rattle.own.specs.Tree as own
 use Rattle.own.specs.Tree.{Tok, Items, mark, sub, Node, node, kids, partner, canonical, reversed, turned, arrange, concat}
 use Rattle.own.specs.Law.{Sort, word, child}
 use Rattle.own.specs.Rules.{sorts}
-use Rattle.own.specs.Words.{sizes, wordGroups}
+use Rattle.text.specs.Widths.{recWide}
+use Rattle.own.specs.Words.{recThen, sizes, wordGroups}
 use Rattle.grammar.specs.Faults.{armLows}
 use Rattle.parse.specs.Contract.{Turned}
 use Rattle.parse.specs.Infos.{Armed, pairArm, orderFrom, orderKind, firstNode, Arranged, exchanged, stayed}
@@ -68,7 +69,7 @@ then-part (sub k l h js r) e =
       its = node k l h js;
       words = concat (wordGroups (sub k l h js own.none));
       kids-is = ap (λ u. node k l h js ∷ u) (z .0);
-      groups-is = ap₂ (λ (u : List ℕ) (v : List (List ℕ)). u ∷ v) (sym (append-nil (k ∷ own.begin (own.yield js) ∷ own.end 0 (own.yield js) ∷ l ∷ h ∷ (1 + sizes js) ∷ concat (arrange (turned k js) (wordGroups js))))) (z .1);
+      groups-is = ap₂ (λ (u : List ℕ) (v : List (List ℕ)). u ∷ v) (sym (append-nil (recThen k (own.begin (own.yield js)) (own.end 0 (own.yield js)) l h (1 + sizes js) (concat (arrange (turned k js) (wordGroups js)))))) (z .1);
     }
 
 pub scrutiny : (P : Items) {a k l h c b : ℕ} → sorts P ≡ word a ∷ child k l h c ∷ word b ∷ [] → Scrutiny P
@@ -189,9 +190,9 @@ nine-two A a e = go (order-means (sorts A) a)
 
 -- The words of a node.
 abbrev nodeText : ℕ → ℕ → ℕ → Items → List ℕ
-nodeText k l h js = k ∷ own.begin (own.yield js) ∷ own.end 0 (own.yield js) ∷ l ∷ h ∷ (1 + sizes js) ∷ concat (arrange (turned k js) (wordGroups js))
+nodeText k l h js = recThen k (own.begin (own.yield js)) (own.end 0 (own.yield js)) l h (1 + sizes js) (concat (arrange (turned k js) (wordGroups js)))
 
-node-length : (k l h : ℕ) (js : Items) → length (nodeText k l h js) ≡ 6 * (1 + sizes js)
+node-length : (k l h : ℕ) (js : Items) → length (nodeText k l h js) ≡ recWide * (1 + sizes js)
 node-length k l h js = omega (arith, length-words (sub k l h js own.none), length-append (nodeText k l h js) [])
 
 -- The words of the two arms, exchanged behind those before them.
@@ -202,50 +203,50 @@ module _ (P : Items) (s : Scrutiny P) (k₁ l₁ h₁ k₂ l₂ h₂ : ℕ) (j�
   three-groups : wordGroups these ≡ s .words ∷ nodeText k₁ l₁ h₁ j₁ ∷ nodeText k₂ l₂ h₂ j₂ ∷ []
   three-groups = groups-joined P (joined (sub k₁ l₁ h₁ j₁ (sub k₂ l₂ h₂ j₂ own.none)) (mark y own.none)) ∙ ap (λ (u : List (List ℕ)). u ++ (nodeText k₁ l₁ h₁ j₁ ∷ nodeText k₂ l₂ h₂ j₂ ∷ [])) (s .groups-is)
 
-  first-length : length (s .words) ≡ 6 * sizes P
+  first-length : length (s .words) ≡ recWide * sizes P
   first-length = omega (arith, length-append (s .words) [], ap (λ (u : List (List ℕ)). length (concat u)) (s .groups-is), length-words P)
 
-  pub exchanges : (l : List ℕ) {m m′ : List ℕ} (r : ℕ) {from mid to : ℕ} → length m ≡ length l → 6 * to ≤ length l → m ≡ sets l (6 * r) (concat (wordGroups these))
-      → from ≡ r + sizes P → mid ≡ from + (1 + sizes j₁) → to ≡ mid + (1 + sizes j₂) → Turned m from mid to m′ → m′ ≡ sets l (6 * r) (concat (arrange true (wordGroups these)))
+  pub exchanges : (l : List ℕ) {m m′ : List ℕ} (r : ℕ) {from mid to : ℕ} → length m ≡ length l → recWide * to ≤ length l → m ≡ sets l (recWide * r) (concat (wordGroups these))
+      → from ≡ r + sizes P → mid ≡ from + (1 + sizes j₁) → to ≡ mid + (1 + sizes j₂) → Turned m from mid to m′ → m′ ≡ sets l (recWide * r) (concat (arrange true (wordGroups these)))
   exchanges l {m} {m′} r {from} {mid} {to} n f e a b c v =
       let g : List ℕ = s .words in
       let u : List ℕ = nodeText k₁ l₁ h₁ j₁ in
       let w : List ℕ = nodeText k₂ l₂ h₂ j₂ in
-      let i : 6 * r + length g ≡ 6 * from = omega (arith, first-length) in
-      let e₁ : m ≡ sets l (6 * r) (g ++ (u ++ w)) = e ∙ ap (λ (z : List (List ℕ)). sets l (6 * r) (concat z)) three-groups ∙ ap (λ (z : List ℕ). sets l (6 * r) (g ++ (u ++ z))) (append-nil w) in
-      let e₂ : m ≡ sets (sets l (6 * r) g) (6 * from) (u ++ w) = e₁ ∙ sets-append g (u ++ w) l (6 * r) ∙ ap (λ (z : ℕ). sets (sets l (6 * r) g) z (u ++ w)) i in
-      let e₃ : m′ ≡ sets (sets l (6 * r) g) (6 * from) (w ++ u) =
-      v .turn (sets l (6 * r) g) u w (omega arith) (length-sets l (6 * r) g ∙ sym n) e₂ (omega (arith, node-length k₁ l₁ h₁ j₁)) (omega (arith, node-length k₂ l₂ h₂ j₂)) in
-      e₃ ∙ ap (λ (z : ℕ). sets (sets l (6 * r) g) z (w ++ u)) (sym i) ∙ sym (sets-append g (w ++ u) l (6 * r))
-      ∙ ap (λ (z : List ℕ). sets l (6 * r) (g ++ (w ++ z))) (sym (append-nil u))
-      ∙ ap (λ (z : List (List ℕ)). sets l (6 * r) (concat (arrange true z))) (sym three-groups)
+      let i : recWide * r + length g ≡ recWide * from = omega (arith, first-length) in
+      let e₁ : m ≡ sets l (recWide * r) (g ++ (u ++ w)) = e ∙ ap (λ (z : List (List ℕ)). sets l (recWide * r) (concat z)) three-groups ∙ ap (λ (z : List ℕ). sets l (recWide * r) (g ++ (u ++ z))) (append-nil w) in
+      let e₂ : m ≡ sets (sets l (recWide * r) g) (recWide * from) (u ++ w) = e₁ ∙ sets-append g (u ++ w) l (recWide * r) ∙ ap (λ (z : ℕ). sets (sets l (recWide * r) g) z (u ++ w)) i in
+      let e₃ : m′ ≡ sets (sets l (recWide * r) g) (recWide * from) (w ++ u) =
+      v .turn (sets l (recWide * r) g) u w (omega arith) (length-sets l (recWide * r) g ∙ sym n) e₂ (omega (arith, node-length k₁ l₁ h₁ j₁)) (omega (arith, node-length k₂ l₂ h₂ j₂)) in
+      e₃ ∙ ap (λ (z : ℕ). sets (sets l (recWide * r) g) z (w ++ u)) (sym i) ∙ sym (sets-append g (w ++ u) l (recWide * r))
+      ∙ ap (λ (z : List ℕ). sets l (recWide * r) (g ++ (w ++ z))) (sym (append-nil u))
+      ∙ ap (λ (z : List (List ℕ)). sets l (recWide * r) (concat (arrange true z))) (sym three-groups)
 
 -- What `arrange` leaves: the words of the match as they are handed over.
 module _ (P A : Items) (y : Tok) (s : Scrutiny P) (a : Armed (sorts A)) (l : List ℕ) (r : ℕ) {m m′ : List ℕ} {from mid to : ℕ} (n : length m ≡ length l)
-    (e : 6 * to ≤ length l → m ≡ sets l (6 * r) (concat (wordGroups (joined P (joined A (mark y own.none))))))
+    (e : recWide * to ≤ length l → m ≡ sets l (recWide * r) (concat (wordGroups (joined P (joined A (mark y own.none))))))
     (f : from ≡ r + sizes P) (g : mid ≡ from + sizes (firstNode A)) (h : to ≡ r + sizes (joined P (joined A (mark y own.none)))) where
-  arranges-nine : orderFrom 0 (sorts A) ≡ 9 → Turned m from mid to m′ → 6 * to ≤ length l → m′ ≡ sets l (6 * r) (concat (arrange true (wordGroups (joined P (joined A (mark y own.none))))))
+  arranges-nine : orderFrom 0 (sorts A) ≡ 9 → Turned m from mid to m′ → recWide * to ≤ length l → m′ ≡ sets l (recWide * r) (concat (arrange true (wordGroups (joined P (joined A (mark y own.none))))))
   arranges-nine o v q =
       let p = nine-two A a o in
       let t = p .parts in
       let L : Items → Items = λ B. joined P (joined B (mark y own.none)) in
       let B : Items = sub (p .k₁) (p .l₁) (p .h₁) (t .j₁) (sub (p .k₂) (p .l₂) (p .h₂) (t .j₂) own.none) in
-      let e₁ : m ≡ sets l (6 * r) (concat (wordGroups (L B))) = e q ∙ ap (λ (z : Items). sets l (6 * r) (concat (wordGroups (L z)))) (t .is) in
+      let e₁ : m ≡ sets l (recWide * r) (concat (wordGroups (L B))) = e q ∙ ap (λ (z : Items). sets l (recWide * r) (concat (wordGroups (L z)))) (t .is) in
       let m₁ : sizes (firstNode A) ≡ 1 + sizes (t .j₁) + 0 = ap (λ (z : Items). sizes (firstNode z)) (t .is) in
       let s₁ : sizes (L A) ≡ sizes P + sizes (joined A (mark y own.none)) = sizes-joined P (joined A (mark y own.none)) in
       let s₂ : sizes (joined A (mark y own.none)) ≡ 1 + sizes (t .j₁) + (1 + sizes (t .j₂) + 0) = ap (λ (z : Items). sizes (joined z (mark y own.none))) (t .is) in
       exchanges P s (p .k₁) (p .l₁) (p .h₁) (p .k₂) (p .l₂) (p .h₂) (t .j₁) (t .j₂) y l r n q e₁ f (omega arith) (omega arith) v
-      ∙ ap (λ (z : Items). sets l (6 * r) (concat (arrange true (wordGroups (L z))))) (sym (t .is))
+      ∙ ap (λ (z : Items). sets l (recWide * r) (concat (arrange true (wordGroups (L z))))) (sym (t .is))
 
   pub arranges-long : Arranged (orderFrom 0 (sorts A)) m from mid to m′ → length m′ ≡ length l
   arranges-long (exchanged o v) = v .long ∙ n
   arranges-long (stayed o q) = ap length q ∙ n
 
-  pub arranges : Arranged (orderFrom 0 (sorts A)) m from mid to m′ → 6 * to ≤ length l
-      → m′ ≡ sets l (6 * r) (concat (arrange (turned (orderKind (orderFrom 0 (sorts A))) (joined P (joined A (mark y own.none)))) (wordGroups (joined P (joined A (mark y own.none))))))
+  pub arranges : Arranged (orderFrom 0 (sorts A)) m from mid to m′ → recWide * to ≤ length l
+      → m′ ≡ sets l (recWide * r) (concat (arrange (turned (orderKind (orderFrom 0 (sorts A))) (joined P (joined A (mark y own.none)))) (wordGroups (joined P (joined A (mark y own.none))))))
   arranges v q =
-      go v ∙ ap (λ (b : Bool). sets l (6 * r) (concat (arrange b (wordGroups (joined P (joined A (mark y own.none))))))) (sym (match-turned P A y s a))
+      go v ∙ ap (λ (b : Bool). sets l (recWide * r) (concat (arrange b (wordGroups (joined P (joined A (mark y own.none))))))) (sym (match-turned P A y s a))
     where
-      go : Arranged (orderFrom 0 (sorts A)) m from mid to m′ → m′ ≡ sets l (6 * r) (concat (arrange (eqb (orderFrom 0 (sorts A)) 9) (wordGroups (joined P (joined A (mark y own.none))))))
+      go : Arranged (orderFrom 0 (sorts A)) m from mid to m′ → m′ ≡ sets l (recWide * r) (concat (arrange (eqb (orderFrom 0 (sorts A)) 9) (wordGroups (joined P (joined A (mark y own.none))))))
       go (exchanged o v) = rw (eq-eqb (orderFrom 0 (sorts A)) 9 o) (arranges-nine o v q)
       go (stayed o p) = rw (ne-eqb (orderFrom 0 (sorts A)) 9 o) (p ∙ e q)

@@ -19,13 +19,14 @@ use Rattle.theory.specs.Ebnf.{sortOf}
 use Rattle.theory.specs.Same.{ex}
 use Rattle.own.specs.Tree as own
 use Rattle.own.specs.Tree.{Tok, Items, mark, marks, concat}
-use Rattle.own.specs.Words.{sizes, wordGroups}
+use Rattle.text.specs.Widths.{recWide}
+use Rattle.own.specs.Words.{recThen, sizes, wordGroups}
 use Rattle.own.specs.Flat.{no-token}
 use Rattle.theory.specs.Walk.{n-tok}
 use Rattle.own.specs.Law.{Sort, word}
 use Rattle.own.specs.Rules.{sorts}
 use Rattle.kinds.specs.Shape.{has}
-use Rattle.kinds.specs.Classes as t
+use Rattle.lexer.specs.Classes as t
 use Rattle.grammar.specs.Tables.{means, table}
 use Rattle.grammar.specs.TablesIndex.{n-arguments, n-path, n-functionName, n-identifier, n-path-many-DoubleColon, n-path-optional}
 use Rattle.grammar.specs.Records.{aMark, asName, roleOf, placed, arranged, sees, nameCount, lone, reads, textOf, firstOf}
@@ -346,13 +347,13 @@ module _ {x : Text} {st : State} {l : List ℕ} {a : ℕ} {st₁ : State} {l₁ 
 -- Arguments before whose records that of a name is put: as if the name had been there before.
 module _ {x : Text} {a b z : State} {l l₁ l₃ l₄ : List ℕ} {u v s e : ℕ} (y : Near x a) (q : Went x (nt n-arguments ∷ []) asItems Args a l b l₁ u v) (put : Put l₁ (b .out) 2 s e 0 0 1 l₃) (more : z ≡ reserved b) (turn : Turned l₃ (a .out) (b .out) (z .out) l₄) where
   abbrev pub name : List ℕ
-  name = 2 ∷ s ∷ e ∷ 0 ∷ 0 ∷ 1 ∷ []
+  name = recThen 2 s e 0 0 1 []
 
   abbrev pub before : List ℕ
-  before = sets l (6 * a .out) name
+  before = sets l (recWide * a .out) name
 
   pub put-before : Put l (a .out) 2 s e 0 0 1 before
-  put-before = record { long = length-sets l (6 * a .out) name; put = λ h. refl }
+  put-before = record { long = length-sets l (recWide * a .out) name; put = λ h. refl }
 
   words : List ℕ
   words = concat (wordGroups (q .L))
@@ -373,8 +374,8 @@ module _ {x : Text} {a b z : State} {l l₁ l₃ l₄ : List ℕ} {u v s e : ℕ
       let k : kept z ≡ kept b = ap₂ (λ i j. fault i j) (ap (λ (w : State). w .fault) more) (ap (λ (w : State). w .place) more) in
       let o₁ : z .out ≡ b .out + 1 = omega arith in
       let o₂ : (a .out + 1) % 4294967296 ≡ a .out + 1 = omega arith in
-      let n : length before ≡ length l = length-sets l (6 * a .out) name in
-      let size : length words ≡ 6 * sizes (q .L) = length-words (q .L) in
+      let n : length before ≡ length l = length-sets l (recWide * a .out) name in
+      let size : length words ≡ recWide * sizes (q .L) = length-words (q .L) in
       let n₁ = put .long in
       record {
         items = q .items;
@@ -389,13 +390,13 @@ module _ {x : Text} {a b z : State} {l l₁ l₃ l₄ : List ℕ} {u v s e : ℕ
           laid = λ h.
               let l₁-is = lay .laid (omega arith) in
               let l₃-is = put .put (omega arith) in
-              let both : l₃ ≡ sets l (6 * a .out) (words ++ name) = sets-next l words name (6 * a .out) (6 * b .out) l₁-is l₃-is (omega arith) in
-              let g : 6 * z .out ≤ length l₃ = omega arith in
+              let both : l₃ ≡ sets l (recWide * a .out) (words ++ name) = sets-next l words name (recWide * a .out) (recWide * b .out) l₁-is l₃-is (omega arith) in
+              let g : recWide * z .out ≤ length l₃ = omega arith in
               let g₁ : length l ≡ length l₃ = sym (put .long ∙ lay .long) in
-              let g₂ : 6 * a .out + length words ≡ 6 * b .out = omega arith in
-              let g₃ : 6 * b .out + 6 ≡ 6 * z .out = omega arith in
-              let g₄ : 6 * a .out + 6 ≡ 6 * ((a .out + 1) % 4294967296) = omega arith in
-              turn .turn l words name g g₁ both g₂ g₃ ∙ sets-append name words l (6 * a .out) ∙ ap (λ i. sets before i words) g₄;
+              let g₂ : recWide * a .out + length words ≡ recWide * b .out = omega arith in
+              let g₃ : recWide * b .out + recWide ≡ recWide * z .out = omega arith in
+              let g₄ : recWide * a .out + recWide ≡ recWide * ((a .out + 1) % 4294967296) = omega arith in
+              turn .turn l words name g g₁ both g₂ g₃ ∙ sets-append name words l (recWide * a .out) ∙ ap (λ i. sets before i words) g₄;
           worst = k ∙ lay .worst;
           stands = subst (Stands x) (sym more) (reserved-stands (lay .stands));
         };

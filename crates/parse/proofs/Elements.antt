@@ -19,7 +19,7 @@ use Rattle.theory.specs.Same.{ex}
 use Rattle.own.specs.Tree.{Tok, Items, marks}
 use Rattle.own.specs.Law.{Sort, word, child}
 use Rattle.own.specs.Rules.{sorts}
-use Rattle.kinds.specs.Classes as t
+use Rattle.lexer.specs.Classes as t
 use Rattle.grammar.specs.Tables.{means, table}
 use Rattle.grammar.specs.Records.{sees, partCount, lone, unended}
 use Rattle.parse.proofs.Step.{the-type}

@@ -21,6 +21,7 @@ use Rattle.theory.specs.Ebnf as shape
 use Rattle.theory.specs.Parse.{Found, found, stuck}
 use Rattle.own.specs.Tree.{Tok, Items, Node, Rec, roots, records, concat}
 use Rattle.own.specs.Flat.{no-token}
+use Rattle.text.specs.Widths.{recWide}
 use Rattle.own.specs.Words.{toks, wordGroups, recWords, words-are}
 use Rattle.kinds.specs.Words.{classOf}
 use Rattle.grammar.specs.WellShaped.{shapeOf, reads-shape, reads-too-few, sticks-shape}
@@ -60,7 +61,7 @@ start-toks draft [] i = refl
 start-toks draft (t ∷ ts) zero = refl
 start-toks draft (t ∷ ts) (suc i) = start-toks draft ts i
 
-length-rec : (rs : List Rec) → length (recWords rs) ≡ 6 * length rs
+length-rec : (rs : List Rec) → length (recWords rs) ≡ recWide * length rs
 length-rec [] = refl
 length-rec (r ∷ rs) = let e = length-rec rs in omega arith
 
@@ -96,7 +97,7 @@ few-tokens most n tw e = let h = or-false (ltb most n) (ltb tw (3 * n)) e in (lt
 -- What the last state says.
 module _ (draft words′ : List ℕ) (n rw′ : ℕ) (z : State) where
   abbrev late : Answer
-  late = cond (ltb rw′ (6 * z .out)) (Refused 15 0) (Records (z .out))
+  late = cond (ltb rw′ (recWide * z .out)) (Refused 15 0) (Records (z .out))
 
   pub end-left : {p : ℕ} → z .at < n → p ≡ startOf draft (tokensIn n words′) (z .at) → Refused 8 p ≡ ended draft words′ n rw′ z
   unfolding ended
@@ -114,11 +115,11 @@ module _ (draft words′ : List ℕ) (n rw′ : ℕ) (z : State) where
   end-fine : n ≤ z .at → z .fault ≡ 0 → late ≡ ended draft words′ n rw′ z
   end-fine h e = sym (ap (λ (b : Bool). cond b late (Refused (z .fault) (z .place))) (eq-eqb (z .fault) 0 e)) ∙ end-there h
 
-  pub end-small : n ≤ z .at → z .fault ≡ 0 → rw′ < 6 * z .out → Refused 15 0 ≡ ended draft words′ n rw′ z
-  end-small h e g = sym (ap (λ (b : Bool). cond b (Refused 15 0) (Records (z .out))) (lt-ltb rw′ (6 * z .out) g)) ∙ end-fine h e
+  pub end-small : n ≤ z .at → z .fault ≡ 0 → rw′ < recWide * z .out → Refused 15 0 ≡ ended draft words′ n rw′ z
+  end-small h e g = sym (ap (λ (b : Bool). cond b (Refused 15 0) (Records (z .out))) (lt-ltb rw′ (recWide * z .out) g)) ∙ end-fine h e
 
-  pub end-all : n ≤ z .at → z .fault ≡ 0 → 6 * z .out ≤ rw′ → Records (z .out) ≡ ended draft words′ n rw′ z
-  end-all h e g = sym (ap (λ (b : Bool). cond b (Refused 15 0) (Records (z .out))) (le-ltb rw′ (6 * z .out) g)) ∙ end-fine h e
+  pub end-all : n ≤ z .at → z .fault ≡ 0 → recWide * z .out ≤ rw′ → Records (z .out) ≡ ended draft words′ n rw′ z
+  end-all h e g = sym (ap (λ (b : Bool). cond b (Refused 15 0) (Records (z .out))) (le-ltb rw′ (recWide * z .out) g)) ∙ end-fine h e
 
 -- The first state.
 pub starts-at : (x : Text) {c b s : ℕ} → Gives (record { class = c; start = b; stop = s }) (tokAt x 0)
@@ -231,13 +232,13 @@ module _ (draft words′ : List ℕ) (n : ℕ) (h : 3 * n ≤ length words′) w
         its-count : length (records ns) ≡ z .out
         its-count = omega (arith, length-words (w .L), ap length its-words, length-rec (records ns), w .lays .sized, s .out-is)
 
-        its-fit : 6 * z .out ≤ k → l′ ≡ recWords (records ns) ++ replicate (k - length (recWords (records ns))) 0
+        its-fit : recWide * z .out ≤ k → l′ ≡ recWords (records ns) ++ replicate (k - length (recWords (records ns))) 0
         its-fit g =
             let ws : List ℕ = concat (wordGroups (w .L)) in
             let m : length l ≡ k = ap length zeros ∙ length-replicate k 0 in
             let v = length-words (w .L) in
             let t₀ : 0 + length ws ≡ length ws = omega arith in
-            w .lays .laid (omega arith) ∙ ap (λ (o : ℕ). sets l (6 * o) ws) (s .out-is) ∙ sets-eq ws l 0 (omega (arith, w .lays .sized, s .out-is))
+            w .lays .laid (omega arith) ∙ ap (λ (o : ℕ). sets l (recWide * o) ws) (s .out-is) ∙ sets-eq ws l 0 (omega (arith, w .lays .sized, s .out-is))
             ∙ (λ i. ws ++ drop (t₀ i) (zeros i)) ∙ ap (λ (u : List ℕ). ws ++ u) (drop-zeros (length ws) k 0)
             ∙ ap (λ (u : List ℕ). u ++ replicate (k - length u) 0) its-words
 
@@ -252,16 +253,16 @@ module _ (draft words′ : List ℕ) (n : ℕ) (h : 3 * n ≤ length words′) w
           all-read : R ≡ read ts ns
           all-read = reading-faulty none (its-kept true f)
 
-          fitted-is : (b : Bool) → ltb k (6 * z .out) ≡ b → fitted k R ≡ cond b (reader.refused 15 0) (reader.accepted (length ts) (z .out))
+          fitted-is : (b : Bool) → ltb k (recWide * z .out) ≡ b → fitted k R ≡ cond b (reader.refused 15 0) (reader.accepted (length ts) (z .out))
           fitted-is b g =
-              ap (fitted k) all-read ∙ ap (λ (m : ℕ). cond (ltb k (6 * m)) (reader.refused 15 0) (reader.accepted (length ts) m)) its-count
+              ap (fitted k) all-read ∙ ap (λ (m : ℕ). cond (ltb k (recWide * m)) (reader.refused 15 0) (reader.accepted (length ts) m)) its-count
               ∙ ap (λ (b : Bool). cond b (reader.refused 15 0) (reader.accepted (length ts) (z .out))) g
 
-          says-read : (b : Bool) → ltb k (6 * z .out) ≡ b → Says l′ (cond b (Refused 15 0) (Records (z .out)))
+          says-read : (b : Bool) → ltb k (recWide * z .out) ≡ b → Says l′ (cond b (Refused 15 0) (Records (z .out)))
           says-read true g = (ap answered (fitted-is true g), λ m q. absurd (differ (ap taken q)))
           says-read false g = (
             ap answered (fitted-is false g),
-            λ m q. its-fit (ltb-false k (6 * z .out) g)
+            λ m q. its-fit (ltb-false k (recWide * z .out) g)
                 ∙ sym (ap₂ (λ (c : reader.Answer) (q : Reading). content c (recWords (records (treesRead q))) k) (fitted-is false g) all-read),
           )
 
@@ -269,9 +270,9 @@ module _ (draft words′ : List ℕ) (n : ℕ) (h : 3 * n ≤ length words′) w
       its-end e = omega (arith, ltb-false (z .at) n e, w .lays .stands .within, length-is)
 
       says-ended : (b : Bool) → ltb (z .at) n ≡ b → (d : Bool) → eqb (z .fault) 0 ≡ d
-          → Says l′ (cond b (Refused 8 (startOf draft ts (z .at))) (cond d (cond (ltb k (6 * z .out)) (Refused 15 0) (Records (z .out))) (Refused (z .fault) (z .place))))
+          → Says l′ (cond b (Refused 8 (startOf draft ts (z .at))) (cond d (cond (ltb k (recWide * z .out)) (Refused 15 0) (Records (z .out))) (Refused (z .fault) (z .place))))
       says-ended true e d f = sticks (z .at) (reads-too-few (classes x) r (z .at) its-read (omega (arith, ltb-true (z .at) n e, its-length)))
-      says-ended false e true f = says-read (its-end e) f (ltb k (6 * z .out)) refl
+      says-ended false e true f = says-read (its-end e) f (ltb k (recWide * z .out)) refl
       says-ended false e false f = refuses (z .fault) (z .place) (reading-faulty (its-end e) (some (record { number = z .fault; place = z .place })) (its-kept (its-end e) false f))
 
     -- What the whole function says is the reader's answer, and the buffer holds what the reader says.

@@ -17,11 +17,12 @@ use Rattle.theory.specs.Grammar.{Sym}
 use Rattle.theory.specs.Ebnf as shape
 use Rattle.own.specs.Tree as own
 use Rattle.own.specs.Tree.{Tok, Items, mark, sub, marks, turned, arrange, concat}
+use Rattle.text.specs.Widths.{recWide}
 use Rattle.own.specs.Words.{wordGroups}
 use Rattle.own.specs.Flat.{no-token}
 use Rattle.own.specs.Law.{Sort, word, child}
 use Rattle.own.specs.Rules.{sorts}
-use Rattle.kinds.specs.Classes as t
+use Rattle.lexer.specs.Classes as t
 use Rattle.grammar.specs.Records.{Head, head, firstOf, textOf, reads}
 use Rattle.grammar.specs.Faults.{faultsAt, earliest}
 use Rattle.grammar.specs.ShapeKind.{ListTypeShape, MatchShape, FoldingShape}
@@ -122,7 +123,7 @@ module _ {x : Text} {st r : State} {K : ℕ} {N : ℕ → Type 0} {rhs : List Sy
       → ((is : Items) → sorts is ≡ w → marks is ≡ ms → earliest (faultsAt (x .draft) k is) ≡ fault number place) → Went x rhs (asNode k) (Node P) st l st₂ l′ 0 0
   shut-judged k y o d one hd hn t P p put j own =
       shuts-in k y o d one hd hn P p (d .lays .long)
-      (λ h. d .lays .laid h ∙ ap (λ b. sets l (6 * r .out) (concat (arrange b (wordGroups (d .L))))) (sym (unturned K (d .L) t)))
+      (λ h. d .lays .laid h ∙ ap (λ b. sets l (recWide * r .out) (concat (arrange b (wordGroups (d .L))))) (sym (unturned K (d .L) t)))
       put refl (record { at-is = j .at-is; out-is = j .out-is }) (judged-stands (d .lays .stands) j)
       (judged-kept k y o d one hd hn j own)
 

@@ -22,7 +22,7 @@ use Rattle.own.specs.Law.{Sort, word}
 use Rattle.own.specs.Rules.{sorts}
 use Rattle.kinds.specs.Shape.{has, span}
 use Rattle.kinds.specs.Fields.{counted}
-use Rattle.kinds.specs.Classes as t
+use Rattle.lexer.specs.Classes as t
 use Rattle.grammar.specs.Tables.{means, table}
 use Rattle.grammar.specs.TablesIndex.{n-arm}
 use Rattle.grammar.specs.Records.{head, sees, opening, nameCount, placeIn, armHead}

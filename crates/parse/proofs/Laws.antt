@@ -23,6 +23,7 @@ use Rattle.own.specs.Tree.{Tok, Items, mark, sub, marks, concat}
 use Rattle.own.specs.Flat.{no-token}
 use Rattle.own.specs.Law.{Sort, word}
 use Rattle.own.specs.Rules.{sorts, firstClass}
+use Rattle.text.specs.Widths.{recWide}
 use Rattle.own.specs.Words.{sizes, wordGroups}
 use Rattle.grammar.specs.Shapes.{shapes}
 use Rattle.grammar.specs.Tables.{means, table}
@@ -84,8 +85,8 @@ laid-join {x} {st} {l} {r} {L} {m} {st₁} {l₁} {u} {M} {n} {st₂} {l₂} p q
       few = omega arith;
       long = g₂ ∙ g₁;
       laid = λ h.
-          sets-next l (concat (wordGroups L)) (concat (wordGroups M)) (6 * st .out) (6 * st₁ .out) (p .laid (omega arith)) (q .laid (omega arith)) (omega arith)
-          ∙ ap (sets l (6 * st .out)) (sym (words-joined L M));
+          sets-next l (concat (wordGroups L)) (concat (wordGroups M)) (recWide * st .out) (recWide * st₁ .out) (p .laid (omega arith)) (q .laid (omega arith)) (omega arith)
+          ∙ ap (sets l (recWide * st .out)) (sym (words-joined L M));
       worst =
           q .worst ∙ ap₂ (λ a i. sooner a (faultIn x i u)) (p .worst) e₁ ∙ sooner-assoc (kept st) (faultIn x (st .at) r) (faultIn x (st .at + length (shape.yield r)) u)
           ∙ ap (sooner (kept st)) (sym (fault-join x (st .at) r u));

@@ -16,7 +16,8 @@ use Rattle.own.specs.Tree as own
 use Rattle.own.specs.Tree.{Tok, Items, mark, sub, marks, turned, arrange, exchange, concat}
 use Rattle.own.specs.Law.{Sort}
 use Rattle.own.specs.Rules.{sorts}
-use Rattle.own.specs.Words.{sizes, wordGroups}
+use Rattle.text.specs.Widths.{recWide}
+use Rattle.own.specs.Words.{recThen, sizes, wordGroups}
 use Rattle.grammar.specs.Records.{Role, aMark, asName, asNumber, roleOf, placed, arranged, reads, decimal, firstTok, headFor, recorded, recordItems}
 use Rattle.grammar.specs.Faults.{Fault, faultsAt, faults, earlier, earliest}
 use Rattle.parse.specs.Contract.{Text, raw, faultIn, sooner}
@@ -81,13 +82,13 @@ length-arranged true (e ∷ a ∷ b ∷ []) =
     omega (arith, length-append e (b ++ (a ++ [])), length-append b (a ++ []), length-append a [], length-append e (a ++ (b ++ [])), length-append a (b ++ []), length-append b [])
 length-arranged true (e ∷ a ∷ b ∷ c ∷ l) = refl
 
--- Six words a record.
-pub length-words : (L : Items) → length (concat (wordGroups L)) ≡ 6 * sizes L
+-- So many words a record.
+pub length-words : (L : Items) → length (concat (wordGroups L)) ≡ recWide * sizes L
 length-words own.none = refl
 length-words (mark t r) = length-words r
 length-words (sub k l h js r) =
     let g = arrange (turned k js) (wordGroups js) in
-    omega (arith, length-append (k ∷ own.begin (own.yield js) ∷ own.end 0 (own.yield js) ∷ l ∷ h ∷ (1 + sizes js) ∷ concat g) (concat (wordGroups r)), length-arranged (turned k js) (wordGroups js), length-words js, length-words r)
+    omega (arith, length-append (recThen k (own.begin (own.yield js)) (own.end 0 (own.yield js)) l h (1 + sizes js) (concat g)) (concat (wordGroups r)), length-arranged (turned k js) (wordGroups js), length-words js, length-words r)
 
 pub yield-join : (r u : shape.Items) → shape.yield (join r u) ≡ shape.yield r ++ shape.yield u
 unfolding shape.yield

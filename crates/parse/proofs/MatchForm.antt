@@ -17,6 +17,7 @@ use Rattle.own.specs.Tree as own
 use Rattle.own.specs.Tree.{Tok, Items, mark, sub, marks, turned, arrange, concat}
 use Rattle.own.specs.Law.{Sort, word, child}
 use Rattle.own.specs.Rules.{sorts}
+use Rattle.text.specs.Widths.{recWide}
 use Rattle.own.specs.Words.{sizes, wordGroups}
 use Rattle.grammar.specs.Shapes.{shapes}
 use Rattle.grammar.specs.Tables.{means, table}
@@ -196,8 +197,8 @@ module _ {x : Text} {st r a b d f : State} {l l₁ l₂ : List ℕ} {s₁ s₂ s
       to-is : g .out ≡ r .out + sizes M
       to-is = match₅ .amid .lays .sized ∙ ap (λ (w : Items). r .out + sizes w) (match₅ .is)
 
-      words-here : 6 * g .out ≤ length l → l₂ ≡ sets l (6 * r .out) (concat (wordGroups M))
-      words-here h = match₅ .amid .lays .laid h ∙ ap (λ (w : Items). sets l (6 * r .out) (concat (wordGroups w))) (match₅ .is)
+      words-here : recWide * g .out ≤ length l → l₂ ≡ sets l (recWide * r .out) (concat (wordGroups M))
+      words-here h = match₅ .amid .lays .laid h ∙ ap (λ (w : Items). sets l (recWide * r .out) (concat (wordGroups w))) (match₅ .is)
 
       here : Arranged (orderFrom 0 (sorts (q .L))) l₂ (b .out) mid (g .out) l₃
       here = subst (λ (n : ℕ). Arranged n l₂ (b .out) mid (g .out) l₃) order-here u
@@ -205,10 +206,10 @@ module _ {x : Text} {st r a b d f : State} {l l₁ l₂ : List ℕ} {s₁ s₂ s
       pub match-long : length l₃ ≡ length l
       match-long = arranges-long (third .L) (q .L) (tokAt x (f .at)) (scrutiny (third .L) third-sorts) its-arms l (r .out) (match₅ .amid .lays .long) words-here from-is mid-here to-is here
 
-      pub match-words : 6 * g .out ≤ length l → l₃ ≡ sets l (6 * r .out) (concat (arrange (turned K (match₅ .amid .L)) (wordGroups (match₅ .amid .L))))
+      pub match-words : recWide * g .out ≤ length l → l₃ ≡ sets l (recWide * r .out) (concat (arrange (turned K (match₅ .amid .L)) (wordGroups (match₅ .amid .L))))
       match-words h =
           arranges (third .L) (q .L) (tokAt x (f .at)) (scrutiny (third .L) third-sorts) its-arms l (r .out) (match₅ .amid .lays .long) words-here from-is mid-here to-is here h
-          ∙ ap₂ (λ (n : ℕ) (w : Items). sets l (6 * r .out) (concat (arrange (turned (orderKind n) w) (wordGroups w)))) (sym order-here) (sym (match₅ .is))
+          ∙ ap₂ (λ (n : ℕ) (w : Items). sets l (recWide * r .out) (concat (arrange (turned (orderKind n) w) (wordGroups w)))) (sym order-here) (sym (match₅ .is))
 
       -- The record of the match.
       pub match-shut : {l′ : List ℕ} {z : State} → Ready x st → Put l₃ (st .out) K (st .start) (g .end) 0 0 (g .out - st .out) l′ → Judged st g (orderFault order) (st .start) z

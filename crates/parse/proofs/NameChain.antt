@@ -15,7 +15,7 @@ use Rattle.own.specs.Law.{Sort, word}
 use Rattle.own.specs.Rules.{sorts}
 use Rattle.kinds.specs.Shape.{has}
 use Rattle.kinds.specs.Fields.{counted}
-use Rattle.kinds.specs.Classes as t
+use Rattle.lexer.specs.Classes as t
 use Rattle.grammar.specs.TablesIndex.{n-identifier, n-path-many-DoubleColon}
 use Rattle.grammar.specs.Records.{Role, asName, asNumber, roleOf, placed, arranged, lowHalf, highHalf, sees, nameCount}
 use Rattle.parse.proofs.Step.{the-type}

@@ -16,7 +16,7 @@ use Rattle.theory.specs.Ebnf as shape
 use Rattle.theory.specs.Ebnf.{sortOf}
 use Rattle.theory.specs.Same.{ex}
 use Rattle.kinds.specs.Shape.{has}
-use Rattle.kinds.specs.Classes as t
+use Rattle.lexer.specs.Classes as t
 use Rattle.grammar.specs.Tables.{means, table}
 use Rattle.grammar.specs.TablesIndex.{n-identifier, n-functionName, n-path-many-DoubleColon}
 use Rattle.own.specs.Tree as own

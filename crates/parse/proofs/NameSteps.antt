@@ -16,7 +16,7 @@ use Rattle.theory.specs.Same.{ex}
 use Rattle.theory.specs.Walk.{k-tok, k-nt}
 use Rattle.grammar.specs.Tables.{means, table}
 use Rattle.grammar.specs.Records.{reads, textOf, lowHalf, highHalf}
-use Rattle.kinds.specs.Classes as t
+use Rattle.lexer.specs.Classes as t
 use Rattle.parse.specs.Contract.{Text, tokAt, Stands, Ready, Near, Moved, Put, Info, asItems, Parsed, read, stuck, reserved, Named, Decimal, valueAt}
 use Rattle.parse.specs.declared.State.{State}
 use Rattle.parse.specs.declared.Step.the-variants.{Next, Refused}

@@ -10,7 +10,7 @@ use lib.Dec.{eqb}
 use lib.ListN.{length, getD}
 use Rattle.text.specs.Ascii.{ascii, asciiFrom}
 use Rattle.text.specs.Same.{same, same-length, differ}
-use Rattle.kinds.specs.Classes as t
+use Rattle.lexer.specs.Classes as t
 use Rattle.kinds.specs.Shape.{has}
 use Rattle.grammar.specs.Records.{plain, patternName}
 use Rattle.parse.specs.Contract.{nameSort}

@@ -23,7 +23,7 @@ use Rattle.own.specs.Rules.{sorts}
 use Rattle.own.specs.Words.{sizes}
 use Rattle.kinds.specs.Shape.{has}
 use Rattle.kinds.specs.Fields.{counted}
-use Rattle.kinds.specs.Classes as t
+use Rattle.lexer.specs.Classes as t
 use Rattle.grammar.specs.Tables.{table}
 use Rattle.grammar.specs.TablesIndex.{n-identifier, n-functionName, n-path-many-DoubleColon}
 use Rattle.grammar.specs.Records.{aMark, roleOf, arranged, sees, nameCount}

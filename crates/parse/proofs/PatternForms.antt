@@ -22,7 +22,7 @@ use Rattle.words.specs.Words.{BOOL, UINT_TYPES, BUILTIN_ALIASES, wordOf}
 use Rattle.words.specs.declared.Found.{Found}
 use Rattle.words.specs.declared.Found.the-variants.{Word, Plain}
 use Rattle.kinds.specs.Shape.{has}
-use Rattle.kinds.specs.Classes as t
+use Rattle.lexer.specs.Classes as t
 use Rattle.theory.specs.Grammar.{Sym, tok, nt, Case, on, look, Row, row, alt, pick}
 use Rattle.theory.specs.Machine.{choose, expand}
 use Rattle.theory.specs.Ebnf as shape

@@ -14,7 +14,7 @@ use Rattle.own.specs.Law.{Sort, word, child}
 use Rattle.own.specs.Rules.{sorts}
 use Rattle.kinds.specs.Shape.{has, span, count}
 use Rattle.kinds.specs.Fields.{counted}
-use Rattle.kinds.specs.Classes as t
+use Rattle.lexer.specs.Classes as t
 use Rattle.grammar.specs.Records.{Role, aMark, asName, asNumber, roleOf, placed, arranged, sees, nameCount}
 use Rattle.parse.specs.Contract.{TypeKind, PatternKind, ExprKind}
 use Rattle.parse.proofs.Sweep.{run-at}

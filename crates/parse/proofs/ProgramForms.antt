@@ -24,7 +24,7 @@ use Rattle.own.specs.Law.{Sort, word, child}
 use Rattle.own.specs.Rules.{sorts}
 use Rattle.kinds.specs.Shape.{has}
 use Rattle.kinds.specs.Fields.{counted}
-use Rattle.kinds.specs.Classes as t
+use Rattle.lexer.specs.Classes as t
 use Rattle.grammar.specs.Shapes.{shapes}
 use Rattle.grammar.specs.Tables.{means, table}
 use Rattle.grammar.specs.Records.{head, sees, headOf, forms, formOf, functionHead}

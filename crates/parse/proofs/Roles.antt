@@ -10,7 +10,7 @@ use lib.Dec.{T, eqb, ltb, eqb→eq, ltb→lt}
 use Rattle.text.specs.Same.{differ}
 use Rattle.text.specs.Table.{first-of, second-of, is-true}
 use Rattle.kinds.specs.Shape.{has}
-use Rattle.kinds.specs.Classes as t
+use Rattle.lexer.specs.Classes as t
 use Rattle.grammar.specs.Records.{Role, aMark, asName, asNumber, roleOf}
 use Rattle.parse.proofs.Sweep.{run, run-at, sweep, has-past, low-all}
 

@@ -7,6 +7,8 @@ use native.Mathlib.Nat.{add-zero}
 use mathlib.Core.List.{List, [], _∷_, _++_, append-assoc}
 use lib.ListN.{length, set, take, drop, length-append, length-set, length-take, length-drop}
 use lib.Seq.{sets, sets-eq, length-sets, set-comm, take-at, drop-at, length-take-le}
+use Rattle.text.specs.Widths.{recWide}
+use Rattle.own.specs.Words.{recThen}
 use Rattle.parse.specs.Contract.{Put}
 
 -- side by side: one after the other
@@ -30,13 +32,13 @@ pub sets-next : (l : List ℕ) {l₁ l₂ : List ℕ} (a b : List ℕ) (i j : �
 sets-next l a b i j p q e = q ∙ (λ k. sets (p k) (sym e k) b) ∙ sym (sets-append a b l i)
 
 -- The header law: a record written after what lies below it.
-pub header : (l : List ℕ) {l₁ l′ : List ℕ} (ws : List ℕ) (out k b e low high z : ℕ) → l₁ ≡ sets l (6 * (out + 1)) ws → Put l₁ out k b e low high z l′ → 6 * out + 6 ≤ length l
-    → l′ ≡ sets l (6 * out) (k ∷ b ∷ e ∷ low ∷ high ∷ z ∷ ws)
+pub header : (l : List ℕ) {l₁ l′ : List ℕ} (ws : List ℕ) (out k b e low high z : ℕ) → l₁ ≡ sets l (recWide * (out + 1)) ws → Put l₁ out k b e low high z l′ → recWide * out + recWide ≤ length l
+    → l′ ≡ sets l (recWide * out) (recThen k b e low high z ws)
 header l {l₁} ws out k b e low high z p q h =
-    let hd : List ℕ = k ∷ b ∷ e ∷ low ∷ high ∷ z ∷ [] in
-    let n : length l₁ ≡ length l = ap length p ∙ length-sets l (6 * (out + 1)) ws in
-    q .put (omega arith) ∙ ap (λ (m : List ℕ). sets m (6 * out) hd) p ∙ sym (sets-sets hd ws l (6 * out) (6 * (out + 1)) (omega arith))
-    ∙ ap (λ (j : ℕ). sets (sets l (6 * out) hd) j ws) (omega arith) ∙ sym (sets-append hd ws l (6 * out))
+    let hd : List ℕ = recThen k b e low high z [] in
+    let n : length l₁ ≡ length l = ap length p ∙ length-sets l (recWide * (out + 1)) ws in
+    q .put (omega arith) ∙ ap (λ (m : List ℕ). sets m (recWide * out) hd) p ∙ sym (sets-sets hd ws l (recWide * out) (recWide * (out + 1)) (omega arith))
+    ∙ ap (λ (j : ℕ). sets (sets l (recWide * out) hd) j ws) (omega arith) ∙ sym (sets-append hd ws l (recWide * out))
 
 -- the part of a buffer where two runs stand, turned round
 pub turns : (l₀ u v : List ℕ) (a m b : ℕ) → a + length u ≡ m → m + length v ≡ b → b ≤ length l₀ → {l l′ : List ℕ} → l ≡ sets l₀ a (u ++ v)

@@ -20,12 +20,13 @@ use Rattle.own.specs.Tree.{Tok, Items, mark, sub, marks, begin, end, turned, ar
 use Rattle.own.specs.Flat.{no-token}
 use Rattle.own.specs.Law.{Sort, word, child}
 use Rattle.own.specs.Rules.{sorts, firstClass}
-use Rattle.own.specs.Words.{sizes, wordGroups, place-start, place-stop}
+use Rattle.text.specs.Widths.{recWide}
+use Rattle.own.specs.Words.{recThen, sizes, wordGroups, place-start, place-stop}
 use Rattle.grammar.specs.Tables.{means, table}
 use Rattle.grammar.specs.Records.{Head, head, Role, aMark, asName, asNumber, roleOf, placed, arranged, firstTok, firstOf, textOf, reads, decimal, headOf, formOf, headFor, recorded, recordItems}
 use Rattle.grammar.specs.Faults.{Fault, faultsAt, faults, earliest}
 use Rattle.grammar.specs.KeptTokens.{classesOf, length-classes, yield-arranged, yield-records}
-use Rattle.kinds.specs.Classes as t
+use Rattle.lexer.specs.Classes as t
 use Rattle.parse.specs.Contract.{Text, classes, tokAt, Read, Stuck, raw, faultIn, sooner, kept, fault, Stands, Ready, Moved, Put, Laid, Info, asItems, asNode, Went, Parsed, read, stuck, reserved, cleaned, Mark, Named, Node}
 use Rattle.parse.specs.declared.State.{State}
 use Rattle.parse.proofs.Splice.{header, sets-next}
@@ -53,8 +54,8 @@ arrange-nil true = refl
 arrange-nil false = refl
 
 -- the words of the record of one token
-leaf-words : (kind low high : ℕ) (t : Tok) → concat (wordGroups (sub kind low high (mark t own.none) own.none)) ≡ kind ∷ t .start ∷ t .stop ∷ low ∷ high ∷ 1 ∷ []
-leaf-words kind low high t = ap (λ (g : List (List ℕ)). kind ∷ t .start ∷ t .stop ∷ low ∷ high ∷ 1 ∷ (concat g ++ [])) (arrange-nil (turned kind (mark t own.none)))
+leaf-words : (kind low high : ℕ) (t : Tok) → concat (wordGroups (sub kind low high (mark t own.none) own.none)) ≡ recThen kind (t .start) (t .stop) low high 1 []
+leaf-words kind low high t = ap (λ (g : List (List ℕ)). recThen kind (t .start) (t .stop) low high 1 (concat g ++ [])) (arrange-nil (turned kind (mark t own.none)))
 
 module _ {x : Text} {st st′ : State} (h : Stands x st) (i : st .at < length (x .ts)) (v : Moved x st st′) where
   -- The state after a token stands at the next one.
@@ -112,8 +113,8 @@ module _ {x : Text} {st st′ : State} (h : Stands x st) (i : st .at < length (x
           few = omega arith;
           long = put .long;
           laid = λ g. put .put (omega arith)
-              ∙ (λ j. sets l (6 * o j) (kind ∷ h .start-is j ∷ h .stop-is j ∷ low ∷ high ∷ 1 ∷ []))
-              ∙ ap (sets l (6 * st .out)) (sym (leaf-words kind low high (tokAt x (st .at))));
+              ∙ (λ j. sets l (recWide * o j) (recThen kind (h .start-is j) (h .stop-is j) low high 1 []))
+              ∙ ap (sets l (recWide * st .out)) (sym (leaf-words kind low high (tokAt x (st .at))));
           worst = k₂ ∙ v .kept-is ∙ sym (sooner-none (kept st)) ∙ ap (sooner (kept st)) (sym (no-faults x (st .at) c));
           stands = subst (Stands x) (sym more) (stands-on moved);
         }

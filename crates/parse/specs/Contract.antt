@@ -21,11 +21,12 @@ use Rattle.own.specs.Tree.{Tok, Items, concat}
 use Rattle.own.specs.Flat.{no-token}
 use Rattle.own.specs.Law.{Sort, word, child}
 use Rattle.own.specs.Rules.{sorts}
-use Rattle.own.specs.Words.{toks, sizes, wordGroups}
+use Rattle.text.specs.Widths.{recWide}
+use Rattle.own.specs.Words.{recThen, toks, sizes, wordGroups}
 use Rattle.kinds.specs.Words.{classOf}
 use Rattle.kinds.specs.Shape.{has}
 use Rattle.kinds.specs.Fields.{counted}
-use Rattle.kinds.specs.Classes as t
+use Rattle.lexer.specs.Classes as t
 use Rattle.grammar.specs.Shapes.{shapes}
 use Rattle.grammar.specs.Tables.{means, table}
 use Rattle.grammar.specs.TablesIndex.{n-arm, n-head}
@@ -117,13 +118,13 @@ pub data Eaten (x : Text) (st : State) (c : ℕ) : Step → Type 0 where
 -- The record `here` is written where it fits.
 pub record Put (l : List ℕ) (here k b e low high z : ℕ) (l′ : List ℕ) : Type 0 where
   pub long : length l′ ≡ length l
-  pub put : 6 * here + 6 ≤ length l → l′ ≡ sets l (6 * here) (k ∷ b ∷ e ∷ low ∷ high ∷ z ∷ [])
+  pub put : recWide * here + recWide ≤ length l → l′ ≡ sets l (recWide * here) (recThen k b e low high z [])
 
 -- The records from `from` to `mid`, u, and those up to `to`, v, are exchanged where they fit.
 pub record Turned (l : List ℕ) (from mid to : ℕ) (l′ : List ℕ) : Type 0 where
   pub long : length l′ ≡ length l
-  pub turn : (l₀ u v : List ℕ) → 6 * to ≤ length l → length l₀ ≡ length l → l ≡ sets l₀ (6 * from) (u ++ v)
-      → 6 * from + length u ≡ 6 * mid → 6 * mid + length v ≡ 6 * to → l′ ≡ sets l₀ (6 * from) (v ++ u)
+  pub turn : (l₀ u v : List ℕ) → recWide * to ≤ length l → length l₀ ≡ length l → l ≡ sets l₀ (recWide * from) (u ++ v)
+      → recWide * from + length u ≡ recWide * mid → recWide * mid + length v ≡ recWide * to → l′ ≡ sets l₀ (recWide * from) (v ++ u)
 
 -- From st and the buffer l to st′ and l′: as many tokens were passed as r has; the records of L stand behind those before, where they
 -- fit; m tokens belong to no record yet; and the earliest refusal is kept.
@@ -132,7 +133,7 @@ pub record Laid (x : Text) (st : State) (l : List ℕ) (r : shape.Items) (L : It
   pub sized : st′ .out ≡ st .out + sizes L
   pub few : st′ .out + st .at + m ≤ st .out + st′ .at
   pub long : length l′ ≡ length l
-  pub laid : 6 * st′ .out ≤ length l → l′ ≡ sets l (6 * st .out) (concat (wordGroups L))
+  pub laid : recWide * st′ .out ≤ length l → l′ ≡ sets l (recWide * st .out) (concat (wordGroups L))
   pub worst : kept st′ ≡ sooner (kept st) (faultIn x (st .at) r)
   pub stands : Stands x st′
 

@@ -11,6 +11,7 @@ use lib.ListN.{length, replicate}
 use Rattle.lexer.specs.Lexemes.{Token}
 use Rattle.lexer.specs.Buffer.{tokensIn}
 use Rattle.own.specs.Tree.{records}
+use Rattle.text.specs.Widths.{recWide}
 use Rattle.own.specs.Words.{recWords}
 use Rattle.grammar.specs.WellShaped.{shapeOf}
 use Rattle.grammar.specs.KeptTokens.{classesOf}
@@ -57,7 +58,7 @@ pub record Starts (x : Text) (st : State) : Type 0 where
 unfoldable pub ended : List ℕ → List ℕ → ℕ → ℕ → State → Answer
 ended draft words n rw z =
     cond (ltb (z .at) n) (Refused 8 (startOf draft (tokensIn n words) (z .at)))
-    (cond (eqb (z .fault) 0) (cond (ltb rw (6 * z .out)) (Refused 15 0) (Records (z .out))) (Refused (z .fault) (z .place)))
+    (cond (eqb (z .fault) 0) (cond (ltb rw (recWide * z .out)) (Refused 15 0) (Records (z .out))) (Refused (z .fault) (z .place)))
 
 -- What the step of the whole function says.
 abbrev pub judged : List ℕ → List ℕ → ℕ → ℕ → steps.Step → Answer

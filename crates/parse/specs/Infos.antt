@@ -14,7 +14,7 @@ use Rattle.own.specs.Rules.{sorts}
 use Rattle.own.specs.Words.{sizes}
 use Rattle.kinds.specs.Shape.{span}
 use Rattle.kinds.specs.Fields.{counted}
-use Rattle.kinds.specs.Classes as t
+use Rattle.lexer.specs.Classes as t
 use Rattle.grammar.specs.Records.{Head, head, sees, nameCount, lone, unended, armHead, arranged}
 use Rattle.parse.specs.Contract.{Text, Moved, Only, Turned}
 use Rattle.parse.specs.declared.State.{State}

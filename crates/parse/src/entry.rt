@@ -11,6 +11,7 @@ use crate::State;
 use crate::Step;
 use crate::program;
 use crate::token;
+use text::RECORD_WORDS;
 
 // Whether there are more tokens than there may be, or than so many words hold.
 fn too_many(most: usize, count: usize, words: usize) -> bool
@@ -69,7 +70,7 @@ fn end(draft: &[u8], tokens: &[u32], count: usize, room: usize, z: State) -> Ans
         };
     }
     let records = z.out as usize;
-    if room < 6 * records {
+    if room < RECORD_WORDS * records {
         return Answer::Refused {
             number: 15,
             place: 0,

@@ -5,7 +5,7 @@ ghost use lib.Dec.{eqb};
 ghost use mathlib.Core.List.{[], _∷_};
 ghost use mathlib.Core.Path.{_≡_};
 ghost use Prim.Native.Nat.{_<_};
-ghost use Rattle.kinds.specs.Classes as t;
+ghost use Rattle.lexer.specs.Classes as t;
 ghost use Rattle.theory.specs.Grammar.{nt};
 ghost use Rattle.theory.specs.Machine.{choose};
 ghost use Rattle.grammar.specs.Tables.{table};

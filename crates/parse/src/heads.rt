@@ -4,7 +4,7 @@ ghost use mathlib.Core.Bool.{cond};
 ghost use mathlib.Core.List.{[], _∷_};
 ghost use mathlib.Core.Path.{_≡_};
 ghost use lib.Dec.{eqb};
-ghost use Rattle.kinds.specs.Classes as t;
+ghost use Rattle.lexer.specs.Classes as t;
 ghost use Rattle.theory.specs.Grammar.{nt};
 ghost use Rattle.grammar.specs.TablesIndex.{n-head, n-headPath, n-pair, n-headPath-optional-LParen, n-tail-pair};
 ghost use Rattle.parse.specs.Contract.{text, Ready, Moved, Parsed, asItems, headSort};

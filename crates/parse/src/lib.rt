@@ -43,7 +43,7 @@ pub enum Answer {
     TooMany,
 }
 
-// Writes the records of a draft with so many tokens, six words each, and zeros behind them; on a refusal every word is 0.
+// Writes the records of a draft with so many tokens, `RECORD_WORDS` words each, and zeros behind them; on a refusal every word is 0.
 pub fn parse(draft: &[u8], tokens: &[u32], count: usize, tree: &mut [u32]) -> Answer
     ensures { λ r. ⌜ r ≡ answerOf (draftLimits .tokens) (now (draft .entry)) (now (tokens .entry)) count (length (now (tree .entry))) ⌝ }
     ensures { λ _. ⌜ now (tree .exit) ≡ treeOf (draftLimits .tokens) (now (draft .entry)) (now (tokens .entry)) count (length (now (tree .entry))) ⌝ }

@@ -6,7 +6,7 @@ ghost use lib.Dec.{eqb};
 ghost use Rattle.text.specs.Part.{partOf};
 ghost use Rattle.num.specs.Value.{numberOf};
 ghost use Rattle.theory.specs.Grammar.{tok, nt};
-ghost use Rattle.kinds.specs.Classes as t;
+ghost use Rattle.lexer.specs.Classes as t;
 ghost use Rattle.grammar.specs.TablesIndex.{n-identifier, n-functionName, n-path-many-DoubleColon};
 ghost use Rattle.grammar.specs.Records.{head, plain, typeName, patternName, literalHead, callHead, wrapperHead, aloneHead, placeIn, reads, lowHalf, highHalf};
 ghost use Rattle.parse.specs.Contract.{text, tokAt, Ready, Near, Parsed, asItems, Named, Decimal, Names, Called, boundFault, sizeFault};

@@ -1,7 +1,7 @@
 // The function and its parameters: src/parse/grammar/program.rs.
 ghost use mathlib.Core.List.{List, [], _∷_};
 ghost use Prim.Native.Nat.{ℕ};
-ghost use Rattle.kinds.specs.Classes as t;
+ghost use Rattle.lexer.specs.Classes as t;
 ghost use Rattle.theory.specs.Grammar.{nt};
 ghost use Rattle.grammar.specs.TablesIndex.{n-function, n-function-optional-Pub, n-function-optional-Arrow, n-block, n-parameter, n-list-parameter};
 ghost use Rattle.parse.specs.Contract.{text, Ready, Near, Parsed, asItems, Node, ExprKind};

@@ -1,8 +1,9 @@
-// The tree buffer: six words a record, written where they fit.
+// The tree buffer: so many words a record, written where they fit.
 ghost use mathlib.Core.Path.{_≡_};
 ghost use Prim.Native.Nat.{_-_};
 ghost use Rattle.parse.specs.Contract.{reserved, Put, Turned};
 use crate::State;
+use text::RECORD_WORDS;
 
 // a - b, or 0.
 fn less(a: u32, b: u32) -> u32
@@ -33,8 +34,8 @@ fn put(tree: &mut [u32], here: u32, kind: u32, start: u32, end: u32, low: u32, h
     ensures { λ _. ⌜ Put (now (tree .entry)) here kind start end low high size (now (tree .exit)) ⌝ }
 {
     let at = here as usize;
-    if at < tree.len() / 6 {
-        let base = 6 * at;
+    if at < tree.len() / RECORD_WORDS {
+        let base = RECORD_WORDS * at;
         tree[base] = kind;
         tree[base + 1] = start;
         tree[base + 2] = end;
@@ -83,12 +84,12 @@ pub(crate) fn exchange(tree: &mut [u32], from: u32, mid: u32, to: u32)
     let a = from as usize;
     let m = mid as usize;
     let b = to as usize;
-    if b <= tree.len() / 6 {
+    if b <= tree.len() / RECORD_WORDS {
         if a <= m {
             if m <= b {
-                let start = 6 * a;
-                let end = 6 * b;
-                turn::rotate(&mut tree[start..end], 6 * (m - a));
+                let start = RECORD_WORDS * a;
+                let end = RECORD_WORDS * b;
+                turn::rotate(&mut tree[start..end], RECORD_WORDS * (m - a));
             }
         }
     }

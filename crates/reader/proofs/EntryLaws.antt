@@ -10,6 +10,7 @@ use lib.ListN.{length, getD, drop, replicate, length-replicate}
 use lib.Seq.{sets, sets-eq, drop-nil}
 use Rattle.lexer.specs.Limits.{Limits, draftLimits}
 use Rattle.own.specs.Tree.{Rec, records}
+use Rattle.text.specs.Widths.{recWide}
 use Rattle.own.specs.Words.{recs}
 use Rattle.grammar.specs.Answer.{Answer, refused, returned, Reading, read, reading, answer, treesOf, treesRead, treeBuffer, recordsRead}
 use Rattle.grammar.specs.Outcome.{Accepted, Refusal, read-faultless}
@@ -88,7 +89,7 @@ unfolding listing
 refused-listing l draft tw rw c p a = sym (ap (λ (x : Answer). lines (listed x (recordsRead l draft tw))) (refusals-in-order l draft tw rw c p .1 a))
 
 -- The records of an accepted draft fit the tree buffer.
-pub records-fit : (draft tree : List ℕ) (tw rw n m : ℕ) → Accepted draftLimits draft tw rw n m → tree ≡ treeBuffer draftLimits draft tw rw → 6 * m ≤ length tree
+pub records-fit : (draft tree : List ℕ) (tw rw n m : ℕ) → Accepted draftLimits draft tw rw n m → tree ≡ treeBuffer draftLimits draft tw rw → recWide * m ≤ length tree
 records-fit draft tree tw rw n m a e =
     let k = a .fits in
     let s = a .records-number in

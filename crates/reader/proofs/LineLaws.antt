@@ -9,6 +9,7 @@ use lib.ListN.{length, getD, set, drop, length-append, length-set}
 use lib.Seq.{sets, length-sets, set-comm, append-snoc, getD-drop}
 use Rattle.text.specs.Ascii.{ascii, asciiFrom}
 use Rattle.own.specs.Tree.{Rec}
+use Rattle.text.specs.Widths.{recWide}
 use Rattle.own.specs.Words.{recs}
 use Rattle.grammar.specs.Lines.{upperHex, hex, line, lines, hex-length, line-length, lines-length}
 
@@ -98,33 +99,33 @@ line-is l {l₁} {l₂} {l₃} {l₄} {l₅} {l₆} at k s e lo hi z p₁ p₂ p
 abbrev pub recAt : List ℕ → ℕ → Rec
 recAt w k = record { kind = getD w k 0; start = getD w (k + 1) 0; stop = getD w (k + 2) 0; low = getD w (k + 3) 0; high = getD w (k + 4) 0; size = getD w (k + 5) 0 }
 
-rec-at : (w : List ℕ) (k : ℕ) → recAt (drop 6 w) k ≡ recAt w (6 + k)
+rec-at : (w : List ℕ) (k : ℕ) → recAt (drop recWide w) k ≡ recAt w (recWide + k)
 rec-at w k = λ i.
     record {
-      kind = word k (6 + k) refl i;
-      start = word (k + 1) (6 + k + 1) (omega arith) i;
-      stop = word (k + 2) (6 + k + 2) (omega arith) i;
-      low = word (k + 3) (6 + k + 3) (omega arith) i;
-      high = word (k + 4) (6 + k + 4) (omega arith) i;
-      size = word (k + 5) (6 + k + 5) (omega arith) i;
+      kind = word k (recWide + k) refl i;
+      start = word (k + 1) (recWide + k + 1) (omega arith) i;
+      stop = word (k + 2) (recWide + k + 2) (omega arith) i;
+      low = word (k + 3) (recWide + k + 3) (omega arith) i;
+      high = word (k + 4) (recWide + k + 4) (omega arith) i;
+      size = word (k + 5) (recWide + k + 5) (omega arith) i;
     }
   where
-    word : (c e : ℕ) → 6 + c ≡ e → getD (drop 6 w) c 0 ≡ getD w e 0
-    word c e q = getD-drop 6 w c 0 ∙ ap (λ (k : ℕ). getD w k 0) q
+    word : (c e : ℕ) → recWide + c ≡ e → getD (drop recWide w) c 0 ≡ getD w e 0
+    word c e q = getD-drop recWide w c 0 ∙ ap (λ (k : ℕ). getD w k 0) q
 
 -- one record more
-lines-more : (n : ℕ) (w : List ℕ) → lines (recs (suc n) w) ≡ lines (recs n w) ++ line (recAt w (6 * n))
+lines-more : (n : ℕ) (w : List ℕ) → lines (recs (suc n) w) ≡ lines (recs n w) ++ line (recAt w (recWide * n))
 unfolding lines
 lines-more zero w = append-nil (line (recAt w 0))
 lines-more (suc n) w =
     let r = recAt w 0 in
-    ap (λ (l : List ℕ). line r ++ l) (lines-more n (drop 6 w))
-    ∙ ap (λ (x : Rec). line r ++ (lines (recs n (drop 6 w)) ++ line x)) (rec-at w (6 * n) ∙ ap (recAt w) (omega arith))
-    ∙ sym (append-assoc (line r) (lines (recs n (drop 6 w))) (line (recAt w (6 * suc n))))
+    ap (λ (l : List ℕ). line r ++ l) (lines-more n (drop recWide w))
+    ∙ ap (λ (x : Rec). line r ++ (lines (recs n (drop recWide w)) ++ line x)) (rec-at w (recWide * n) ∙ ap (recAt w) (omega arith))
+    ∙ sym (append-assoc (line r) (lines (recs n (drop recWide w))) (line (recAt w (recWide * suc n))))
 
 recs-length : (n : ℕ) (w : List ℕ) → length (recs n w) ≡ n
 recs-length zero w = refl
-recs-length (suc n) w = ap suc (recs-length n (drop 6 w))
+recs-length (suc n) w = ap suc (recs-length n (drop recWide w))
 
 pub lines-long : (n : ℕ) (w : List ℕ) → length (lines (recs n w)) ≡ 36 * n
 lines-long n w = let a = recs-length n w in omega (arith, lines-length (recs n w))
@@ -140,14 +141,14 @@ unfolding lines
 listing-start o w n = record { within = omega arith; long = refl; done = refl }
 
 module _ {o w : List ℕ} {n : ℕ} {l : List ℕ} {i : ℕ} (x : Listing o w n l i) where
-  pub listing-more : {l₁ : List ℕ} → i < n → l₁ ≡ sets l (36 * i) (line (recAt w (6 * i))) → Listing o w n l₁ (i + 1)
+  pub listing-more : {l₁ : List ℕ} → i < n → l₁ ≡ sets l (36 * i) (line (recAt w (recWide * i))) → Listing o w n l₁ (i + 1)
   listing-more {l₁} h e =
       let k = lines-long i w in
       let s : suc i ≡ i + 1 = omega arith in
       record {
         within = omega arith;
-        long = ap length e ∙ length-sets l (36 * i) (line (recAt w (6 * i))) ∙ x .long;
-        done = sets-next o (lines (recs i w)) (line (recAt w (6 * i))) 0 (36 * i) (x .done) e (omega arith) ∙ ap (sets o 0) (sym (lines-more i w)) ∙ ap (λ (j : ℕ). sets o 0 (lines (recs j w))) s;
+        long = ap length e ∙ length-sets l (36 * i) (line (recAt w (recWide * i))) ∙ x .long;
+        done = sets-next o (lines (recs i w)) (line (recAt w (recWide * i))) 0 (36 * i) (x .done) e (omega arith) ∙ ap (sets o 0) (sym (lines-more i w)) ∙ ap (λ (j : ℕ). sets o 0 (lines (recs j w))) s;
       }
 
   pub listing-end : n ≤ i → l ≡ sets o 0 (lines (recs n w))

@@ -10,7 +10,7 @@ use lib.Dec.{ltb}
 use lib.ListN.{length}
 use Rattle.lexer.specs.Limits.{draftLimits}
 use Rattle.own.specs.Tree.{Rec, records}
-use Rattle.own.specs.Words.{recWide}
+use Rattle.text.specs.Widths.{recWide}
 use Rattle.grammar.specs.Answer.{Answer, accepted, refused, Reading, refusal, read, reading, answer, fitted, treesRead, recordsRead}
 use Rattle.grammar.specs.Lines.{lines, listed, listing, lines-length}
 use Rattle.reader.specs.Listed.{used, listingOf, usedOf}
@@ -22,16 +22,16 @@ enough = 36 * 2048
 one-line : (c p : ℕ) (rs : List Rec) → length (lines (listed (refused c p) rs)) ≤ enough
 one-line c p rs = let h = lines-length (listed (refused c p) rs) in omega (arith, h)
 
-by-room : (n : ℕ) (rs : List Rec) (b : Bool) → ltb 12288 (recWide * length rs) ≡ b → length (lines (listed (cond b (refused 15 0) (accepted n (length rs))) rs)) ≤ enough
+by-room : (n : ℕ) (rs : List Rec) (b : Bool) → ltb (recWide * 2048) (recWide * length rs) ≡ b → length (lines (listed (cond b (refused 15 0) (accepted n (length rs))) rs)) ≤ enough
 by-room n rs true e = one-line 15 0 rs
 by-room n rs false e =
     let h = lines-length rs in
-    let k : 6 * length rs ≤ 12288 = ltb-false 12288 (recWide * length rs) e in
+    let k : recWide * length rs ≤ recWide * 2048 = ltb-false (recWide * 2048) (recWide * length rs) e in
     omega (arith, h, k)
 
-lines-fit : (r : Reading) → length (lines (listed (fitted 12288 r) (records (treesRead r)))) ≤ enough
+lines-fit : (r : Reading) → length (lines (listed (fitted (recWide * 2048) r) (records (treesRead r)))) ≤ enough
 lines-fit (refusal c p) = one-line c p (records (treesRead (refusal c p)))
-lines-fit (read ts ns) = by-room (length ts) (records ns) (ltb 12288 (recWide * length (records ns))) refl
+lines-fit (read ts ns) = by-room (length ts) (records ns) (ltb (recWide * 2048) (recWide * length (records ns))) refl
 
 -- The listing of every draft fits,
 pub listing-fits : (draft : List ℕ) → length (listingOf draft) ≤ enough

@@ -9,7 +9,8 @@ use lib.ListN.{length, drop, replicate}
 use Rattle.text.specs.Same.{differ}
 use Rattle.lexer.specs.Limits.{Limits}
 use Rattle.own.specs.Law.{Ownership}
-use Rattle.own.specs.Words.{toks, recs, tokWide, recWide}
+use Rattle.text.specs.Widths.{tokWide, recWide}
+use Rattle.own.specs.Words.{toks, recs}
 use Rattle.kinds.specs.Words.{classOf}
 use Rattle.kinds.specs.Spelled.{Spelled}
 use Rattle.grammar.specs.Answer.{Answer, accepted, refused, answer, tokenBuffer, treeBuffer}

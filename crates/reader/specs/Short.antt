@@ -14,7 +14,7 @@ use Rattle.lexer.specs.Tokens.{Between, tokens-between}
 use Rattle.lexer.specs.declared.Lexed.{Lexed}
 use Rattle.lexer.specs.declared.Lexed.the-variants.{Tokens, Refused}
 use Rattle.own.specs.Tree.{records}
-use Rattle.own.specs.Words.{tokWide, recWide}
+use Rattle.text.specs.Widths.{tokWide, recWide}
 use Rattle.grammar.specs.Answer.{Answer, accepted, refused, Reading, refusal, read, lexed, reading, answer, fitted, treesRead, recordsRead}
 use Rattle.grammar.specs.Laws.{space-enough}
 use Rattle.grammar.specs.Lines.{lines, listed, listing}
@@ -67,12 +67,12 @@ module _ (draft : List ℕ) (k : ℕ) (short : length draft ≤ k) where
                 (ap (fitted rw) e ∙ ap (λ (b : Bool). cond b (refused 15 0) (accepted (length ts) (length (records ns)))) q))
 
 -- So the listing is the same with buffers for k tokens and as many records.
-pub short-listing : (draft : List ℕ) (k : ℕ) → length draft ≤ k → k ≤ 2048 → listing draftLimits draft (tokWide * k) (recWide * k) ≡ listing draftLimits draft 6144 12288
+pub short-listing : (draft : List ℕ) (k : ℕ) → length draft ≤ k → k ≤ 2048 → listing draftLimits draft (tokWide * k) (recWide * k) ≡ listing draftLimits draft 6144 (recWide * 2048)
 unfolding listing answer recordsRead room
 short-listing draft k short h =
     let few = reading (limitsOf 16384 k) draft (tokWide * k) in
     let a : reading draftLimits draft (tokWide * k) ≡ few = same-reading draft k short 16384 2048 (tokWide * k) k (tokWide * k) (omega (arith, h)) (omega arith) in
     let b : reading draftLimits draft 6144 ≡ few = same-reading draft k short 16384 2048 6144 k (tokWide * k) (omega (arith, h)) (omega arith) in
-    let c : fitted 12288 few ≡ fitted (recWide * k) few = records-fit draft k short 16384 12288 (omega (arith, h)) few refl in
+    let c : fitted (recWide * 2048) few ≡ fitted (recWide * k) few = records-fit draft k short 16384 (recWide * 2048) (omega (arith, h)) few refl in
     ap (λ (r : Reading). lines (listed (fitted (recWide * k) r) (records (treesRead r)))) a
-    ∙ sym (ap (λ (r : Reading). lines (listed (fitted 12288 r) (records (treesRead r)))) b ∙ ap (λ (x : Answer). lines (listed x (records (treesRead few)))) c)
+    ∙ sym (ap (λ (r : Reading). lines (listed (fitted (recWide * 2048) r) (records (treesRead r)))) b ∙ ap (λ (x : Answer). lines (listed x (records (treesRead few)))) c)

@@ -4,6 +4,7 @@ ghost use mathlib.Core.List.{[]};
 ghost use Prim.Native.Nat.{_*_, _≤_};
 ghost use lib.ListN.{length, replicate};
 ghost use Rattle.lexer.specs.Limits.{draftLimits};
+ghost use Rattle.text.specs.Widths.{recWide};
 ghost use Rattle.own.specs.Words.{recs};
 ghost use Rattle.grammar.specs.Answer.{refused};
 ghost use Rattle.grammar.specs.Lines as spec;
@@ -14,7 +15,7 @@ use crate::lines;
 // Writes the lines of so many records, if they fit, and returns how many bytes they take.
 fn accepted(out: &mut [u8], tree: &[u32], records: usize) -> usize
     requires { ⌜ now out ≡ replicate (length (now out)) 0 ⌝ }
-    requires { ⌜ 6 * records ≤ length (now tree) ⌝ }
+    requires { ⌜ recWide * records ≤ length (now tree) ⌝ }
     ensures used { λ r. ⌜ r ≡ used (spec.lines (recs records (now (tree .entry)))) (length (now (out .entry))) ⌝ }
     ensures bytes { λ _. ⌜ now (out .exit) ≡ padded (spec.lines (recs records (now (tree .entry)))) (length (now (out .entry))) ⌝ }
 {
@@ -63,10 +64,10 @@ pub extern "C" fn togmelic_list(draft: &[u8], out: &mut [u8]) -> usize
     text::clear_bytes(out);
     if draft.len() <= 512 {
         let mut tokens = [0u32; 1536];
-        let mut tree = [0u32; 3072];
+        let mut tree = [0u32; text::RECORD_WORDS * 512];
         return list_by(draft, out, &mut tokens, &mut tree);
     }
     let mut tokens = [0u32; 6144];
-    let mut tree = [0u32; 12288];
+    let mut tree = [0u32; text::RECORD_WORDS * 2048];
     list_by(draft, out, &mut tokens, &mut tree)
 }

@@ -4,6 +4,7 @@ ghost use mathlib.Core.List.{_++_, _∷_, []};
 ghost use Prim.Native.Nat.{_+_, _*_, _%_, _≤_, _<_};
 ghost use lib.ListN.{length, getD};
 ghost use lib.Seq.{sets};
+ghost use Rattle.text.specs.Widths.{recWide};
 ghost use Rattle.own.specs.Words.{recs};
 ghost use Rattle.grammar.specs.Lines as spec;
 
@@ -70,14 +71,14 @@ pub(crate) fn line(
 
 // Writes the lines of the first records of a tree buffer.
 pub(crate) fn lines(out: &mut [u8], tree: &[u32], records: usize)
-    requires { ⌜ 6 * records ≤ length (now tree) ⌝ }
+    requires { ⌜ recWide * records ≤ length (now tree) ⌝ }
     requires { ⌜ 36 * records ≤ length (now out) ⌝ }
     ensures { λ _. ⌜ now (out .exit) ≡ sets (now (out .entry)) 0 (spec.lines (recs records (now (tree .entry)))) ⌝ }
 {
     let digits = DIGITS;
     let mut i = 0;
     while i < records {
-        let w = 6 * i;
+        let w = text::RECORD_WORDS * i;
         line(
             &digits,
             out,

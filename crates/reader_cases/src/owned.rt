@@ -1,11 +1,13 @@
 // Whether the records of an accepted draft own its tokens (document 01, "Records and the marks they own"), by trying every place.
-// A record owns what its place holds and no child's does. Three words a token and six a record, with no words behind them.
+// A record owns what its place holds and no child's does. Three words a token and `RECORD_WORDS` a record, with no words behind them.
 // Check 1: one record alone owns each token; no other that holds it has as few bytes; its kind may own the token's class.
 // Check 2: a child is of a kind that its record may hold, and in its place; the children's sizes and one more are the record's size.
 // Check 3: the tokens that each record owns add up to the tokens.
 // Check 4: of two built-in arms of one match the first is odd, and the second one more.
 ghost use Prim.Native.Nat.{_+_, _*_, _≤_, _<_};
 ghost use lib.ListN.{length};
+ghost use Rattle.text.specs.Widths.{recWide};
+use text::RECORD_WORDS;
 
 // The kinds of check 4: a match and a built-in arm.
 const MATCH: u32 = 35;
@@ -20,27 +22,27 @@ fn wide(w: u32) -> usize
 
 // Whether the place of a record holds the bytes from start to end.
 fn holds(tree: &[u32], i: usize, start: u32, end: u32) -> bool
-    requires { ⌜ 6 * i + 6 ≤ length (now tree) ⌝ }
+    requires { ⌜ recWide * i + recWide ≤ length (now tree) ⌝ }
 {
-    tree[6 * i + 1] <= start && end <= tree[6 * i + 2]
+    tree[RECORD_WORDS * i + 1] <= start && end <= tree[RECORD_WORDS * i + 2]
 }
 
 // How many bytes the place of a record has.
 fn width(tree: &[u32], i: usize) -> u32
-    requires { ⌜ 6 * i + 6 ≤ length (now tree) ⌝ }
+    requires { ⌜ recWide * i + recWide ≤ length (now tree) ⌝ }
 {
-    let start = tree[6 * i + 1];
-    let end = tree[6 * i + 2];
+    let start = tree[RECORD_WORDS * i + 1];
+    let end = tree[RECORD_WORDS * i + 2];
     if start <= end { end - start } else { 0 }
 }
 
 // The record behind a record and all beneath it; the end of the tree if the size is 0 or says more than there are.
 fn after(tree: &[u32], i: usize) -> usize
-    requires { ⌜ 6 * i + 6 ≤ length (now tree) ⌝ }
-    ensures { λ r. ⌜ (i < r) × (6 * r ≤ length (now (tree .entry))) ⌝ }
+    requires { ⌜ recWide * i + recWide ≤ length (now tree) ⌝ }
+    ensures { λ r. ⌜ (i < r) × (recWide * r ≤ length (now (tree .entry))) ⌝ }
 {
-    let size = wide(tree[6 * i + 5]);
-    let end = tree.len() / 6;
+    let size = wide(tree[RECORD_WORDS * i + 5]);
+    let end = tree.len() / RECORD_WORDS;
     if size == 0 {
         return end;
     }
@@ -52,7 +54,7 @@ fn after(tree: &[u32], i: usize) -> usize
 
 // Whether the place of a record's child holds the bytes from start to end.
 fn child_holds(tree: &[u32], i: usize, start: u32, end: u32) -> bool
-    requires { ⌜ 6 * i + 6 ≤ length (now tree) ⌝ }
+    requires { ⌜ recWide * i + recWide ≤ length (now tree) ⌝ }
 {
     let stop = after(tree, i);
     let mut c = i + 1;
@@ -67,7 +69,7 @@ fn child_holds(tree: &[u32], i: usize, start: u32, end: u32) -> bool
 
 // Whether a record owns the bytes from start to end.
 fn owns(tree: &[u32], i: usize, start: u32, end: u32) -> bool
-    requires { ⌜ 6 * i + 6 ≤ length (now tree) ⌝ }
+    requires { ⌜ recWide * i + recWide ≤ length (now tree) ⌝ }
 {
     if holds(tree, i, start, end) {
         !child_holds(tree, i, start, end)
@@ -79,22 +81,22 @@ fn owns(tree: &[u32], i: usize, start: u32, end: u32) -> bool
 // The first record from a record on that owns the bytes; the number of records if none does.
 fn owner(tree: &[u32], from: usize, start: u32, end: u32) -> usize {
     let mut i = from;
-    while i < tree.len() / 6 {
+    while i < tree.len() / RECORD_WORDS {
         if owns(tree, i, start, end) {
             return i;
         }
         i += 1;
     }
-    tree.len() / 6
+    tree.len() / RECORD_WORDS
 }
 
 // Whether every other record that holds the bytes has a place of more bytes.
 fn narrowest(tree: &[u32], o: usize, start: u32, end: u32) -> bool
-    requires { ⌜ 6 * o + 6 ≤ length (now tree) ⌝ }
+    requires { ⌜ recWide * o + recWide ≤ length (now tree) ⌝ }
 {
     let bytes = width(tree, o);
     let mut i = 0;
-    while i < tree.len() / 6 {
+    while i < tree.len() / RECORD_WORDS {
         if i != o && holds(tree, i, start, end) && width(tree, i) <= bytes {
             return false;
         }
@@ -106,17 +108,17 @@ fn narrowest(tree: &[u32], o: usize, start: u32, end: u32) -> bool
 // Check 1 of a token.
 fn token_owned(draft: &[u8], tree: &[u32], kind: u32, start: u32, end: u32) -> bool {
     let o = owner(tree, 0, start, end);
-    if o >= tree.len() / 6 {
+    if o >= tree.len() / RECORD_WORDS {
         return false;
     }
-    if owner(tree, o + 1, start, end) < tree.len() / 6 {
+    if owner(tree, o + 1, start, end) < tree.len() / RECORD_WORDS {
         return false;
     }
     if !narrowest(tree, o, start, end) {
         return false;
     }
     let class = lexer::class(draft, kind, start as usize, end as usize);
-    kinds::may_own(tree[6 * o], class)
+    kinds::may_own(tree[RECORD_WORDS * o], class)
 }
 
 // Check 1 of every token.
@@ -139,10 +141,15 @@ fn tokens_owned(draft: &[u8], tokens: &[u32], tree: &[u32]) -> bool {
 
 // Whether a child is of a kind that the record may hold and has its place within the record's.
 fn child_fits(tree: &[u32], i: usize, c: usize) -> bool
-    requires { ⌜ (6 * i + 6 ≤ length (now tree)) × (6 * c + 6 ≤ length (now tree)) ⌝ }
+    requires { ⌜ (recWide * i + recWide ≤ length (now tree)) × (recWide * c + recWide ≤ length (now tree)) ⌝ }
 {
-    if kinds::may_hold(tree[6 * i], tree[6 * c]) {
-        holds(tree, i, tree[6 * c + 1], tree[6 * c + 2])
+    if kinds::may_hold(tree[RECORD_WORDS * i], tree[RECORD_WORDS * c]) {
+        holds(
+            tree,
+            i,
+            tree[RECORD_WORDS * c + 1],
+            tree[RECORD_WORDS * c + 2],
+        )
     } else {
         false
     }
@@ -150,7 +157,7 @@ fn child_fits(tree: &[u32], i: usize, c: usize) -> bool
 
 // Check 2 of a record.
 fn children_fit(tree: &[u32], i: usize) -> bool
-    requires { ⌜ 6 * i + 6 ≤ length (now tree) ⌝ }
+    requires { ⌜ recWide * i + recWide ≤ length (now tree) ⌝ }
 {
     let stop = after(tree, i);
     let mut c = i + 1;
@@ -160,26 +167,26 @@ fn children_fit(tree: &[u32], i: usize) -> bool
         }
         c = after(tree, c);
     }
-    c == i + wide(tree[6 * i + 5])
+    c == i + wide(tree[RECORD_WORDS * i + 5])
 }
 
 // Whether two children side by side, if both are built-in arms, are a pair in its order.
 fn arms_paired(tree: &[u32], c: usize, d: usize) -> bool
-    requires { ⌜ (6 * c + 6 ≤ length (now tree)) × (6 * d + 6 ≤ length (now tree)) ⌝ }
+    requires { ⌜ (recWide * c + recWide ≤ length (now tree)) × (recWide * d + recWide ≤ length (now tree)) ⌝ }
 {
-    if tree[6 * c] != ARM || tree[6 * d] != ARM {
+    if tree[RECORD_WORDS * c] != ARM || tree[RECORD_WORDS * d] != ARM {
         return true;
     }
-    let low = tree[6 * c + 3];
+    let low = tree[RECORD_WORDS * c + 3];
     if low > 5 {
         return false;
     }
-    low % 2 == 1 && tree[6 * d + 3] == low + 1
+    low % 2 == 1 && tree[RECORD_WORDS * d + 3] == low + 1
 }
 
 // Check 4 of a record.
 fn arms_in_order(tree: &[u32], i: usize) -> bool
-    requires { ⌜ 6 * i + 6 ≤ length (now tree) ⌝ }
+    requires { ⌜ recWide * i + recWide ≤ length (now tree) ⌝ }
 {
     let stop = after(tree, i);
     let mut c = i + 1;
@@ -198,11 +205,11 @@ fn arms_in_order(tree: &[u32], i: usize) -> bool
 // Checks 2 and 4 of every record.
 fn records_fit(tree: &[u32]) -> bool {
     let mut i = 0;
-    while i < tree.len() / 6 {
+    while i < tree.len() / RECORD_WORDS {
         if !children_fit(tree, i) {
             return false;
         }
-        if tree[6 * i] == MATCH && !arms_in_order(tree, i) {
+        if tree[RECORD_WORDS * i] == MATCH && !arms_in_order(tree, i) {
             return false;
         }
         i += 1;
@@ -212,7 +219,7 @@ fn records_fit(tree: &[u32]) -> bool {
 
 // How many tokens a record owns.
 fn owned_by(tokens: &[u32], tree: &[u32], i: usize) -> usize
-    requires { ⌜ 6 * i + 6 ≤ length (now tree) ⌝ }
+    requires { ⌜ recWide * i + recWide ≤ length (now tree) ⌝ }
 {
     let mut n: usize = 0;
     let mut t = 0;
@@ -229,7 +236,7 @@ fn owned_by(tokens: &[u32], tree: &[u32], i: usize) -> usize
 fn counts_agree(tokens: &[u32], tree: &[u32]) -> bool {
     let mut left = tokens.len() / 3;
     let mut i = 0;
-    while i < tree.len() / 6 {
+    while i < tree.len() / RECORD_WORDS {
         let n = owned_by(tokens, tree, i);
         if n > left {
             return false;
@@ -242,10 +249,10 @@ fn counts_agree(tokens: &[u32], tree: &[u32]) -> bool {
 
 // Whether all four checks hold, and the first record's size is the number of records.
 pub(crate) fn owned(draft: &[u8], tokens: &[u32], tree: &[u32]) -> bool {
-    if tree.len() < 6 {
+    if tree.len() < RECORD_WORDS {
         return false;
     }
-    if wide(tree[5]) != tree.len() / 6 {
+    if wide(tree[5]) != tree.len() / RECORD_WORDS {
         return false;
     }
     if !records_fit(tree) {

@@ -3,3 +3,5 @@ pub mod Ascii
 pub mod Same
 pub mod Table
 pub mod Clear
+pub mod Widths
+pub mod Refusals

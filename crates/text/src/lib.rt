@@ -1,7 +1,14 @@
-// The text of a draft by its places, and buffers set to zeros.
+// The text of a draft by its places, lent buffers, and the numbers of refusals.
 ghost use mathlib.Core.Path.{_≡_};
 ghost use lib.ListN.{length, replicate};
 ghost use Rattle.text.specs.Part.{partOf};
+
+pub mod refusal;
+
+// How many words a token and a record take in their buffers.
+pub const TOKEN_WORDS: usize = 3;
+
+pub const RECORD_WORDS: usize = 6;
 
 // The raw text of a start and an end: that part of the caller's draft, or the empty part at 0 if it is out of range.
 pub fn part(draft: &[u8], start: usize, end: usize) -> &[u8]

@@ -2,7 +2,7 @@
 ghost use mathlib.Core.Bool.{true};
 ghost use mathlib.Core.List.{[], _∷_};
 ghost use mathlib.Core.Path.{_≡_};
-ghost use Rattle.kinds.specs.Classes as t;
+ghost use Rattle.lexer.specs.Classes as t;
 ghost use Rattle.theory.specs.Grammar.{nt};
 ghost use Rattle.theory.specs.Machine.{choose};
 ghost use Rattle.grammar.specs.Tables.{table};

@@ -1,6 +1,6 @@
 -- The table's rule.
 -- Assumes nothing.
-use Rattle.lexer.proofs.Classes.{classes, class-at}
+use Rattle.lexer.proofs.ByteClasses.{classes, class-at}
 use Rattle.lexer.proofs.chars.class_table.Statement.{statement}
 use Rattle.lexer.proofs.chars.class_table.Tie as tie
 

@@ -7,7 +7,7 @@ use Prim.Native.Nat.{_≤_, _-_}
 use lib.ListN.{length}
 use Rattle.lexer.specs.Bytes.{inClasses}
 use Rattle.lexer.proofs.Runs.{runEnd, run-in, run-out, run-over}
-use Rattle.lexer.proofs.Classes.{class-in, class-below, class-above}
+use Rattle.lexer.proofs.ByteClasses.{class-in, class-below, class-above}
 use Rattle.lexer.proofs.chars.run_end.Statement.{statement}
 use Rattle.lexer.proofs.chars.run_end.Tie as tie
 

@@ -9,7 +9,7 @@ use lib.ListN.{getD}
 use Rattle.text.specs.Same.{differ}
 use Rattle.lexer.specs.Bytes.{byteClass, inClasses}
 use Rattle.lexer.specs.declared.Step.the-variants.{Token}
-use Rattle.lexer.proofs.Classes.{class-in, class-below, class-above}
+use Rattle.lexer.proofs.ByteClasses.{class-in, class-below, class-above}
 use borrow.Author.Needs.{needs}
 use Rattle.lexer.proofs.scan.based.Statement.{statement}
 use Rattle.lexer.proofs.scan.based.Tie as tie

@@ -3,7 +3,7 @@
 use borrow.Author.Tests.{le-leb}
 use native.Mathlib.Omega.{arith}
 use mathlib.Core.Path.{_∙_}
-use Rattle.lexer.proofs.Classes.{starts-underscore, starts-letter, digit-class}
+use Rattle.lexer.proofs.ByteClasses.{starts-underscore, starts-letter, digit-class}
 use borrow.Author.Needs.{needs}
 use Rattle.lexer.proofs.scan.name_or_number.Statement.{statement}
 use Rattle.lexer.proofs.scan.name_or_number.Tie as tie

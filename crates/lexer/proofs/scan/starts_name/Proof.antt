@@ -1,7 +1,7 @@
 -- A name starts with the classes 0, 3 and 4.
 -- Assumes nothing.
 use mathlib.Core.Path.{sym}
-use Rattle.lexer.proofs.Classes.{starts-underscore, starts-not, starts-letter}
+use Rattle.lexer.proofs.ByteClasses.{starts-underscore, starts-not, starts-letter}
 use borrow.Author.Needs.{needs}
 use Rattle.lexer.proofs.scan.starts_name.Statement.{statement}
 use Rattle.lexer.proofs.scan.starts_name.Tie as tie

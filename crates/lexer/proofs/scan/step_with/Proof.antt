@@ -5,7 +5,7 @@ use native.Mathlib.Omega.{arith}
 use mathlib.Core.Path.{_∙_}
 use Prim.Native.Nat.{_<_}
 use Rattle.lexer.specs.Step.{stepOf}
-use Rattle.lexer.proofs.Classes.{slash-is, class-gap}
+use Rattle.lexer.proofs.ByteClasses.{slash-is, class-gap}
 use borrow.Author.Needs.{needs}
 use Rattle.lexer.proofs.scan.step_with.Statement.{statement}
 use Rattle.lexer.proofs.scan.step_with.Tie as tie

@@ -2,7 +2,7 @@
 -- Assumes nothing.
 use mathlib.Core.List.{[], _∷_}
 use Prim.Native.Nat.{ℕ}
-use Rattle.kinds.specs.Classes as t
+use Rattle.lexer.specs.Classes as t
 use Rattle.kinds.specs.Shape.{has}
 use Rattle.grammar.specs.Records.{placeIn, wrapperHead}
 use Rattle.parse.proofs.Keys.{keyed, unkeyed, place-past}

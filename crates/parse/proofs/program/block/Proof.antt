@@ -24,7 +24,7 @@ use Rattle.parse.proofs.Forms.{shut}
 use Rattle.parse.proofs.ProgramForms as form
 use Rattle.kinds.specs.Shape.{has}
 use Rattle.kinds.specs.Fields.{counted}
-use Rattle.kinds.specs.Classes as t
+use Rattle.lexer.specs.Classes as t
 use Rattle.parse.proofs.NameSteps.{refuses-nt}
 use borrow.Author.Needs.{needs}
 use Rattle.parse.proofs.program.block.Statement.{statement}

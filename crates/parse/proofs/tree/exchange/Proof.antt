@@ -5,6 +5,7 @@ use mathlib.Core.Path.{_≡_, refl, ap, _∙_}
 use Prim.Native.Nat.{ℕ, _-_, _*_}
 use mathlib.Core.List.{List, _++_}
 use lib.ListN.{take, drop}
+use Rattle.text.specs.Widths.{recWide}
 use Rattle.parse.proofs.Splice.{turns}
 use borrow.Author.Needs.{needs}
 use Rattle.parse.proofs.tree.exchange.Statement.{statement}
@@ -41,14 +42,14 @@ returns : tie.Need-returns
 returns c =
     let a = c .before .before .before .before .before .before .before .before .args in
     let t : List ℕ = a .tree .now in
-    let i : ℕ = 6 * a .from in
-    let j : ℕ = 6 * a .to in
+    let i : ℕ = recWide * a .from in
+    let j : ℕ = recWide * a .to in
     let s : List ℕ = take (j - i) (drop i t) in
-    let f : 6 * (a .mid - a .from) ≡ 6 * a .mid - i = omega arith in
+    let f : recWide * (a .mid - a .from) ≡ recWide * a .mid - i = omega arith in
     record {
       long = search needs;
       turn = λ l₀ u v h n e p q.
-          turns l₀ u v i (6 * a .mid) j p q (omega arith) e
+          turns l₀ u v i (recWide * a .mid) j p q (omega arith) e
           (ap (λ (ys : List ℕ). take i t ++ (ys ++ drop (j - i) (drop i t))) (c .before .before .rotate .ensures ∙ ap (λ (k : ℕ). drop k s ++ take k s) f));
     }
 

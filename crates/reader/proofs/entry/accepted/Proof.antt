@@ -2,9 +2,11 @@
 -- Assumes nothing.
 use mathlib.Core.Path.{_≡_, refl, sym, ap, _∙_}
 use mathlib.Core.List.{[]}
+use Prim.Native.Nat.{_*_}
 use native.Mathlib.Omega.{arith}
 use lib.ListN.{length, length-replicate}
 use lib.Seq.{sets}
+use Rattle.text.specs.Widths.{recWide}
 use Rattle.own.specs.Words.{recs}
 use Rattle.grammar.specs.Answer as answers
 use Rattle.grammar.specs.Lines as spec

@@ -2,10 +2,12 @@
 -- Assumes nothing.
 use mathlib.Core.Path.{_≡_, refl, sym, ap, _∙_}
 use mathlib.Core.List.{[]}
+use Prim.Native.Nat.{_*_}
 use native.Mathlib.Omega.{arith}
 use lib.ListN.{length, length-replicate}
 use lib.Seq.{sets}
 use Rattle.lexer.specs.Limits.{draftLimits}
+use Rattle.text.specs.Widths.{recWide}
 use Rattle.own.specs.Words.{recs}
 use Rattle.grammar.specs.Answer as answers
 use Rattle.grammar.specs.Lines as spec
@@ -47,7 +49,7 @@ returns c =
     let d = c .before .before .before .before .before .before .before .before .before .before .before .before .before .before .before .args .draft .now in
     let z = length (c .before .before .before .before .before .before .before .before .before .before .before .before .before .before .before .args .out .now) in
     let k = length (c .before .before .before .before .before .before .before .before .before .before .before .clear-bytes .last .0) in
-    law.whole-is d (spec.listing draftLimits d 1536 3072) z k (short-listing d 512 (c .before .before .before .before .before .before .before .before .if1 .taken) (omega arith)) (c .before .before .before .before .before .before .before .before .before .before .before .clear-bytes .kept .0) (c .before .before .before .before .list-by .ensures .0)
+    law.whole-is d (spec.listing draftLimits d 1536 (recWide * 512)) z k (short-listing d 512 (c .before .before .before .before .before .before .before .before .if1 .taken) (omega arith)) (c .before .before .before .before .before .before .before .before .before .before .before .clear-bytes .kept .0) (c .before .before .before .before .list-by .ensures .0)
     (c .before .before .before .before .list-by .ensures .1)
 
 slice-aggregate-list-by-3 : tie.Need-slice-aggregate-list-by-3

@@ -3,11 +3,12 @@
 use borrow.Author.Needs.{needs}
 use Prim.Native.Nat.{_≤_, _*_, _-_}
 use lib.ListN.{length}
+use Rattle.text.specs.Widths.{recWide}
 use Rattle.reader_cases.proofs.owned.arms_in_order.Statement.{statement}
 use Rattle.reader_cases.proofs.owned.arms_in_order.Tie as tie
 
 abbrev Inv-loop : tie.InvT-loop
-Inv-loop tree i stop c₀ c = 6 * stop ≤ length tree
+Inv-loop tree i stop c₀ c = recWide * stop ≤ length tree
 
 abbrev μ-loop : tie.MeasureT-loop
 μ-loop tree i stop c₀ c = stop - c

@@ -89,7 +89,7 @@ LAngle = 26
 abbrev pub RAngle : ℕ
 RAngle = 27
 
--- Numbers, names, jets, witnesses, parameters. Kinds 31 (Bool) and 36 (Macro) are no classes: each of their words has its own, below.
+-- Numbers, booleans, names, jets, witnesses, parameters, macros. Bool and Macro are kinds and no classes: each of their words has its own, below.
 abbrev pub DecLiteral : ℕ
 DecLiteral = 28
 
@@ -98,6 +98,9 @@ HexLiteral = 29
 
 abbrev pub BinLiteral : ℕ
 BinLiteral = 30
+
+abbrev pub Bool : ℕ
+Bool = 31
 
 abbrev pub Ident : ℕ
 Ident = 32
@@ -111,7 +114,14 @@ Witness = 34
 abbrev pub Param : ℕ
 Param = 35
 
--- The names that the rules speak of.
+abbrev pub Macro : ℕ
+Macro = 36
+
+-- The words that the rules speak of have the classes from here on, in the order of RULE_WORDS:
+abbrev pub words : ℕ
+words = 37
+
+-- names,
 abbrev pub Left : ℕ
 Left = 37
 
