@@ -1,247 +1,303 @@
 #!/usr/bin/env python3
-"""Writes the proof of a cycle of calls, or of single functions, from short answers (tools/parse_answers).
+"""Writes the proofs of the recursive functions, and of others that go by many steps, from short answers (tools/parse_answers).
 
-    tools/cycle.py CRATE_DIR PRINTED GENDIR ANSWERS..
+    tools/cycle.py              write every file
+    tools/cycle.py --check      write nothing; exit 1 and name each file that is not what would be written
+    ONLY=a,b tools/cycle.py     for the edit loop: holes in all functions but these
 
-PRINTED is what `rt dev` printed while the functions had no proof (move their folders away first), GENDIR what `rt dev --generated` wrote.
-The cycle of expressions:
-    RT_CUT=0 rt dev parse > target/printed.txt; rt dev parse --generated target/gen
-    tools/cycle.py crates/parse target/printed.txt target/gen tools/parse_answers/cycle_head.txt tools/parse_answers/cycle_[ace]*.txt; rt fmt
+GROUPS below says which answers are for which crate. What rt says of a function (its needs, and the place of each) is kept in tools/places, so that
+no check runs here: after a change of the code or of a contract ask anew with tools/places.py.
 
 ANSWERS have blocks:
     FOR path                            the functions below stand in the module proofs/path (`.` for none)
     USE line                            a line of the header of every file
-    MU member = term                    the measure of a member (a .0, a .1 .0, .. are its arguments)
+    MU member = term                    the measure of a member of a cycle (a .0, a .1 .0, .. are its arguments)
     INV name args = term                an invariant or a loop's measure, by its left side
     LET member name = term              a step that answers may name; it may use steps before it
     KEPT f g = .1 .0                    where a call of f or g has the slice that it is lent (for the needs `same-length`); member:f for one member
     member need [with a b c]            (next lines: the answer, after the named steps as `let`)
 Every other need is `search needs`. In terms: c@THING is the field THING of the place, c@S its beginning; c^THING the record with it.
+A function has a proof here where it has an answer, be it `search needs`.
 """
-import os, re, sys
+import os, re, subprocess, sys, tempfile, textwrap
 
-crate_dir, printed, gen, answers = *sys.argv[1:4], sys.argv[4:]
-crate = os.path.basename(crate_dir)
-text = open(printed).read()
+import places
 
-
-def chain(rec, place):
-    d, i = {}, 0
-    while place in rec:
-        before, fields = rec[place]
-        pre = "c" + " .before" * i
-        if before is None:
-            d["S"] = (pre, None)
-            break
-        d[fields[0]] = (pre, fields[0])
-        place, i = before, i + 1
-    return d
-
-
-def load(path):
-    s = open(path).read()
-    rec = {}
-    for m in re.finditer(r"\n( +)pub record (\S+) : Type 0 where\n((?:\1  .*\n)+)", s):
-        b = re.search(r"pub before : (.*)\n", m.group(3))
-        rec[m.group(2)] = (b.group(1).split()[0] if b else None, [f for f in re.findall(r"\n? +pub (\S+) :", m.group(3)) if f != "before"])
-    return rec, re.findall(r"\n +(Need-\S+) =\s+\(c : (\S+)\)", s)
+ROOT, ANSWERS = places.ROOT, os.path.join(places.TOOLS, "parse_answers")
+GROUPS = [
+    ("parse", ["cycle_head", "cycle_arms", "cycle_calls", "cycle_exprs"]),
+    ("parse", ["types"]),
+    ("parse", ["pattern"]),
+    ("parse", ["heads"]),
+    ("parse", ["program"]),
+    ("parse", ["literal"]),
+    ("parse", ["entry"]),
+    ("lines", ["lines"]),
+    ("lines", ["lines_write"]),
+    ("reader", ["reader"]),
+    ("reader", ["reader_entry"]),
+    ("listing", ["listing"]),
+]
+MADE = "-- Made by tools/cycle.py from tools/parse_answers: the answers are what people read and edit.\n"
+FIRST = MADE + "-- Assumes nothing.\n"
+NEEDS = "use borrow.Author.Needs.{needs}"
+WHOLE = {"break_long_words": False, "break_on_hyphens": False}
+ONLY = [m for m in os.environ.get("ONLY", "").split(",") if m]
+faults = []
 
 
-def expand(t, d):
-    def field(m):
-        if m.group(1) not in d:
-            raise SystemExit(f"no {m.group(1)} among: {' '.join(d)}\nin: {t[:300]}")
-        pre, f = d[m.group(1)]
-        return pre if f is None else f"{pre} .{f}"
-    t = re.sub(r"c@([\w«»-]*[\w»])", field, t)
-    return re.sub(r"c\^([\w«»-]*[\w»])", lambda m: "(" + d[m.group(1)][0] + ")", t)
+# ---------------------------------------------------------------------------------------------- answers
+class Answers:
+    def __init__(self, names):
+        self.name, self.folder = names[0], ""
+        self.uses, self.measures, self.loops, self.steps, self.answers, self.kept = [], {}, {}, {}, {}, {}
+        self.used = set()
+        text = "\n".join(open(os.path.join(ANSWERS, n + ".txt")).read() for n in names)
+        for block in re.split(r"\n(?=\S)", text):
+            if block.strip() and not block.startswith("#"):
+                self.read(*block.partition("\n")[::2])
+        if NEEDS not in self.uses:
+            self.uses.append(NEEDS)
 
-
-# for the edit loop: ONLY=a,b leaves holes in all other members
-only = [m for m in os.environ.get("ONLY", "").split(",") if m]
-mod = ""
-uses, mu, inv, lets, ans, kept = [], {}, {}, {}, {}, {}
-for blk in re.split(r"\n(?=\S)", "\n".join(open(a).read() for a in answers)):
-    if not blk.strip() or blk.startswith("#"):
-        continue
-    first, _, rest = blk.partition("\n")
-    rest = re.sub(r"\s*\n\s*", " ", rest.strip())
-    if first.startswith("FOR "):
-        mod = first[4:].strip()
-        mod = "" if mod == "." else mod + "/"
-    elif first.startswith("USE "):
-        uses.append(first[4:])
-    elif first.startswith("KEPT "):
-        for f in first.split(" = ")[0].split()[1:]:
-            kept[f] = " " + first.split(" = ")[1].strip()
-    elif first.startswith("MU "):
-        m, t = re.match(r"MU (\S+) = (.*)", first).groups()
-        mu[m] = t
-    elif first.startswith("INV "):
-        lhs, t = re.match(r"INV (.*?) = (.*)", first + " " + rest).groups()
-        inv[lhs] = t.strip()
-    elif first.startswith("LET "):
-        m, n, t = re.match(r"LET (\S+) (\S+) = (.*)", first + " " + rest).groups()
-        lets.setdefault(m, {})[n] = t.strip()
-    else:
-        head, _, w = first.partition(" with ")
-        m, n = head.split()
-        ans[(m, n)] = (w.split(), rest)
-
-
-def answer(m, need, d):
-    if only and m not in only:
-        ans.pop((m, need), None)
-        return "      ?", ""
-    if (m, need) not in ans:
-        if need.startswith("same-length") and "loop" not in d:
-            calls = []
-            for f in d:
-                g = re.sub(r"\d+$", "", f)
-                if f"{m}:{g}" in kept or g in kept:
-                    calls.append(expand(f"c@{f}", d) + " .kept" + kept.get(f"{m}:{g}", kept.get(g)))
-            if calls:
-                return "      " + " ∙ ".join(calls), ""
-        return "      search needs", ""
-    w, body = ans.pop((m, need))
-    lines = []
-    for x in w:
-        lines.append(f"      let {x} = {expand(lets[m][x], d)} in")
-    unfolding = ""
-    u = re.match(r"unfolding ([\w ,-]+); ", body)
-    if u:
-        unfolding, body = u.group(1), body[u.end():]
-    lines.append("      " + expand(body, d))
-    return "\n".join(lines), unfolding
-
-
-def wrapped(l):
-    """Lines of at most some 380 characters: broken before a parenthesis; a list of names after a comma."""
-    out, ind = [], len(l) - len(l.lstrip())
-    if l.startswith("use ") and len(l) > 380:
-        head, _, names = l.rstrip("}").partition(".{")
-        out, cur = [head + ".{"], "  "
-        for n in names.split(", "):
-            if len(cur) + len(n) > 300:
-                out.append(cur.rstrip())
-                cur = "  "
-            cur += n + ", "
-        return out + [cur.rstrip(), "}"]
-    while len(l) >= 380:
-        i = l.rfind(" (", ind + 1, 370)
-        if i < 0:
-            i = l.rfind(" .", ind + 1, 370)
-        if i < 0:
-            break
-        out.append(l[:i])
-        ind = max(ind, 4)
-        l = " " * ind + l[i + 1:]
-    return out + [l]
-
-
-def write(p, t):
-    t = "\n".join(x for l in t.split("\n") for x in wrapped(l))
-    os.makedirs(os.path.dirname(p), exist_ok=True)
-    if not (os.path.exists(p) and open(p).read() == t):
-        open(p, "w").write(t)
-
-
-def block(at):
-    body = []
-    for l in text[at:].split("\n")[1:]:
-        if l.startswith("    ") or l.strip() == "":
-            body.append(l[4:])
+    def read(self, first, rest):
+        rest = re.sub(r"\s*\n\s*", " ", rest.strip())
+        word = first.split()[0]
+        if word == "FOR":
+            self.folder = first.split()[1].removeprefix(".")
+        elif word == "USE":
+            self.uses.append(first[4:])
+        elif word == "KEPT":
+            functions, _, where = first[5:].partition(" = ")
+            self.kept.update({f: " " + where.strip() for f in functions.split()})
+        elif word == "MU":
+            member, _, term = first[3:].partition(" = ")
+            self.measures[member] = term
+        elif word == "INV":
+            left, _, term = (first + " " + rest)[4:].partition(" = ")
+            self.loops[left] = term.strip()
+        elif word == "LET":
+            member, name, term = re.match(r"LET (\S+) (\S+) = (.*)", first + " " + rest).groups()
+            self.steps.setdefault(member, {})[name] = term.strip()
         else:
+            head, _, named = first.partition(" with ")
+            if tuple(head.split()) in self.answers:
+                faults.append(f"{self.name}: answered twice: {head}")
+            self.answers[tuple(head.split())] = (named.split(), rest)
+
+    def are_for(self, proof):
+        folder, _, name = proof.path.rpartition("/")
+        functions = {short(m) for m in proof.parts} if proof.is_cycle() else {name}
+        return folder == self.folder and bool(functions & {f for f, _ in self.answers})
+
+    def of(self, member, need, steps):
+        """The answer to a need at the place that the steps lead to, and what it unfolds."""
+        at = fields_of(steps)
+        self.used.add((member, need))
+        if ONLY and member not in ONLY:
+            return "      ?", ""
+        if (member, need) not in self.answers:
+            return "      " + (self.same_length(member, need, at) or "search needs"), ""
+        named, body = self.answers[(member, need)]
+        lines = [f"      let {x} = {expand(self.steps[member][x], at)} in" for x in named]
+        unfolded = re.match(r"unfolding ([\w ,-]+); ", body)
+        lines.append("      " + expand(body[unfolded.end():] if unfolded else body, at))
+        return "\n".join(lines), unfolded.group(1) if unfolded else ""
+
+    def same_length(self, member, need, at):
+        """That a slice is as long as before: each call on the way kept its length."""
+        calls = []
+        for f in at if need.startswith("same-length") and "loop" not in at else ():
+            g = re.sub(r"\d+$", "", f)
+            where = self.kept.get(f"{member}:{g}", self.kept.get(g))
+            calls += [expand(f"c@{f}", at) + " .kept" + where] if where else []
+        return " ∙ ".join(calls)
+
+    def fill(self, head):
+        """The head of a proof with the terms for its holes."""
+        for left, term in self.loops.items():
+            head, n = re.subn(r"(?m)^((?:\w+·)?" + re.escape(left) + r") = \?$", lambda m: m.group(1) + " = " + term, head)
+            self.used |= {left} if n else set()
+        for member, term in self.measures.items():
+            head, n = re.subn(r"(?m)^(μ-(?:\w+·)?" + re.escape(member) + r" κs a) = \?$", lambda m: m.group(1) + " = " + term, head)
+            self.used |= {member} if n else set()
+        for line in head.split("\n"):
+            if line.endswith(" = ?"):
+                faults.append(f"{self.name}: no MU or INV for: {line}")
+        return head
+
+    def unused(self):
+        named = {(member, x) for (member, _), (steps, _) in self.answers.items() for x in steps}
+        steps = [(member, x) for member in self.steps for x in self.steps[member]]
+        return [x for x in [*self.answers, *self.loops, *self.measures] if x not in self.used] + [x for x in steps if x not in named]
+
+
+def fields_of(steps):
+    """Where each step is found from a place: how far before it, and under which field."""
+    at = {f: ("c" + " .before" * i, f) for i, f in enumerate(reversed(steps))}
+    at["S"] = ("c" + " .before" * len(steps), None)
+    return at
+
+
+def expand(term, at):
+    def record(m):
+        if m.group(1) not in at:
+            raise SystemExit(f"no {m.group(1)} among: {' '.join(at)}\nin: {term[:300]}")
+        return at[m.group(1)]
+
+    def field(m):
+        before, f = record(m)
+        return before if f is None else f"{before} .{f}"
+
+    term = re.sub(r"c@([\w«»-]*[\w»])", field, term)
+    return re.sub(r"c\^([\w«»-]*[\w»])", lambda m: f"({record(m)[0]})", term)
+
+
+# ---------------------------------------------------------------------------------------------- proofs
+def short(member):
+    return member.split("·")[-1]
+
+
+def split_uses(head):
+    lines = head.split("\n")
+    return [l for l in lines if l.startswith("use ")], "\n".join(l for l in lines if not l.startswith("use ")).strip()
+
+
+def lifetimes(need):
+    return " κs" if re.search(r"-requires(-\d+)?$", need) else ""
+
+
+def single(crate, proof, answers):
+    """path -> text, of one function."""
+    function = os.path.basename(proof.path)
+    uses, definitions = split_uses(answers.fill(proof.head))
+    loops = "".join(" " + name for name in re.findall(r"(?m)^abbrev (\S+) :", definitions))
+    text = "\n".join(answers.uses + [u for u in uses if u not in answers.uses]) + "\n\n" + (definitions + "\n\n" if definitions else "")
+    for need, steps in proof.parts[""].needs:
+        answer, unfolded = answers.of(function, need, steps)
+        text += f"{need} : tie.Need-{need}{loops}\n" + (f"unfolding {unfolded}\n" if unfolded else "")
+        text += f"{need} c{lifetimes(need)} =\n" + "\n".join(l[2:] for l in answer.split("\n")) + "\n\n"
+    spec = function.replace("_", "-") + "-spec"
+    needs = " ".join(n for n, _ in proof.parts[""].needs)
+    text += f"pub {spec} : {{M : Type 1}} → statement M\n" + "\n    ".join(textwrap.wrap(f"{spec} = tie.close (tie.spec{loops} {needs})", 150, **WHOLE)) + "\n"
+    return {f"crates/{crate}/proofs/{proof.path}/Proof.antt": FIRST + text}
+
+
+def cycle(crate, proof, answers):
+    """path -> text, of a cycle: a file for each member, what they share, and the proof."""
+    library = f"Rattle.{crate}.proofs.{proof.path.replace('/', '.')}.Proof"
+    uses, definitions = split_uses(answers.fill(proof.head).replace("use Prim.Native.Nat.{ℕ, _<_}", "\n".join(answers.uses)))
+    base = [u for u in uses if ".Tie.{close}" not in u and not u.endswith(".{statement}")]
+    common = definitions.replace("abbrev ", "abbrev pub ") + "\n\n"
+    for m, part in proof.parts.items():
+        common += f"abbrev pub {m}-calls : ℕ → {m}-lts.Claims\n{m}-calls t = ({part.calls})\n\n"
+    names = re.findall(r"abbrev pub (\S+) :", common)
+    folder = f"crates/{crate}/proofs/{proof.path}/Proof"
+    files = {f"{folder}/Common.antt": FIRST + "\n".join(base) + "\n\n" + common.rstrip() + "\n"}
+    for m, part in proof.parts.items():
+        text = member(m, part, answers)
+        used = [x for x in names if re.search(r"(?<![\w-])" + re.escape(x) + r"(?![\w-])", text)]
+        files[f"{folder}/Of-{short(m)}.antt"] = FIRST + "\n".join(base) + f"\nuse {library}.Common.{{{', '.join(used)}}}\n\n" + text.rstrip() + "\n"
+    spec = closed(proof)
+    modules = ["Of-" + short(m) for m in proof.parts]
+    files[folder + ".antt"] = (FIRST + "mod Common\n" + "".join(f"mod {x}\n" for x in modules) + "\n".join(uses)
+                               + f"\nuse {library}.Common.{{{', '.join(x for x in names if x in spec)}}}\n"
+                               + "".join(f"use {library}.{x} as {x}\n" for x in modules) + "\n" + spec)
+    return files
+
+
+def member(m, part, answers):
+    text = "module _ (t : ℕ) where\n"
+    for need, steps in part.needs:
+        answer, unfolded = answers.of(short(m), need, steps)
+        text += f"  pub {m}-{need} : {m}-lts.Need-{need} ({m}-calls t) {part.tail}\n" + (f"  unfolding {unfolded}\n" if unfolded else "")
+        text += f"  {m}-{need} c{lifetimes(need)} =\n{answer}\n\n"
+    return text
+
+
+def closed(proof):
+    own = "+" + "+".join(proof.parts)
+    text = f"pub {own}-spec : {{M : Type 1}} → statement M\n{own}-spec =\n    close " + " ".join("μ-" + m for m in proof.parts) + "\n"
+    for m, part in proof.parts.items():
+        needs = " ".join(f"(Of-{short(m)}.{m}-{n} t)" for n, _ in part.needs)
+        text += f"    (λ t. {m}-lts.spec ({m}-calls t) {part.tail}\n    {needs})\n"
+    return text
+
+
+# ---------------------------------------------------------------------------------------------- files
+def wrapped(line):
+    """Lines of at most some 380 characters: broken before a parenthesis; a list of names after a comma."""
+    out, indent = [], len(line) - len(line.lstrip())
+    if line.startswith("use ") and len(line) > 380:
+        head, _, names = line.rstrip("}").partition(".{")
+        out, current = [head + ".{"], "  "
+        for n in names.split(", "):
+            if len(current) + len(n) > 300:
+                out.append(current.rstrip())
+                current = "  "
+            current += n + ", "
+        return out + [current.rstrip(), "}"]
+    while len(line) >= 380:
+        i = line.rfind(" (", indent + 1, 370)
+        i = i if i >= 0 else line.rfind(" .", indent + 1, 370)
+        if i < 0:
             break
-    sk = re.sub(r"(use \S+\.)\{\s+(\S+?),?\s+\}", r"\1{\2}", "\n".join(body))
-    return re.sub(r" =\n    \?", " = ?", sk)
+        out.append(line[:i])
+        indent = max(indent, 4)
+        line = " " * indent + line[i + 1:]
+    return out + [line]
 
 
-made = "-- Made by tools/cycle.py from tools/parse_answers: the answers are what people read and edit.\n"
+def made():
+    """path -> text, of every file, before `rt fmt`."""
+    files, kept = {}, {crate: places.load(crate) for crate, _ in GROUPS}
+    for crate, names in GROUPS:
+        answers = Answers(names)
+        for path in [p for p in kept[crate] if answers.are_for(kept[crate][p])]:
+            proof = kept[crate].pop(path)
+            files.update((cycle if proof.is_cycle() else single)(crate, proof, answers))
+        faults.extend(f"{answers.name}: used nowhere: {x}" for x in answers.unused())
+    faults.extend(f"tools/places/{crate}.txt has {path}, which has no answers" for crate in kept for path in kept[crate])
+    listed = {n + ".txt" for _, names in GROUPS for n in names}
+    faults.extend(f"no group has the answers {f}" for f in sorted(set(os.listdir(ANSWERS)) - listed))
+    return {path: "\n".join(x for l in text.split("\n") for x in wrapped(l)) for path, text in files.items()}
 
 
-def short(m):
-    return m.split("·")[-1]
+def formatted(files):
+    """The files after `rt fmt`, which goes over the crates of a repository."""
+    with tempfile.TemporaryDirectory() as work:
+        open(os.path.join(work, "crates.txt"), "w").write("")
+        for path, text in files.items():
+            os.makedirs(os.path.dirname(os.path.join(work, path)), exist_ok=True)
+            open(os.path.join(work, path), "w").write(text)
+        subprocess.run(["rt", "fmt"], cwd=work, check=True)
+        return {path: open(os.path.join(work, path)).read() for path in files}
 
 
-def cycle(path, cyc):
-    m0 = re.search(r"help: write \S*/proofs/" + re.escape(mod + cyc) + r"/Proof\.antt with", text)
-    sk = block(m0.start())
-    head = sk[:sk.index("-- src")]
-    for m in re.finditer(r"\nabbrev \S+-(?:Inv|μ)-loop\S* : .*\n.* = \?\n", sk):
-        if m.group(0).strip() not in head:
-            head += m.group(0).lstrip("\n") + "\n"
-    claims, tails = {}, {}
-    for m in re.finditer(r"\n(\S+) : \(t : ℕ\) → (\S+)-lts\.(Need-\S+) \(\n(.*?)\n\) (\(\S+ t\).*?)\n", sk, re.S):
-        claims.setdefault(m.group(2), re.sub(r"\s+", " ", m.group(4).strip().rstrip(",")))
-        tails.setdefault(m.group(2), m.group(5))
-    for m in claims:
-        assert f"μ-{m} κs a = ?" in head, m
-        head = head.replace(f"μ-{m} κs a = ?", f"μ-{m} κs a = {mu[short(m)]}")
-    for lhs, t in inv.items():
-        head = re.sub(r"(?m)^((?:\w+·)?" + re.escape(lhs) + r") = \?", lambda m: m.group(1) + " = " + t, head)
-    left = [l for l in head.split("\n") if l.endswith(" = ?")]
-    if left:
-        print("no INV for:\n" + "\n".join(left))
-    head = head.replace("use Prim.Native.Nat.{ℕ, _<_}", "\n".join(uses))
-    lib = f"Rattle.{crate}.proofs.{mod.replace('/', '.')}{cyc}.Proof"
-    usel = [l for l in head.split("\n") if l.startswith("use ")]
-    defs = "\n".join(l for l in head.split("\n") if not l.startswith("use "))
-    base = [l for l in usel if ".Tie.{close}" not in l and not l.endswith(".{statement}")]
-    com = defs.replace("abbrev ", "abbrev pub ").strip() + "\n\n"
-    for m, c in claims.items():
-        com += f"abbrev pub {m}-calls : ℕ → {m}-lts.Claims\n{m}-calls t = ({c})\n\n"
-    names = re.findall(r"abbrev pub (\S+) :", com)
-    D = os.path.dirname(path)
-    write(D + "/Proof/Common.antt", made + "-- Assumes nothing.\n" + "\n".join(base) + "\n\n" + com.rstrip() + "\n")
-    own = "+" + "+".join(claims)
-    spec = f"pub {own}-spec : {{M : Type 1}} → statement M\n{own}-spec =\n    close " + " ".join("μ-" + m for m in claims) + "\n"
-    mods = []
-    for m in claims:
-        folder = f"{gen}/Rattle.{crate}.proofs/proofs/{mod}{cyc}"
-        rec, needs = load(folder + "/" + next(f for f in os.listdir(folder) if f.replace("_", "-") == f"Lts-{m.replace('·', '-')}.antt"))
-        tail = f"({m}-calls t) {tails[m]}"
-        out, M = "module _ (t : ℕ) where\n", "Of-" + short(m)
-        for n, pl in needs:
-            k = " κs" if re.search(r"-requires(-\d+)?$", n) else ""
-            a, u = answer(short(m), n[5:], chain(rec, pl))
-            ul = f"  unfolding {u}\n" if u else ""
-            out += f"  pub {m}-{n[5:]} : {m}-lts.{n} {tail}\n{ul}  {m}-{n[5:]} c{k} =\n{a}\n\n"
-        used = [x for x in names if re.search(r"(?<![\w-])" + re.escape(x) + r"(?![\w-])", out)]
-        write(D + f"/Proof/{M}.antt", made + "-- Assumes nothing.\n" + "\n".join(base) + f"\nuse {lib}.Common.{{{', '.join(used)}}}\n\n" + out.rstrip() + "\n")
-        mods.append((m, M))
-        spec += f"    (λ t. {m}-lts.spec {tail}\n    " + " ".join(f"({M}.{m}-{n[5:]} t)" for n, _ in needs) + ")\n"
-    used = [x for x in names if x in spec]
-    write(path, made + "-- Assumes nothing.\nmod Common\n" + "".join(f"mod {M}\n" for _, M in mods) + "\n".join(usel) + f"\nuse {lib}.Common.{{{', '.join(used)}}}\n"
-          + "".join(f"use {lib}.{M} as {M}\n" for _, M in mods) + "\n" + spec)
-    return [short(m) for m in claims]
+def stray(files):
+    """Files that say that they are made here, and are not."""
+    for folder, _, names in os.walk(os.path.join(ROOT, "crates")):
+        for n in names:
+            path = os.path.relpath(os.path.join(folder, n), ROOT)
+            if n.endswith(".antt") and path not in files and open(os.path.join(ROOT, path)).readline() == MADE:
+                yield path
 
 
-def single(fn):
-    m0 = re.search(r"help: write \S*/proofs/" + re.escape(mod + fn) + r"/Proof\.antt with", text)
-    if not m0:
-        print(f"{fn} is left as it is: PRINTED has no skeleton of it")
-        return
-    sk = "\n".join(l for l in block(m0.start()).split("\n") if not l.startswith("-- src"))
-    rec, needs = load(f"{gen}/Rattle.{crate}.proofs/proofs/{mod}{fn}/Lts.antt")
-    for n, pl in needs:
-        d = chain(rec, pl)
-        a, u = answer(fn, n[5:], d)
-        a = "\n".join(l[2:] for l in a.split("\n"))
-        sk = re.sub(r"\n(" + re.escape(n[5:]) + r" c( κs)?) =[^\n]*(\n    [^\n]*)*", lambda m: ("\nunfolding " + u if u else "") + "\n" + m.group(1) + " =\n" + a, sk, count=1)
-    for lhs, t in inv.items():
-        sk = sk.replace(lhs + " = ?", lhs + " = " + t)
-    have = set(sk.split("\n"))
-    sk = "\n".join(u for u in uses if u not in have) + "\n" + sk
-    sk = re.sub(r"\n{3,}", "\n\n", sk).strip() + "\n"
-    write(f"{crate_dir}/proofs/{mod}{fn}/Proof.antt", made + "-- Assumes nothing.\n" + sk)
+def main():
+    files = formatted(made())
+    faults.extend(f"{path}: no answers make it" for path in stray(files))
+    for path, text in files.items():
+        full = os.path.join(ROOT, path)
+        if os.path.exists(full) and open(full).read() == text:
+            continue
+        if "--check" in sys.argv:
+            faults.append(f"{path} is not what tools/cycle.py writes")
+        else:
+            os.makedirs(os.path.dirname(full), exist_ok=True)
+            open(full, "w").write(text)
+    for f in faults:
+        print(f)
+    sys.exit(1 if faults else 0)
 
 
-done = set()
-cyc = re.search(r"help: write (\S*/proofs/" + re.escape(mod) + r"(\+[^/\s]+)/Proof\.antt) with", text)
-if cyc:
-    done |= set(cycle(f"{crate_dir}/proofs/{mod}{cyc.group(2)}/Proof.antt", cyc.group(2)))
-for fn in sorted({m for m, _ in ans} - done):
-    single(fn)
-if ans:
-    print("no such need:", list(ans))
+if __name__ == "__main__":
+    main()

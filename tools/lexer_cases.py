@@ -8,16 +8,21 @@ A case: the words of the token buffer, then pairs of how many times and a text, 
 import pathlib, re, sys
 
 BYTES, TOKENS, BRACKETS, MATCHES = 16384, 2048, 48, 8
+WORDS = 3  # of a token in the buffer
+# The refusals by number, rows 1 to 7.
+TOO_LONG, NOT_ASCII, NO_LEXEME, UNCLOSED, SIMC, TOO_MANY, TOO_DEEP = range(1, 8)
 KEYWORDS = "pub use as fn let type mod const match enum crate simc".split()
 MARKS = "-> :: : ; , = => ( ) [ ] { } < >".split()
 KINDS = dict(zip(KEYWORDS + MARKS, range(1, 28)))
+OPENING, CLOSING = {KINDS[m] for m in "([{<"}, {KINDS[m] for m in ")]}>"}
+DEC_LITERAL, HEX_LITERAL, BIN_LITERAL, BOOL, IDENT, JET, WITNESS, PARAM, MACRO, FIRST_WORD = range(28, 38)
 NAME = "[A-Za-z_][A-Za-z0-9_]*"
 # The tokens of `Token` that are more than one text, in the order of trial: a pattern and the kind.
 PATTERNS = [
-    (f"jet::{NAME}", 33), (f"witness::{NAME}", 34), (f"param::{NAME}", 35), ("assert!|panic!|dbg!|list!", 36),
-    ("0x[0-9a-fA-F][0-9a-fA-F_]*", 29), ("0b[01][01_]*", 30), ("[0-9][0-9_]*", 28), (NAME, 32),
+    (f"jet::{NAME}", JET), (f"witness::{NAME}", WITNESS), (f"param::{NAME}", PARAM), ("assert!|panic!|dbg!|list!", MACRO),
+    ("0x[0-9a-fA-F][0-9a-fA-F_]*", HEX_LITERAL), ("0b[01][01_]*", BIN_LITERAL), ("[0-9][0-9_]*", DEC_LITERAL), (NAME, IDENT),
 ]
-# The words that the rules tell apart, as classes from 37 on: names, reserved function names, macros, booleans.
+# The words that the rules tell apart, as classes from FIRST_WORD on: names, reserved function names, macros, booleans.
 RULE_WORDS = (
     "Left Right Some None Either Option List unwrap_left unwrap_right array_fold for_while is_none unwrap assert panic match into fold dbg raw_hash "
     "assert! panic! dbg! list! false true"
@@ -52,12 +57,12 @@ def trivia_end(text, i):
     elif text.startswith("/*", i):
         end = comment_end(text, i)
         if end is None:
-            raise Refusal(4, i)
+            raise Refusal(UNCLOSED, i)
     else:
         return i
     for k in range(i, end):
         if ord(text[k]) > 127:
-            raise Refusal(2, k)
+            raise Refusal(NOT_ASCII, k)
     return end
 
 
@@ -68,12 +73,12 @@ def token(text, i):
         if found:
             word = found.group()
             if word == "simc":
-                raise Refusal(5, i)
-            return (31 if word in ("true", "false") else KINDS.get(word, kind) if kind == 32 else kind), found.end()
+                raise Refusal(SIMC, i)
+            return (BOOL if word in ("true", "false") else KINDS.get(word, kind) if kind == IDENT else kind), found.end()
     for mark in sorted(MARKS, key=len, reverse=True):
         if text.startswith(mark, i):
             return KINDS[mark], i + len(mark)
-    raise Refusal(2 if ord(text[i]) > 127 else 3, i)
+    raise Refusal(NOT_ASCII if ord(text[i]) > 127 else NO_LEXEME, i)
 
 
 def lexemes(text):
@@ -90,26 +95,26 @@ def lexemes(text):
 def lex(draft, words):
     """The tokens of a draft for a token buffer of so many words."""
     if len(draft) > BYTES:
-        raise Refusal(1, BYTES)
+        raise Refusal(TOO_LONG, BYTES)
     tokens = lexemes(draft.decode("latin-1"))
-    room = min(TOKENS, words // 3)
+    room = min(TOKENS, words // WORDS)
     if len(tokens) > room:
-        raise Refusal(6, tokens[room][1])
+        raise Refusal(TOO_MANY, tokens[room][1])
     depth = row = 0
     for kind, start, _ in tokens:
-        if kind in (20, 22, 24, 26):
+        if kind in OPENING:
             depth += 1
-        if kind in (21, 23, 25, 27):
+        if kind in CLOSING:
             depth = max(depth - 1, 0)
-        row = row + 1 if kind == 9 else 0
+        row = row + 1 if kind == KINDS["match"] else 0
         if depth > BRACKETS or row > MATCHES:
-            raise Refusal(7, start)
+            raise Refusal(TOO_DEEP, start)
     return tokens
 
 
 def shown(draft, kind, start, end):
     word = draft[start:end].decode()
-    tell = f"/{37 + RULE_WORDS.index(word)}" if kind in (31, 32, 36) and word in RULE_WORDS else ""
+    tell = f"/{FIRST_WORD + RULE_WORDS.index(word)}" if kind in (BOOL, IDENT, MACRO) and word in RULE_WORDS else ""
     return f" {kind}{tell}:{start}-{end}"
 
 
@@ -290,6 +295,14 @@ def write_cases():
         cases.add(900, (n, "match "), (49, "("))
         cases.add(900, (49, "("), (n, "match "))
         cases.add(900, (n, "match("))
+    # too deep, and what stands behind: a refusal of the bytes and too many tokens win, closing brackets change nothing
+    for deep in ((49, "("), (9, "match ")):
+        cases.add(900, deep, (60, ")"))
+        for text in (b"\x80", "#", "/*", "simc"):
+            cases.add(900, deep, text)
+        cases.add(300, deep, (51, ")"))
+        cases.add(300, deep, (92, ")"))
+        cases.add(8192, deep, (2040, ";"))
     return cases
 
 

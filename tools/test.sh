@@ -15,7 +15,7 @@ run() {
     passed=$((passed + 1))
 }
 
-for script in tools/words.py tools/words_cases.py tools/lexer_cases.py tools/grammar.py; do
+for script in tools/words.py tools/words_cases.py tools/bytes.py tools/lexer_cases.py tools/grammar.py tools/choice.py tools/cycle.py; do
     run python3 "$script" --check
 done
 run diff <(python3 tools/num_cases.py) crates/num_cases/stdout

@@ -1,5 +1,5 @@
 -- The reader's answer (document 01, "What the reader hands over"): from a draft and the numbers of words of the two buffers to the
--- numbers or the refusal with its place, and every word of both buffers. The byte and token limits are parameters.
+-- numbers or the refusal with its place, and every word of both buffers. What it is read as, and the byte and token limits, are parameters.
 -- Assumes nothing.
 use mathlib.Core.Bool.{cond}
 use mathlib.Core.List.{List, [], _∷_, _++_}
@@ -13,12 +13,14 @@ use Rattle.lexer.specs.Lexemes.{Token, lexemes}
 use Rattle.lexer.specs.Limits.{Limits, noToken, lexedOf, tokenWords, tokensOf}
 use Rattle.lexer.specs.declared.Lexed.{Lexed}
 use Rattle.lexer.specs.declared.Lexed.the-variants.{Tokens, Refused}
-use Rattle.own.specs.Tree.{Tok, Node, Rec, records}
+use Rattle.own.specs.Tree.{Tok, Node, Rec}
 use Rattle.text.specs.Widths.{recWide}
+use Rattle.text.specs.Refusals as refusal
 use Rattle.own.specs.Words.{recWords}
 use Rattle.kinds.specs.Words.{classOf}
+use Rattle.grammar.specs.Entry.{Entry, recordsOf}
 use Rattle.grammar.specs.WellShaped.{shapeOf}
-use Rattle.grammar.specs.Records.{recordTree}
+use Rattle.grammar.specs.Records.{recordTrees}
 use Rattle.grammar.specs.Faults.{Fault, faultOf}
 use Rattle.grammar.specs.KeptTokens.{classesOf}
 
@@ -48,42 +50,46 @@ toksOf draft (t ∷ ts) = record { class = classOf draft (t .kind) (t .start) (t
 unfoldable pub startOf : List ℕ → List Token → ℕ → ℕ
 startOf draft ts k = cond (ltb k (length ts)) (getD ts k noToken .start) (length draft)
 
--- The trees of a draft with these tokens and this shape tree: one function, one tree.
+-- The trees of a draft with these tokens and this shape tree, side by side.
 abbrev pub treesOf : List ℕ → List Token → Items → List Node
-treesOf draft ts r = recordTree draft (toksOf draft ts) r ∷ []
+treesOf draft ts r = recordTrees draft (toksOf draft ts) r
 
--- What is found of a draft before its tree is written: a refusal, 1 to 14, or its tokens and its trees.
+-- Its records.
+abbrev pub recordsFor : Entry → List ℕ → List Token → Items → List Rec
+recordsFor en draft ts r = recordsOf en (length draft) (treesOf draft ts r)
+
+-- What is found of a draft before its tree is written: the number and the place of a refusal, or its tokens and its records.
 pub data Reading : Type 0 where
-  refusal : ℕ → ℕ → Reading
-  read : List Token → List Node → Reading
+  unread : ℕ → ℕ → Reading
+  read : List Token → List Rec → Reading
 
 -- "of 9 to 14 the earliest place"
-abbrev pub faulty : Option Fault → List Token → List Node → Reading
-faulty none ts ns = read ts ns
-faulty (some f) ts ns = refusal (f .number) (f .place)
+abbrev pub faulty : Option Fault → List Token → List Rec → Reading
+faulty none ts rs = read ts rs
+faulty (some f) ts rs = unread (f .number) (f .place)
 
--- Refusal 8, then 9 to 14.
-abbrev pub shaped : List ℕ → List Token → Found → Reading
-shaped draft ts (stuck k) = refusal 8 (startOf draft ts k)
-shaped draft ts (found r) = faulty (faultOf draft (toksOf draft ts) r) ts (treesOf draft ts r)
+-- Refusal 8, then those of the shapes.
+abbrev pub shaped : Entry → List ℕ → List Token → Found → Reading
+shaped en draft ts (stuck k) = unread refusal.Misshapen (startOf draft ts k)
+shaped en draft ts (found r) = faulty (faultOf draft (toksOf draft ts) r) ts (recordsFor en draft ts r)
 
--- Refusals 1 to 7, which are the lexer's, then 8 to 14.
-abbrev pub lexed : Lexed → List ℕ → List Token → Reading
-lexed (Refused c p) draft ts = refusal c p
-lexed (Tokens n) draft ts = shaped draft ts (shapeOf (classesOf (toksOf draft ts)))
+-- The lexer's refusals, then these.
+abbrev pub lexed : Entry → Lexed → List ℕ → List Token → Reading
+lexed en (Refused c p) draft ts = unread c p
+lexed en (Tokens n) draft ts = shaped en draft ts (shapeOf en (classesOf (toksOf draft ts)))
 
 -- The reading of a draft with a token buffer of so many words.
-unfoldable pub reading : Limits → List ℕ → ℕ → Reading
-reading l draft tw = lexed (lexedOf l draft tw) draft (tokensOf (lexemes draft))
+unfoldable pub reading : Entry → Limits → List ℕ → ℕ → Reading
+reading en l draft tw = lexed en (lexedOf l draft tw) draft (tokensOf (lexemes draft))
 
 -- Refusal 15: "tree buffer under six words a record".
 abbrev pub fitted : ℕ → Reading → Answer
-fitted rw (refusal c p) = refused c p
-fitted rw (read ts ns) = cond (ltb rw (recWide * length (records ns))) (refused 15 0) (accepted (length ts) (length (records ns)))
+fitted rw (unread c p) = refused c p
+fitted rw (read ts rs) = cond (ltb rw (recWide * length rs)) (refused refusal.NoRoom 0) (accepted (length ts) (length rs))
 
 -- The answer for a draft, a token buffer of tw words and a tree buffer of rw words.
-unfoldable pub answer : Limits → List ℕ → ℕ → ℕ → Answer
-answer l draft tw rw = fitted rw (reading l draft tw)
+unfoldable pub answer : Entry → Limits → List ℕ → ℕ → ℕ → Answer
+answer en l draft tw rw = fitted rw (reading en l draft tw)
 
 -- The words of a buffer of so many: what is written, and zeros after it; zeros alone on a refusal.
 abbrev pub content : Answer → List ℕ → ℕ → List ℕ
@@ -91,21 +97,21 @@ content (accepted n m) ws size = ws ++ replicate (size - length ws) 0
 content (refused c p) ws size = replicate size 0
 
 abbrev pub tokensRead : Reading → List Token
-tokensRead (refusal c p) = []
-tokensRead (read ts ns) = ts
+tokensRead (unread c p) = []
+tokensRead (read ts rs) = ts
 
-abbrev pub treesRead : Reading → List Node
-treesRead (refusal c p) = []
-treesRead (read ts ns) = ns
+abbrev pub recordsIn : Reading → List Rec
+recordsIn (unread c p) = []
+recordsIn (read ts rs) = rs
 
 -- Every word of the token buffer: three words a token.
-unfoldable pub tokenBuffer : Limits → List ℕ → ℕ → ℕ → List ℕ
-tokenBuffer l draft tw rw = content (answer l draft tw rw) (tokenWords (tokensRead (reading l draft tw))) tw
+unfoldable pub tokenBuffer : Entry → Limits → List ℕ → ℕ → ℕ → List ℕ
+tokenBuffer en l draft tw rw = content (answer en l draft tw rw) (tokenWords (tokensRead (reading en l draft tw))) tw
 
 -- The records of a draft, in the order handed over.
-unfoldable pub recordsRead : Limits → List ℕ → ℕ → List Rec
-recordsRead l draft tw = records (treesRead (reading l draft tw))
+unfoldable pub recordsRead : Entry → Limits → List ℕ → ℕ → List Rec
+recordsRead en l draft tw = recordsIn (reading en l draft tw)
 
 -- Every word of the tree buffer: six words a record.
-unfoldable pub treeBuffer : Limits → List ℕ → ℕ → ℕ → List ℕ
-treeBuffer l draft tw rw = content (answer l draft tw rw) (recWords (recordsRead l draft tw)) rw
+unfoldable pub treeBuffer : Entry → Limits → List ℕ → ℕ → ℕ → List ℕ
+treeBuffer en l draft tw rw = content (answer en l draft tw rw) (recWords (recordsRead en l draft tw)) rw

@@ -1,16 +1,17 @@
 -- Drafts at the limits and in the order of refusals, and the drafts of document 01's "Drafts with known results" that are not marked:
--- what the definitions make of each is computed.
+-- what the definitions make of each is computed. Refusals are in the paper's figures, so that the names for them are tested too.
 -- Assumes nothing.
 use mathlib.Core.List.{List, [], _∷_, _++_, map}
 use mathlib.Core.Path.{_≡_, refl}
 use Prim.Native.Nat.{ℕ, zero, suc}
 use Rattle.text.specs.Ascii.{ascii, asciiFrom}
 use Rattle.lexer.specs.Limits.{limitsOf, draftLimits}
+use Rattle.grammar.specs.Entry.{oneFunction}
 use Rattle.grammar.specs.Cases.{Result, refusedWith, records, buffers, Case, defined, roomy, whole, braced, inBraces}
 
 -- `fn f(){}`, eight bytes, six tokens, three records: within so many bytes, tokens, words of the token buffer and of the tree buffer.
 abbrev small : ℕ → ℕ → ℕ → ℕ → Result → Case
-small b t tw rw r = record { limits = limitsOf b t; tokenSpace = tw; treeSpace = rw; draft = braced ""; result = r }
+small b t tw rw r = record { entry = oneFunction; limits = limitsOf b t; tokenSpace = tw; treeSpace = rw; draft = braced ""; result = r }
 
 -- so many times the bytes
 unfoldable times : ℕ → List ℕ → List ℕ
@@ -35,11 +36,11 @@ cases =
     ∷ whole "/*/**/" (refusedWith 4 0)
     ∷ whole "fn simc #" (refusedWith 5 3)
     -- 1 before 3, 3 before 6, 6 before 7, 7 before 8, 8 before 11, 9 before 15
-    ∷ record { limits = limitsOf 3 9; tokenSpace = 0; treeSpace = 0; draft = ascii "####"; result = refusedWith 1 3 }
-    ∷ record { limits = limitsOf 99 9; tokenSpace = 0; treeSpace = 0; draft = ascii "fn #"; result = refusedWith 3 3 }
-    ∷ record { limits = limitsOf 99 8; tokenSpace = 99; treeSpace = 0; draft = times 9 (ascii "match "); result = refusedWith 6 48 }
+    ∷ record { entry = oneFunction; limits = limitsOf 3 9; tokenSpace = 0; treeSpace = 0; draft = ascii "####"; result = refusedWith 1 3 }
+    ∷ record { entry = oneFunction; limits = limitsOf 99 9; tokenSpace = 0; treeSpace = 0; draft = ascii "fn #"; result = refusedWith 3 3 }
+    ∷ record { entry = oneFunction; limits = limitsOf 99 8; tokenSpace = 99; treeSpace = 0; draft = times 9 (ascii "match "); result = refusedWith 6 48 }
     ∷ inBraces "match x{} 1" (refusedWith 8 17)
-    ∷ record { limits = draftLimits; tokenSpace = 99; treeSpace = 0; draft = braced "fold::<g,3>(x)"; result = refusedWith 9 16 }
+    ∷ record { entry = oneFunction; limits = draftLimits; tokenSpace = 99; treeSpace = 0; draft = braced "fold::<g,3>(x)"; result = refusedWith 9 16 }
     -- of 9 to 14 the earliest place
     ∷ inBraces "fold::<g,3>(match x{})" (refusedWith 9 16)
     ∷ inBraces "match fold::<g,3>(x){}" (refusedWith 11 7)

@@ -16,7 +16,7 @@ use Rattle.num.specs.Bound.{powerUpTo, boundOk, sizeOk}
 use Rattle.lexer.specs.Chars.{among, whitespace, lineEnds, plainBytes, binaryDigits, decimalDigits, hexDigits, underscore, nameStarts, nameBytes, run, begins}
 use Rattle.lexer.specs.Lexemes as lexeme
 use Rattle.lexer.specs.Class as class
-use Rattle.lexer.specs.Limits.{Limits, draftLimits, tokenWords, depthAfter, rowAfter, tooDeep, room, lexedOf}
+use Rattle.lexer.specs.Limits.{Limits, draftTokens, draftLimits, tokenWords, depthAfter, rowAfter, tooDeep, room, lexedOf}
 use Rattle.theory.specs.Grammar.{look, row, alt, pick}
 use Rattle.theory.specs.Machine.{choose}
 use Rattle.theory.specs.Ebnf.{kindsOf, sortOf, yield}
@@ -29,15 +29,19 @@ use Rattle.kinds.specs.Shape.{has, count, span}
 use Rattle.kinds.specs.Fields.{counted}
 use Rattle.grammar.specs.Shapes.{shapes}
 use Rattle.grammar.specs.Tables.{table, means}
+use Rattle.grammar.specs.Entry.{Entry, oneFunction}
 use Rattle.grammar.specs.WellShaped.{shapeOf}
 use Rattle.grammar.specs.Records.{lowHalf, highHalf, reads, sees, opening, nameCount, partCount, lone, unended, placeIn, builtinType, unsignedType, boolType, typeName, patternName}
 use Rattle.grammar.specs.Records.{literalHead, functionHead, callHead, wrapperHead, calledHead, aloneHead, nameHead, armHead, headOf, forms, formOf, roleOf, placed, arranged}
-use Rattle.grammar.specs.Records.{textOf, firstTok, firstOf, decimal, headFor, recorded, recordItems, top, recordTree}
+use Rattle.grammar.specs.Records.{textOf, firstTok, firstOf, decimal, headFor, recorded, recordItems, recordTrees}
 use Rattle.grammar.specs.Faults.{unless, armLows, mates, armsFault, faultsAt, faults, earlier, earliest, faultOf}
 use Rattle.grammar.specs.KeptTokens.{classesOf}
 use Rattle.own.specs.Tree.{partner, canonical, turned, Rec}
 use Rattle.grammar.specs.Answer.{Answer, accepted, refused, returned, toksOf, startOf, reading, answer, tokenBuffer, recordsRead, treeBuffer}
-use Rattle.grammar.specs.Lines.{upperHex, hex, line, refusalRec, lines, listing}
+use Rattle.lines.specs.Hex.{upperHex, hex}
+use Rattle.lines.specs.Form.{lineOf}
+use Rattle.lines.specs.Lines.{linesOf}
+use Rattle.grammar.specs.Lines.{refusalRec, listing}
 
 -- What is said of a draft: refused with this number at this place; so many records; B is a record of this kind, of so many in all; a
 -- listing of so many bytes, which are these; the words of the two buffers.
@@ -48,8 +52,9 @@ pub data Result : Type 0 where
   lists : ℕ → List ℕ → Result
   buffers : List ℕ → List ℕ → Result
 
--- A draft with its result, for these limits and buffers of so many words.
+-- A draft with its result, for this entry, these limits and buffers of so many words.
 pub record Case : Type 0 where
+  pub entry : Entry
   pub limits : Limits
   pub tokenSpace : ℕ
   pub treeSpace : ℕ
@@ -76,19 +81,21 @@ unfolding ascii asciiFrom partOf same FUNCTION_RESERVED KEYWORDS MACROS MODULE_R
     judge parse BOOL UINT_TYPES BUILTIN_ALIASES digits.plain decimalFrom fitted numberOf powerUpTo boundOk sizeOk yield partner canonical turned has
     count span counted classOf shapes table means shapeOf lowHalf highHalf reads sees opening nameCount partCount lone unended placeIn builtinType
     unsignedType boolType typeName patternName literalHead functionHead callHead wrapperHead calledHead aloneHead nameHead armHead headOf forms
-    formOf roleOf placed arranged textOf firstTok firstOf decimal headFor recorded recordItems top recordTree unless armLows mates armsFault
-    faultsAt faults earlier earliest faultOf classesOf toksOf startOf reading answer recordsRead returned upperHex hex line refusalRec lines listing
+    formOf roleOf placed arranged textOf firstTok firstOf decimal headFor recorded recordItems recordTrees unless armLows mates armsFault
+    faultsAt faults earlier earliest faultOf classesOf toksOf startOf reading answer recordsRead returned upperHex hex lineOf refusalRec linesOf listing
     tokenWords tokenBuffer treeBuffer
 defined k =
+    let en = k .entry in
     let l = k .limits in
     let tw = k .tokenSpace in
     let rw = k .treeSpace in
-    told (answer l (k .draft) tw rw) (k .result) (recordsRead l (k .draft) tw) (listing l (k .draft) tw rw) (tokenBuffer l (k .draft) tw rw) (treeBuffer l (k .draft) tw rw)
+    let d = k .draft in
+    told (answer en l d tw rw) (k .result) (recordsRead en l d tw) (listing en l d tw rw) (tokenBuffer en l d tw rw) (treeBuffer en l d tw rw)
 
 -- With the limits of a draft and words enough for every draft: three for each of 2,048 tokens, six for each record, of which there are
 -- no more than tokens.
 abbrev pub roomy : List ℕ → Result → Case
-roomy draft r = record { limits = draftLimits; tokenSpace = tokWide * 2048; treeSpace = recWide * 2048; draft = draft; result = r }
+roomy draft r = record { entry = oneFunction; limits = draftLimits; tokenSpace = tokWide * draftTokens; treeSpace = recWide * draftTokens; draft = draft; result = r }
 
 -- A whole draft.
 abbrev pub whole : String → Result → Case

@@ -1,19 +1,21 @@
--- The numbers of the refusals of a shape tree are 9 to 14 (document 01, "What the reader hands over").
+-- The numbers of the refusals of a shape tree are of the family of the shapes (document 01, "What the reader hands over").
 -- Assumes nothing.
 use mathlib.Core.Bool.{Bool, true, false, cond, _||_, not}
 use mathlib.Core.List.{List, [], _∷_, _++_}
 use mathlib.Core.Option.{some}
 use mathlib.Core.Path.{_≡_, refl, sym, subst}
-use Prim.Native.Nat.{ℕ, _≤_}
-use native.Mathlib.Omega.{arith}
+use Prim.Native.Nat.{ℕ}
 use borrow.Author.Tests.{eqb-false}
-use lib.Dec.{eqb}
+use lib.Dec.{T, eqb}
 use lib.ListN.{length, drop}
+use Rattle.text.specs.Refusals.{oneOf}
+use Rattle.text.specs.Refusals as refusal
 use Rattle.num.specs.Bound.{boundOk, sizeOk}
 use Rattle.theory.specs.Ebnf as shape
 use Rattle.own.specs.Tree.{Tok, Items, marks}
 use Rattle.own.specs.Lists.{All, nil, _&_}
 use Rattle.own.specs.Rules.{sorts}
+use Rattle.own.specs.Kinds as kind
 use Rattle.kinds.specs.Lists.{Some, here, there}
 use Rattle.lexer.specs.Classes as t
 use Rattle.kinds.specs.Fields.{counted}
@@ -40,33 +42,33 @@ module _ (P : Fault → Type 0) where
   unfolding faultOf
   of-answered draft ts r f a e = among (earliest-first (faults draft r ts) f e .one-of) a
 
--- The number is one of 9 to 14.
+-- The number is one of the family.
 abbrev Numbered : Fault → Type 0
-Numbered f = (9 ≤ f .number) × (f .number ≤ 14)
+Numbered f = T (oneOf refusal.ofShapes (f .number))
 
 -- The number of a match's refusal, if it has one.
 abbrev ArmsNumber : ℕ → Type 0
-ArmsNumber n = ((n ≡ 0 → ⊥) → 9 ≤ n) × (n ≤ 14)
+ArmsNumber n = (n ≡ 0 → ⊥) → T (oneOf refusal.ofShapes n)
 
 if-either : (b : Bool) (x y : ℕ) → ArmsNumber x → ArmsNumber y → ArmsNumber (cond b x y)
 if-either true x y p q = p
 if-either false x y p q = q
 
 is-nothing : ArmsNumber 0
-is-nothing = ((λ h. absurd (h refl)), omega arith)
+is-nothing h = absurd (h refl)
 
-is-number : (n : ℕ) → 9 ≤ n → n ≤ 14 → ArmsNumber n
-is-number n h k = ((λ z. h), k)
+is-number : (n : ℕ) → T (oneOf refusal.ofShapes n) → ArmsNumber n
+is-number n t h = t
 
 arms-number : (e : ℕ) (lows : List ℕ) → ArmsNumber (armsFault e lows)
 unfolding armsFault
 arms-number e lows =
     if-either (eqb e 0) _ _
-    (if-either (eqb (length lows) 0) _ _ (is-number 11 (omega arith) (omega arith))
-    (if-either (eqb (length lows) 2) _ _ (if-either (mates lows) _ _ is-nothing (is-number 14 (omega arith) (omega arith))) (is-number 13 (omega arith) (omega arith))))
-    (if-either (eqb (length lows) 0) _ _ is-nothing (is-number 12 (omega arith) (omega arith)))
+    (if-either (eqb (length lows) 0) _ _ (is-number refusal.NoArms tt)
+    (if-either (eqb (length lows) 2) _ _ (if-either (mates lows) _ _ is-nothing (is-number refusal.NoPartners tt)) (is-number refusal.ArmCount tt)))
+    (if-either (eqb (length lows) 0) _ _ is-nothing (is-number refusal.MixedArms tt))
 
-unless-numbered : (ok : Bool) (n : ℕ) (u : Tok) → (ok ≡ false → (9 ≤ n) × (n ≤ 14)) → All Numbered (unless ok n u)
+unless-numbered : (ok : Bool) (n : ℕ) (u : Tok) → (ok ≡ false → T (oneOf refusal.ofShapes n)) → All Numbered (unless ok n u)
 unfolding unless
 unless-numbered true n u h = nil
 unless-numbered false n u h = h refl & nil
@@ -78,13 +80,13 @@ at-numbered draft k is =
     let number = firstOf t.DecLiteral (marks is) in
     let bound = not (sees t.LAngle w) || boundOk (decimal draft is) in
     let size = not (sees t.LAngle w) || sizeOk (decimal draft is) in
-    let f = armsFault (counted (38 ∷ []) w) (armLows w) in
-    let a = arms-number (counted (38 ∷ []) w) (armLows w) in
-    let nine : All Numbered (unless bound 9 number) = unless-numbered bound 9 number (λ e. (omega arith, omega arith)) in
-    let ten : All Numbered (unless size 10 number) = unless-numbered size 10 number (λ e. (omega arith, omega arith)) in
-    let arms : All Numbered (unless (eqb f 0) f (firstTok (marks is))) = unless-numbered (eqb f 0) f (firstTok (marks is)) (λ e. (a .0 (eqb-false f 0 e), a .1)) in
-    chosen Numbered (eqb k ListTypeShape) nine
-    (chosen Numbered (eqb k FoldingShape) (chosen Numbered (eqb (opening w) t.array-fold) ten nine)
+    let f = armsFault (counted (kind.EnumArm ∷ []) w) (armLows w) in
+    let a = arms-number (counted (kind.EnumArm ∷ []) w) (armLows w) in
+    let bounds : All Numbered (unless bound refusal.Bound number) = unless-numbered bound refusal.Bound number (λ e. tt) in
+    let sizes : All Numbered (unless size refusal.Size number) = unless-numbered size refusal.Size number (λ e. tt) in
+    let arms : All Numbered (unless (eqb f 0) f (firstTok (marks is))) = unless-numbered (eqb f 0) f (firstTok (marks is)) (λ e. a (eqb-false f 0 e)) in
+    chosen Numbered (eqb k ListTypeShape) bounds
+    (chosen Numbered (eqb k FoldingShape) (chosen Numbered (eqb (opening w) t.array-fold) sizes bounds)
     (chosen Numbered (eqb k MatchShape) arms nil))
 
 all-numbered : (draft : List ℕ) (r : shape.Items) (ts : List Tok) → All Numbered (faults draft r ts)
@@ -95,6 +97,6 @@ all-numbered draft (shape.sub k js r) ts =
     both Numbered (at-numbered draft k (recordItems draft js ts))
     (both Numbered (all-numbered draft js ts) (all-numbered draft r (drop (length (shape.yield js)) ts)))
 
--- The number of a refusal of a shape tree is 9 to 14.
-pub fault-numbers : (draft : List ℕ) (ts : List Tok) (r : shape.Items) (f : Fault) → faultOf draft ts r ≡ some f → (9 ≤ f .number) × (f .number ≤ 14)
+-- The number of a refusal of a shape tree is one of the family.
+pub fault-numbers : (draft : List ℕ) (ts : List Tok) (r : shape.Items) (f : Fault) → faultOf draft ts r ≡ some f → T (oneOf refusal.ofShapes (f .number))
 fault-numbers draft ts r f e = of-answered Numbered draft ts r f (all-numbered draft r ts) e

@@ -1,4 +1,4 @@
--- Refusals 9 to 14 of a shape tree, each with its place, and the earliest (document 01, "What the reader hands over").
+-- The refusals of the shapes, each with its place, and the earliest of a shape tree (document 01, "What the reader hands over").
 -- Assumes nothing.
 use mathlib.Core.Bool.{Bool, true, false, _&&_, _||_, not, cond}
 use mathlib.Core.List.{List, [], _∷_, _++_}
@@ -6,12 +6,14 @@ use mathlib.Core.Option.{Option, none, some}
 use Prim.Native.Nat.{ℕ}
 use lib.Dec.{eqb, ltb}
 use lib.ListN.{length, drop}
+use Rattle.text.specs.Refusals as refusal
 use Rattle.num.specs.declared.Value.{Value}
 use Rattle.num.specs.Bound.{boundOk, sizeOk}
 use Rattle.theory.specs.Ebnf as shape
 use Rattle.own.specs.Tree.{Tok, Items, marks, partner}
 use Rattle.own.specs.Law.{Sort, word, child}
 use Rattle.own.specs.Rules.{sorts}
+use Rattle.own.specs.Kinds as kind
 use Rattle.kinds.specs.Fields.{counted}
 use Rattle.lexer.specs.Classes as t
 use Rattle.grammar.specs.ShapeKind.{ListTypeShape, MatchShape, FoldingShape}
@@ -26,11 +28,11 @@ pub record Fault : Type 0 where
 unfoldable pub unless : Bool → ℕ → Tok → List Fault
 unless ok n t = cond ok [] (record { number = n; place = t .start } ∷ [])
 
--- The lows of the built-in arms (kind 37) among the parts of a match.
+-- The lows of the built-in arms among the parts of a match.
 unfoldable pub armLows : List Sort → List ℕ
 armLows [] = []
 armLows (word c ∷ w) = armLows w
-armLows (child k l h c ∷ w) = cond (eqb k 37) (l ∷ armLows w) (armLows w)
+armLows (child k l h c ∷ w) = cond (eqb k kind.BuiltinArm) (l ∷ armLows w) (armLows w)
 
 -- "Left with Right, None with Some, False with True", in either order.
 unfoldable pub mates : List ℕ → Bool
@@ -43,7 +45,8 @@ mates (a ∷ b ∷ c ∷ l) = false
 -- match", 13 "built-in arms only, 1 or over 2", 14 "two built-in arms, not Left with Right, None with Some, False with True".
 unfoldable pub armsFault : ℕ → List ℕ → ℕ
 armsFault e lows =
-    cond (eqb e 0) (cond (eqb (length lows) 0) 11 (cond (eqb (length lows) 2) (cond (mates lows) 0 14) 13)) (cond (eqb (length lows) 0) 0 12)
+    cond (eqb e 0) (cond (eqb (length lows) 0) refusal.NoArms (cond (eqb (length lows) 2) (cond (mates lows) 0 refusal.NoPartners) refusal.ArmCount))
+    (cond (eqb (length lows) 0) 0 refusal.MixedArms)
 
 -- The refusals of one shape of kind k, made of these items: 9 "`List` or `fold` bound not a power of two from 2 to
 -- 9,223,372,036,854,775,808" and 10 "`array_fold` size 0 or over 18,446,744,073,709,551,615", at the number; 11 to 14 at `match`.
@@ -52,9 +55,11 @@ unfoldable pub faultsAt : List ℕ → ℕ → Items → List Fault
 faultsAt draft k is =
     let w = sorts is in
     let number = firstOf t.DecLiteral (marks is) in
-    cond (eqb k ListTypeShape) (unless (not (sees t.LAngle w) || boundOk (decimal draft is)) 9 number)
-    (cond (eqb k FoldingShape) (cond (eqb (opening w) t.array-fold) (unless (not (sees t.LAngle w) || sizeOk (decimal draft is)) 10 number) (unless (not (sees t.LAngle w) || boundOk (decimal draft is)) 9 number))
-    (cond (eqb k MatchShape) (let f = armsFault (counted (38 ∷ []) w) (armLows w) in unless (eqb f 0) f (firstTok (marks is))) []))
+    cond (eqb k ListTypeShape) (unless (not (sees t.LAngle w) || boundOk (decimal draft is)) refusal.Bound number)
+    (cond (eqb k FoldingShape)
+    (cond (eqb (opening w) t.array-fold) (unless (not (sees t.LAngle w) || sizeOk (decimal draft is)) refusal.Size number)
+    (unless (not (sees t.LAngle w) || boundOk (decimal draft is)) refusal.Bound number))
+    (cond (eqb k MatchShape) (let f = armsFault (counted (kind.EnumArm ∷ []) w) (armLows w) in unless (eqb f 0) f (firstTok (marks is))) []))
 
 -- The refusals of all shapes side by side, whose tokens are those that the list begins with.
 unfoldable pub faults : List ℕ → shape.Items → List Tok → List Fault

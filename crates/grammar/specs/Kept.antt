@@ -14,6 +14,7 @@ use lib.Dec.{T, eqb, eqb→eq, leb}
 use lib.ListN.{length, drop, getD, getElem?}
 use Rattle.text.specs.Part.{partOf}
 use Rattle.text.specs.Table.{is-true, first-of, second-of}
+use Rattle.text.specs.Refusals as refusal
 use Rattle.num.specs.Digits as digits
 use Rattle.num.specs.Value.{decimalFrom, fitted, numberOf}
 use Rattle.num.specs.Bound.{boundOk, sizeOk}
@@ -26,6 +27,7 @@ use Rattle.own.specs.Tree.{Tok, Items, none, mark, sub, Node, node, roots, yiel
 use Rattle.own.specs.Flat.{no-token}
 use Rattle.own.specs.Law.{Sort, word, child, Ownership}
 use Rattle.own.specs.Rules.{firstClass, sorts, Keeps}
+use Rattle.own.specs.Kinds as kind
 use Rattle.kinds.specs.Lists.{all, here, there}
 use Rattle.kinds.specs.Shape.{of, has, fits, _▸_, Spells, empty, one-mark, one-part, seq}
 use Rattle.kinds.specs.Fields.{counted, halves, holds}
@@ -34,14 +36,16 @@ use Rattle.kinds.specs.Rules as rules
 use Rattle.kinds.specs.Build.{the-mark}
 use Rattle.kinds.specs.Spelled.{Spelled, formsOf}
 use Rattle.kinds.specs.Ownership.{Right, law-3}
+use Rattle.kinds.specs.Families as family
 use Rattle.lexer.specs.Classes as class
 use Rattle.grammar.specs.ShapeKind.{ListTypeShape, MatchShape, FoldingShape}
 use Rattle.grammar.specs.Shapes.{shapes}
+use Rattle.grammar.specs.Entry.{Entry}
 use Rattle.grammar.specs.WellShaped.{Shape, shapeOf}
-use Rattle.grammar.specs.Records.{Head, head, Role, aMark, asName, asNumber, roleOf, placed, arranged, lowHalf, highHalf, reads, sees, opening, textOf, firstTok, firstOf, decimal, headOf, formOf, headFor, recorded, recordItems, recordTree}
+use Rattle.grammar.specs.Records.{Head, head, Role, aMark, asName, asNumber, roleOf, placed, arranged, lowHalf, highHalf, reads, sees, opening, textOf, firstTok, firstOf, decimal, headOf, formOf, headFor, recorded, recordItems, recordTrees, largest}
 use Rattle.grammar.specs.Faults.{Fault, unless, armLows, armsFault, faultsAt, faults, faultOf}
 use Rattle.grammar.specs.FaultLaws.{none-exactly}
-use Rattle.grammar.specs.KeptTokens.{classesOf, one-tree, is-shape, its-yield, keeps-tokens}
+use Rattle.grammar.specs.KeptTokens.{classesOf, whole-trees, is-shape, its-yield, keeps-tokens}
 use Rattle.grammar.specs.KeptShapes.{kindsIn, seen, row, row-append, pair-in, items-in, choice-in, has-within}
 use Rattle.grammar.specs.KeptInto.{dealt, sorts-arranged}
 use Rattle.grammar.specs.KeptForms.{SpelledAs, halves-of}
@@ -50,11 +54,11 @@ use Rattle.grammar.specs.KeptKinds.{Given, Kept, kept, has-law, kind-of-
 
 -- ---- the tokens that become records of their own
 
-name-spelled : (c : ℕ) → T (has (class.Jet ∷ class.identifiers) c) → Spelled 2 0 0 (word c ∷ [])
+name-spelled : (c : ℕ) → T (has (class.Jet ∷ class.identifiers) c) → Spelled kind.Name 0 0 (word c ∷ [])
 unfolding formsOf rules.forms holds
 name-spelled c h = here (record { fields = tt; shape = one-mark c h })
 
-number-spelled : (n : ℕ) → n ≤ 18446744073709551615 → Spelled 40 (lowHalf n) (highHalf n) (word class.DecLiteral ∷ [])
+number-spelled : (n : ℕ) → n ≤ largest → Spelled kind.Number (lowHalf n) (highHalf n) (word class.DecLiteral ∷ [])
 unfolding formsOf rules.forms holds
 number-spelled n h = here (record { fields = halves-of n h; shape = the-mark class.DecLiteral })
 
@@ -72,9 +76,9 @@ names-within : T (all (has (class.Jet ∷ class.identifiers)) class.identifiers)
 unfolding all has
 names-within = tt
 
-role-cases : (kind c : ℕ) → RoleOf c (roleOf kind c)
+role-cases : (K c : ℕ) → RoleOf c (roleOf K c)
 unfolding roleOf
-role-cases kind c = go (has (1 ∷ 3 ∷ 34 ∷ 38 ∷ []) kind) (has class.identifiers c) refl (eqb kind 39) (has (class.Jet ∷ class.functionNames) c) refl (eqb c class.DecLiteral) refl
+role-cases K c = go (has family.namesKept K) (has class.identifiers c) refl (eqb K kind.Call) (has (class.Jet ∷ class.functionNames) c) refl (eqb c class.DecLiteral) refl
   where
     go : (a b : Bool) → has class.identifiers c ≡ b → (d e : Bool) → has (class.Jet ∷ class.functionNames) c ≡ e → (f : Bool) → eqb c class.DecLiteral ≡ f
         → RoleOf c (cond a (cond b asName aMark) (cond d (cond e asName (cond f asNumber aMark)) aMark))
@@ -85,26 +89,26 @@ role-cases kind c = go (has (1 ∷ 3 ∷ 34 ∷ 38 ∷ []) kind) (has class.iden
     go false b p true false q false r = its-own
     go false b p false e q f r = its-own
 
-each-placed : (n : ℕ) → n ≤ 18446744073709551615 → (o : Role) (t : Tok) (r : Items) → RoleOf (t .class) o → Each (Keeps Spelled) r → Each (Keeps Spelled) (placed o n t r)
+each-placed : (n : ℕ) → n ≤ largest → (o : Role) (t : Tok) (r : Items) → RoleOf (t .class) o → Each (Keeps Spelled) r → Each (Keeps Spelled) (placed o n t r)
 unfolding placed
 each-placed n h aMark t r its-own e = e
 each-placed n h asName t r (a-name u) e = (name-spelled (t .class) u, tt, e)
-each-placed n h asNumber t r (a-number u) e = (subst (λ (c : ℕ). Spelled 40 (lowHalf n) (highHalf n) (word c ∷ [])) (sym u) (number-spelled n h), tt, e)
+each-placed n h asNumber t r (a-number u) e = (subst (λ (c : ℕ). Spelled kind.Number (lowHalf n) (highHalf n) (word c ∷ [])) (sym u) (number-spelled n h), tt, e)
 
-each-arranged : (kind n : ℕ) → n ≤ 18446744073709551615 → (is : Items) → Each (Keeps Spelled) is → Each (Keeps Spelled) (arranged kind n is)
+each-arranged : (K n : ℕ) → n ≤ largest → (is : Items) → Each (Keeps Spelled) is → Each (Keeps Spelled) (arranged K n is)
 unfolding arranged
-each-arranged kind n h none e = tt
-each-arranged kind n h (mark t r) e = each-placed n h (roleOf kind (t .class)) t (arranged kind n r) (role-cases kind (t .class)) (each-arranged kind n h r e)
-each-arranged kind n h (sub k l i js r) e = (e .0, e .1, each-arranged kind n h r (e .2))
+each-arranged K n h none e = tt
+each-arranged K n h (mark t r) e = each-placed n h (roleOf K (t .class)) t (arranged K n r) (role-cases K (t .class)) (each-arranged K n h r e)
+each-arranged K n h (sub k l i js r) e = (e .0, e .1, each-arranged K n h r (e .2))
 
 -- ---- what is given at each shape
 
-reads-small : (p : List ℕ) → reads (numberOf p) ≤ 18446744073709551615
+reads-small : (p : List ℕ) → reads (numberOf p) ≤ largest
 unfolding numberOf fitted reads
-reads-small p = go (decimalFrom 0 (digits.plain p)) (leb (decimalFrom 0 (digits.plain p)) 18446744073709551615) refl
+reads-small p = go (decimalFrom 0 (digits.plain p)) (leb (decimalFrom 0 (digits.plain p)) largest) refl
   where
-    go : (m : ℕ) (b : Bool) → leb m 18446744073709551615 ≡ b → reads (cond b (Number m) TooLarge) ≤ 18446744073709551615
-    go m true e = leb-true m 18446744073709551615 e
+    go : (m : ℕ) (b : Bool) → leb m largest ≡ b → reads (cond b (Number m) TooLarge) ≤ largest
+    go m true e = leb-true m largest e
     go m false e = omega arith
 
 no-first : (c : ℕ) (is : Items) → sees c (sorts is) ≡ false → firstOf c (marks is) ≡ no-token
@@ -140,19 +144,19 @@ module _ (draft : List ℕ) (is : Items) where
 
   list-clear : faultsAt draft ListTypeShape is ≡ [] → sees class.LAngle w ≡ true → boundOk (decimal draft is) ≡ true
   unfolding faultsAt
-  list-clear f s = rw s at (passes (not (sees class.LAngle w) || boundOk (decimal draft is)) 9 (firstOf class.DecLiteral (marks is)) f)
+  list-clear f s = rw s at (passes (not (sees class.LAngle w) || boundOk (decimal draft is)) refusal.Bound (firstOf class.DecLiteral (marks is)) f)
 
   size-clear : faultsAt draft FoldingShape is ≡ [] → sees class.LAngle w ≡ true → opening w ≡ class.array-fold → sizeOk (decimal draft is) ≡ true
   unfolding faultsAt
-  size-clear f s o = rw s at (passes (not (sees class.LAngle w) || sizeOk (decimal draft is)) 10 (firstOf class.DecLiteral (marks is)) (rw o at f))
+  size-clear f s o = rw s at (passes (not (sees class.LAngle w) || sizeOk (decimal draft is)) refusal.Size (firstOf class.DecLiteral (marks is)) (rw o at f))
 
   fold-clear : faultsAt draft FoldingShape is ≡ [] → sees class.LAngle w ≡ true → opening w ≡ class.fold → boundOk (decimal draft is) ≡ true
   unfolding faultsAt
-  fold-clear f s o = rw s at (passes (not (sees class.LAngle w) || boundOk (decimal draft is)) 9 (firstOf class.DecLiteral (marks is)) (rw o at f))
+  fold-clear f s o = rw s at (passes (not (sees class.LAngle w) || boundOk (decimal draft is)) refusal.Bound (firstOf class.DecLiteral (marks is)) (rw o at f))
 
-  arms-clear : faultsAt draft MatchShape is ≡ [] → armsFault (counted (38 ∷ []) w) (armLows w) ≡ 0
+  arms-clear : faultsAt draft MatchShape is ≡ [] → armsFault (counted (kind.EnumArm ∷ []) w) (armLows w) ≡ 0
   unfolding faultsAt
-  arms-clear f = eqb-true (armsFault (counted (38 ∷ []) w) (armLows w)) 0 (passes (eqb (armsFault (counted (38 ∷ []) w) (armLows w)) 0) (armsFault (counted (38 ∷ []) w) (armLows w)) (firstTok (marks is)) f)
+  arms-clear f = eqb-true (armsFault (counted (kind.EnumArm ∷ []) w) (armLows w)) 0 (passes (eqb (armsFault (counted (kind.EnumArm ∷ []) w) (armLows w)) 0) (armsFault (counted (kind.EnumArm ∷ []) w) (armLows w)) (firstTok (marks is)) f)
 
   given : (k : ℕ) → faultsAt draft k is ≡ [] → Given k (decimal draft is) w
   unfolding decimal
@@ -240,22 +244,22 @@ module _ (draft : List ℕ) where
       (good-items m′ (drop (length (shape.yield js)) ts) more (later-classes (shape.yield js) (shape.yield r ++ more) ts e′) (b .1))
   good-items (m-choice {r = r} i h m) ts more e f = good-choice i (recordItems draft r ts) h (good-items m ts more e f)
 
-module _ (draft : List ℕ) (ts : List Tok) (r : shape.Items) (found-it : shapeOf (classesOf ts) ≡ found r) (clear : faultOf draft ts r ≡ option.none) where
+module _ (en : Entry) (draft : List ℕ) (ts : List Tok) (r : shape.Items) (found-it : shapeOf en (classesOf ts) ≡ found r) (clear : faultOf draft ts r ≡ option.none) where
   no-faults : faults draft r ts ≡ []
   unfolding faultOf
   no-faults = none-exactly (faults draft r ts) .0 clear
 
-  -- Without refusals 9 to 14, every record of the tree spells the rule of its kind, low and high.
-  pub all-spelled : Each (Keeps Spelled) (roots (recordTree draft ts r ∷ []))
+  -- Without refusals of the shapes, every record of the trees spells the rule of its kind, low and high.
+  pub all-spelled : Each (Keeps Spelled) (roots (recordTrees draft ts r))
   all-spelled =
-      let s = is-shape draft ts r found-it in
-      let e : shape.yield r ++ [] ≡ classesOf ts = append-nil (shape.yield r) ∙ its-yield draft ts r found-it in
-      subst (Each (Keeps Spelled)) (sym (one-tree draft ts s)) (good-items draft s ts [] e no-faults .each)
+      let s = is-shape en draft ts r found-it in
+      let e : shape.yield r ++ [] ≡ classesOf ts = append-nil (shape.yield r) ∙ its-yield en draft ts r found-it in
+      subst (Each (Keeps Spelled)) (sym (whole-trees en draft ts s)) (good-items draft s ts [] e no-faults .each)
 
-  -- If the tokens are in order too, the tree is right,
-  pub is-right : InOrder 0 ts → Right (recordTree draft ts r ∷ [])
-  is-right o = record { ordered = subst (InOrder 0) (sym (keeps-tokens draft ts r found-it)) o; spelled = all-spelled }
+  -- If the tokens are in order too, the trees are right,
+  pub is-right : InOrder 0 ts → Right (recordTrees draft ts r)
+  is-right o = record { ordered = subst (InOrder 0) (sym (keeps-tokens en draft ts r found-it)) o; spelled = all-spelled }
 
-  -- and law 3, ownership, holds of its tokens and records.
-  pub owned : InOrder 0 ts → Ownership Spelled (tokens (recordTree draft ts r ∷ [])) (records (recordTree draft ts r ∷ []))
-  owned o = law-3 (recordTree draft ts r ∷ []) (is-right o)
+  -- and law 3, ownership, holds of their tokens and records.
+  pub owned : InOrder 0 ts → Ownership Spelled (tokens (recordTrees draft ts r)) (records (recordTrees draft ts r))
+  owned o = law-3 (recordTrees draft ts r) (is-right o)

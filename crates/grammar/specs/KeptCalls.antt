@@ -13,10 +13,11 @@ use Rattle.text.specs.Table.{is-true, first-of, second-of}
 use Rattle.own.specs.Tree.{partner}
 use Rattle.own.specs.Law.{Sort, word, child}
 use Rattle.own.specs.Places.{or-cases}
+use Rattle.own.specs.Kinds as kind
 use Rattle.kinds.specs.Lists.{some, all, here, there}
 use Rattle.kinds.specs.Shape.{Part, of, arm, bound, size, Shape, nothing, part, mark, _▸_, _∣_, many, has, count, span, fits, Spells, empty, one-mark, one-part, seq, left, right, stop, more}
 use Rattle.kinds.specs.Fields.{counted, holds}
-use Rattle.kinds.specs.Rules.{the, element, expression, braces}
+use Rattle.kinds.specs.Rules.{the, element, expression, braces, wrappers}
 use Rattle.kinds.specs.Rules as rules
 use Rattle.kinds.specs.Spelled.{Spelled, formsOf}
 use Rattle.lexer.specs.Classes as class
@@ -26,28 +27,25 @@ use Rattle.grammar.specs.KeptHeads.{not-true, sure, free, row-sure, row-
 use Rattle.grammar.specs.KeptForms.{SpelledAs, by-rows, formIn, Numbers, form-sound, noNumber, fixed, fixed-holds, ofNames, counts, Says}
 use Rattle.grammar.specs.KeptForms.{and-false, loneRow, crowdedRow, lone-sound, crowded-sound, judge, judge-sound}
 use Rattle.grammar.specs.KeptLaws.{opened, opened-sound, exactIn, exact-sound, count-sound}
-use Rattle.grammar.specs.KeptNames.{names-34, second-third}
+use Rattle.grammar.specs.KeptNames.{names-construction, second-third}
 use Rattle.grammar.specs.KeptShapes.{elementsShape}
 use Rattle.grammar.specs.Records.{Head, head, roleOf, sees, opening, nameCount, lone, unended, placeIn, callHead, wrapperHead, calledHead, aloneHead, nameHead}
 use Rattle.grammar.specs.Records as rec
 
-abbrev wrapping : List ℕ
-wrapping = class.Left ∷ class.Right ∷ class.Some ∷ []
-
 module _ (n : ℕ) (ok : ℕ → Part → Bool) where
   -- a wrapper, or a call of a name
   unfoldable pub wrapsRow : ℕ → List Shape → Bool
-  wrapsRow c row = (has wrapping c && loneRow row) && exactIn n (wrapperHead c) row
+  wrapsRow c row = (has wrappers c && loneRow row) && exactIn n (wrapperHead c) row
 
   unfoldable pub callsRow : ℕ → List Shape → Bool
-  callsRow c row = (not (has wrapping c) || crowdedRow row) && exactIn n (callHead c) row
+  callsRow c row = (not (has wrappers c) || crowdedRow row) && exactIn n (callHead c) row
 
   -- a call with `< >`; a path; a call or wrapper; a token alone
   unfoldable pub genericRow : ℕ → List Shape → Bool
-  genericRow c row = sure class.LAngle row && formIn 39 n (ok c) (fixed (callHead c .low) (callHead c .high)) row
+  genericRow c row = sure class.LAngle row && formIn kind.Call n (ok c) (fixed (callHead c .low) (callHead c .high)) row
 
   unfoldable pub pathRow : List Shape → Bool
-  pathRow row = sure class.DoubleColon row && (all (lacks (2 ∷ [])) row && formIn 34 n noNumber (counts ofNames) row)
+  pathRow row = sure class.DoubleColon row && (all (lacks (kind.Name ∷ [])) row && formIn kind.EnumConstruction n noNumber (counts ofNames) row)
 
   unfoldable pub parensRow : ℕ → List Shape → Bool
   parensRow c row = sure class.LParen row && (wrapsRow c row || callsRow c row)
@@ -64,22 +62,22 @@ module _ (n : ℕ) (ok : ℕ → Part → Bool) where
   module _ (c : ℕ) (row : List Shape) {w : List Sort} (e : opening w ≡ c) (r : Row row w) where
     called-sound : T (wrapsRow c row || callsRow c row) → SpelledAs (calledHead w) n w
     unfolding wrapsRow callsRow calledHead
-    called-sound t = go (or-cases ((has wrapping c && loneRow row) && exactIn n (wrapperHead c) row) ((not (has wrapping c) || crowdedRow row) && exactIn n (callHead c) row) t)
+    called-sound t = go (or-cases ((has wrappers c && loneRow row) && exactIn n (wrapperHead c) row) ((not (has wrappers c) || crowdedRow row) && exactIn n (callHead c) row) t)
       where
-        lonely : T (not (has wrapping c)) ⊎ T (crowdedRow row) → (has wrapping c && lone w) ≡ false
-        lonely (inl u) = rw (not-true (has wrapping c) u) refl
-        lonely (inr u) = rw (crowded-sound row u r) (and-false (has wrapping c))
+        lonely : T (not (has wrappers c)) ⊎ T (crowdedRow row) → (has wrappers c && lone w) ≡ false
+        lonely (inl u) = rw (not-true (has wrappers c) u) refl
+        lonely (inr u) = rw (crowded-sound row u r) (and-false (has wrappers c))
 
-        go : T ((has wrapping c && loneRow row) && exactIn n (wrapperHead c) row) ⊎ T ((not (has wrapping c) || crowdedRow row) && exactIn n (callHead c) row)
-            → SpelledAs (cond (has wrapping (opening w) && lone w) (wrapperHead (opening w)) (callHead (opening w))) n w
+        go : T ((has wrappers c && loneRow row) && exactIn n (wrapperHead c) row) ⊎ T ((not (has wrappers c) || crowdedRow row) && exactIn n (callHead c) row)
+            → SpelledAs (cond (has wrappers (opening w) && lone w) (wrapperHead (opening w)) (callHead (opening w))) n w
         go (inl u) =
-            let a = has wrapping c && loneRow row in
+            let a = has wrappers c && loneRow row in
             let v = first-of a (exactIn n (wrapperHead c) row) u in
-            rw (e, is-true (has wrapping c) (first-of (has wrapping c) (loneRow row) v), lone-sound row (second-of (has wrapping c) (loneRow row) v) r)
+            rw (e, is-true (has wrappers c) (first-of (has wrappers c) (loneRow row) v), lone-sound row (second-of (has wrappers c) (loneRow row) v) r)
             (exact-sound n (wrapperHead c) row (second-of a (exactIn n (wrapperHead c) row) u) r)
         go (inr u) =
-            let a = not (has wrapping c) || crowdedRow row in
-            rw (e, lonely (or-cases (not (has wrapping c)) (crowdedRow row) (first-of a (exactIn n (callHead c) row) u)))
+            let a = not (has wrappers c) || crowdedRow row in
+            rw (e, lonely (or-cases (not (has wrappers c)) (crowdedRow row) (first-of a (exactIn n (callHead c) row) u)))
             (exact-sound n (callHead c) row (second-of a (exactIn n (callHead c) row) u) r)
 
     plain-sound : T (plainRow c row) → sees class.LAngle w ≡ false → SpelledAs (nameHead w) n w
@@ -99,22 +97,22 @@ module _ (n : ℕ) (ok : ℕ → Part → Bool) where
     unfolding pathRow nameHead Says
     path-sound t f =
         let x = sure class.DoubleColon row in
-        let y = all (lacks (2 ∷ [])) row in
-        let z = formIn 34 n noNumber (counts ofNames) row in
+        let y = all (lacks (kind.Name ∷ [])) row in
+        let z = formIn kind.EnumConstruction n noNumber (counts ofNames) row in
         let v = second-third x y z t in
         rw (f, row-sure class.DoubleColon (first-of x (y && z) t) r)
-        (count-sound n ofNames (head 34 (nameCount w) 0) row (names-34 n w (row-lacks (2 ∷ []) (v .0) r), refl) (v .1) r)
+        (count-sound n ofNames (head kind.EnumConstruction (nameCount w) 0) row (names-construction n w (row-lacks (kind.Name ∷ []) (v .0) r), refl) (v .1) r)
 
     module _ (numbers : sees class.LAngle w ≡ true → Numbers n (ok c)) where
       generic-sound : T (genericRow c row) → SpelledAs (nameHead w) n w
       unfolding genericRow nameHead callHead
       generic-sound t =
           let x = sure class.LAngle row in
-          let y = formIn 39 n (ok c) (fixed (callHead c .low) (callHead c .high)) row in
+          let y = formIn kind.Call n (ok c) (fixed (callHead c .low) (callHead c .high)) row in
           let g = row-sure class.LAngle (first-of x y t) r in
           rw (g, e)
-          (form-sound 39 n (ok c) (numbers g) (fixed (callHead c .low) (callHead c .high)) (callHead c .low) (callHead c .high)
-          (fixed-holds (callHead c .low) (callHead c .high) (dealt 39 n w)) row (second-of x y t) r)
+          (form-sound kind.Call n (ok c) (numbers g) (fixed (callHead c .low) (callHead c .high)) (callHead c .low) (callHead c .high)
+          (fixed-holds (callHead c .low) (callHead c .high) (dealt kind.Call n w)) row (second-of x y t) r)
 
       name-sound : T (nameRow c row) → SpelledAs (nameHead w) n w
       unfolding nameRow

@@ -16,18 +16,20 @@ use Rattle.num.specs.declared.Value.the-variants.{Number, TooLarge}
 use Rattle.num.specs.Bound.{powerUpTo, boundOk, sizeOk, power-of}
 use Rattle.own.specs.Law.{Sort, word, child}
 use Rattle.own.specs.Places.{or-cases, pair}
+use Rattle.own.specs.Kinds as kind
 use Rattle.theory.specs.Ebnf.{eps}
 use Rattle.kinds.specs.Lists.{Some, here, there, some, some-sound, all, all-some, from-some}
-use Rattle.kinds.specs.Shape.{Part, of, name, arm, bound, size, Shape, nothing, never, part, _▸_, _∣_, many, has, span, doubled, number, isBound, fits, Spells, empty, one-mark, one-part, seq, left, right, stop, more}
+use Rattle.kinds.specs.Shape.{Part, of, name, arm, bound, size, Shape, nothing, never, part, _▸_, _∣_, many, has, span, doubled, number, isBound, fits, Spells, empty, one-mark, one-part, seq, left, right, stop, more, halfRange, boundCount}
 use Rattle.kinds.specs.Shape as k
 use Rattle.kinds.specs.Fields.{Fields, plain, low, below, among, wide, bounded, parameters, names, pairs, counted, halves, holds}
 use Rattle.kinds.specs.Rules.{the, Form}
 use Rattle.kinds.specs.Spelled.{formsOf, Written, Spelled}
+use Rattle.kinds.specs.Families as family
 use Rattle.lexer.specs.Classes as class
 use Rattle.grammar.specs.KeptRows.{Row, r-end, r-more, row-join, variants, variants-in}
 use Rattle.grammar.specs.KeptInto.{dealt, rowIn, atomIn, row-into}
 use Rattle.grammar.specs.KeptHeads.{sure, free, row-sure, row-free}
-use Rattle.grammar.specs.Records.{Head, partCount, lone, sees, lowHalf, highHalf, reads}
+use Rattle.grammar.specs.Records.{Head, partCount, lone, sees, lowHalf, highHalf, reads, largest}
 
 -- What a head decided of w says: the rule of its kind, with the tokens in their roles.
 abbrev pub SpelledAs : Head → ℕ → List Sort → Type 0
@@ -41,23 +43,23 @@ by-rows test a t f p = from-some (λ l x. f l (x .0) (x .1)) (all-some test t (v
 
 -- The fields are of a sort that a test passes, and the row is in a row of the form.
 unfoldable pub formIn : ℕ → ℕ → (Part → Bool) → (Fields → Bool) → List Shape → Bool
-formIn kind n ok test row = some (λ f. test (f .fields) && some (rowIn (atomIn kind n ok) row) (variants (f .shape))) (formsOf kind)
+formIn K n ok test row = some (λ f. test (f .fields) && some (rowIn (atomIn K n ok) row) (variants (f .shape))) (formsOf K)
 
 -- The number n is a part that passes this test.
 abbrev pub Numbers : ℕ → (Part → Bool) → Type 0
-Numbers n ok = (p : Part) → T (ok p) → T (fits p 40 (lowHalf n) (highHalf n) class.DecLiteral)
+Numbers n ok = (p : Part) → T (ok p) → T (fits p kind.Number (lowHalf n) (highHalf n) class.DecLiteral)
 
-module _ (kind n : ℕ) (ok : Part → Bool) (numbers : Numbers n ok) where
-  pub form-sound : (test : Fields → Bool) (l h : ℕ) {w : List Sort} → ((f : Fields) → T (test f) → T (holds f l h (dealt kind n w)))
-      → (row : List Shape) → T (formIn kind n ok test row) → Row row w → Spelled kind l h (dealt kind n w)
+module _ (K n : ℕ) (ok : Part → Bool) (numbers : Numbers n ok) where
+  pub form-sound : (test : Fields → Bool) (l h : ℕ) {w : List Sort} → ((f : Fields) → T (test f) → T (holds f l h (dealt K n w)))
+      → (row : List Shape) → T (formIn K n ok test row) → Row row w → Spelled K l h (dealt K n w)
   unfolding formIn
   form-sound test l h g row t r =
-      some-sound (λ f. test (f .fields) && some (rowIn (atomIn kind n ok) row) (variants (f .shape)))
+      some-sound (λ f. test (f .fields) && some (rowIn (atomIn K n ok) row) (variants (f .shape)))
       (λ f u. record {
-        fields = g (f .fields) (first-of (test (f .fields)) (some (rowIn (atomIn kind n ok) row) (variants (f .shape))) u);
-        shape = row-into kind n ok numbers row (f .shape) (second-of (test (f .fields)) (some (rowIn (atomIn kind n ok) row) (variants (f .shape))) u) r;
+        fields = g (f .fields) (first-of (test (f .fields)) (some (rowIn (atomIn K n ok) row) (variants (f .shape))) u);
+        shape = row-into K n ok numbers row (f .shape) (second-of (test (f .fields)) (some (rowIn (atomIn K n ok) row) (variants (f .shape))) u) r;
       })
-      (formsOf kind) t
+      (formsOf K) t
 
 -- No part is the number.
 abbrev pub noNumber : Part → Bool
@@ -135,9 +137,9 @@ counts ofPairs pairs = true
 unfoldable pub Says : Count → ℕ → ℕ → List Sort → Type 0
 Says anyNumber l h w = T (halves l h)
 Says aBound l h w = T (halves l h) × T (isBound (number l h))
-Says (ofParameters m) l h w = (l ≡ m) × (h ≡ counted (3 ∷ []) w)
-Says ofNames l h w = (l ≡ counted (2 ∷ []) w) × (h ≡ 0)
-Says ofPairs l h w = (l ≡ counted (2 ∷ []) w) × (h ≡ counted (span 13 16) w)
+Says (ofParameters m) l h w = (l ≡ m) × (h ≡ counted (kind.Parameter ∷ []) w)
+Says ofNames l h w = (l ≡ counted (kind.Name ∷ []) w) × (h ≡ 0)
+Says ofPairs l h w = (l ≡ counted (kind.Name ∷ []) w) × (h ≡ counted family.patterns w)
 
 equal : (a b c d : ℕ) → a ≡ b → c ≡ d → T (eqb a b && eqb c d)
 equal a b c d e f = rw (eq-eqb a b e, eq-eqb c d f) tt
@@ -160,27 +162,27 @@ counts-hold ofNames l h w s bounded t = absurd t
 counts-hold ofPairs l h w s bounded t = absurd t
 counts-hold anyNumber l h w s (parameters n) t = absurd t
 counts-hold aBound l h w s (parameters n) t = absurd t
-counts-hold (ofParameters m) l h w s (parameters n) t = equal l n h (counted (3 ∷ []) w) (s .0 ∙ eqb→eq m n t) (s .1)
+counts-hold (ofParameters m) l h w s (parameters n) t = equal l n h (counted (kind.Parameter ∷ []) w) (s .0 ∙ eqb→eq m n t) (s .1)
 counts-hold ofNames l h w s (parameters n) t = absurd t
 counts-hold ofPairs l h w s (parameters n) t = absurd t
 counts-hold anyNumber l h w s names t = absurd t
 counts-hold aBound l h w s names t = absurd t
 counts-hold (ofParameters m) l h w s names t = absurd t
-counts-hold ofNames l h w s names t = equal l (counted (2 ∷ []) w) h 0 (s .0) (s .1)
+counts-hold ofNames l h w s names t = equal l (counted (kind.Name ∷ []) w) h 0 (s .0) (s .1)
 counts-hold ofPairs l h w s names t = absurd t
 counts-hold anyNumber l h w s pairs t = absurd t
 counts-hold aBound l h w s pairs t = absurd t
 counts-hold (ofParameters m) l h w s pairs t = absurd t
 counts-hold ofNames l h w s pairs t = absurd t
-counts-hold ofPairs l h w s pairs t = equal l (counted (2 ∷ []) w) h (counted (span 13 16) w) (s .0) (s .1)
+counts-hold ofPairs l h w s pairs t = equal l (counted (kind.Name ∷ []) w) h (counted family.patterns w) (s .0) (s .1)
 
 -- ---- numbers
 
 -- The two halves of a 64-bit number,
-pub halves-of : (n : ℕ) → n ≤ 18446744073709551615 → T (halves (lowHalf n) (highHalf n))
+pub halves-of : (n : ℕ) → n ≤ largest → T (halves (lowHalf n) (highHalf n))
 unfolding halves lowHalf highHalf
 halves-of n h =
-    rw (lt-ltb (lowHalf n) 4294967296 (omega arith), lt-ltb (highHalf n) 4294967296 (omega arith)) tt
+    rw (lt-ltb (lowHalf n) halfRange (omega arith), lt-ltb (highHalf n) halfRange (omega arith)) tt
 
 -- which together hold it.
 pub number-of : (n : ℕ) → number (lowHalf n) (highHalf n) ≡ n
@@ -204,19 +206,19 @@ below-all f (suc m) t i h = go (ltb i m) refl (below-all f m (second-of (f m) (a
         let q : m ≡ i = omega arith in
         subst (λ (x : ℕ). T (f x)) q (first-of (f m) (allBelow f m) t)
 
--- A good bound is one of the sixty-three.
-sixty-three : T (allBelow (λ i. has (doubled 63 2) (2 ^ suc i)) 63)
+-- A good bound is one of those listed.
+bounds-listed : T (allBelow (λ i. has (doubled boundCount 2) (2 ^ suc i)) boundCount)
 unfolding allBelow has doubled
-sixty-three = tt
+bounds-listed = tt
 
-bound-of : (n i : ℕ) → 1 ≤ i → i ≤ 63 → n ≡ 2 ^ i → T (isBound n)
+bound-of : (n i : ℕ) → 1 ≤ i → i ≤ boundCount → n ≡ 2 ^ i → T (isBound n)
 unfolding isBound
 bound-of n zero a b e = absurd (omega arith)
-bound-of n (suc i) a b e = subst (λ (x : ℕ). T (has (doubled 63 2) x)) (sym e) (below-all (λ j. has (doubled 63 2) (2 ^ suc j)) 63 sixty-three i (omega arith))
+bound-of n (suc i) a b e = subst (λ (x : ℕ). T (has (doubled boundCount 2) x)) (sym e) (below-all (λ j. has (doubled boundCount 2) (2 ^ suc j)) boundCount bounds-listed i (omega arith))
 
 pub good-bound : (v : Value) → boundOk v ≡ true → T (isBound (reads v))
 unfolding boundOk reads
-good-bound (Number n) e = let p = power-of 63 n e in bound-of n (p .0) (p .1) (p .2) (p .3)
+good-bound (Number n) e = let p = power-of boundCount n e in bound-of n (p .0) (p .1) (p .2) (p .3)
 good-bound TooLarge e = differ e
 
 -- A good size is not 0.

@@ -11,6 +11,7 @@ use lib.Dec.{T, eqb, eqb→eq}
 use Rattle.text.specs.Table.{is-true, first-of, second-of}
 use Rattle.own.specs.Law.{Sort, word, child}
 use Rattle.own.specs.Places.{or-cases, or-left, or-right}
+use Rattle.own.specs.Kinds as kind
 use Rattle.kinds.specs.Lists.{Some, some, some-sound, all, all-some, from-some}
 use Rattle.kinds.specs.Shape.{Part, of, name, arm, bound, size, Shape, nothing, never, part, _▸_, _∣_, many, has, fits, Spells, empty, one-mark, one-part, seq, left, right, stop, more}
 use Rattle.kinds.specs.Shape as k
@@ -180,28 +181,28 @@ row-lacks ks t (r-more {a = a} {l = l} {v = v} {w = w} p r) =
     omega (arith, counted-append ks v w, lacks-sound ks (first-of (lacks ks a) (all (lacks ks) l) t) p, row-lacks ks (second-of (lacks ks a) (all (lacks ks) l) t) r)
 
 -- Tokens in their roles leave the number of other parts as it is.
-counted-roled : (ks : List ℕ) (o : Role) (n c : ℕ) (w : List Sort) → has ks 2 ≡ false → has ks 40 ≡ false → counted ks (roled o n c ∷ w) ≡ counted ks w
+counted-roled : (ks : List ℕ) (o : Role) (n c : ℕ) (w : List Sort) → has ks kind.Name ≡ false → has ks kind.Number ≡ false → counted ks (roled o n c ∷ w) ≡ counted ks w
 unfolding roled counted
 counted-roled ks aMark n c w e f = refl
 counted-roled ks asName n c w e f = rw e (omega arith)
 counted-roled ks asNumber n c w e f = rw f (omega arith)
 
-pub counted-dealt : (ks : List ℕ) (kind n : ℕ) (w : List Sort) → has ks 2 ≡ false → has ks 40 ≡ false → counted ks (dealt kind n w) ≡ counted ks w
+pub counted-dealt : (ks : List ℕ) (K n : ℕ) (w : List Sort) → has ks kind.Name ≡ false → has ks kind.Number ≡ false → counted ks (dealt K n w) ≡ counted ks w
 unfolding dealt counted
-counted-dealt ks kind n [] e f = refl
-counted-dealt ks kind n (word c ∷ w) e f = counted-roled ks (roleOf kind c) n c (dealt kind n w) e f ∙ counted-dealt ks kind n w e f
-counted-dealt ks kind n (child x l h d ∷ w) e f = ap (λ m. cond (has ks x) 1 0 + m) (counted-dealt ks kind n w e f)
+counted-dealt ks K n [] e f = refl
+counted-dealt ks K n (word c ∷ w) e f = counted-roled ks (roleOf K c) n c (dealt K n w) e f ∙ counted-dealt ks K n w e f
+counted-dealt ks K n (child x l h d ∷ w) e f = ap (λ m. cond (has ks x) 1 0 + m) (counted-dealt ks K n w e f)
 
 -- Of a kind whose names are all children, these are as many as the name tokens and the names that were there.
-pub names-dealt : (kind n : ℕ) → ((c : ℕ) → roleOf kind c ≡ cond (has class.identifiers c) asName aMark) → (w : List Sort)
-    → counted (2 ∷ []) (dealt kind n w) ≡ nameCount w + counted (2 ∷ []) w
+pub names-dealt : (K n : ℕ) → ((c : ℕ) → roleOf K c ≡ cond (has class.identifiers c) asName aMark) → (w : List Sort)
+    → counted (kind.Name ∷ []) (dealt K n w) ≡ nameCount w + counted (kind.Name ∷ []) w
 unfolding dealt counted nameCount has roled
-names-dealt kind n r [] = refl
-names-dealt kind n r (word c ∷ w) =
-    ap (λ o. counted (2 ∷ []) (roled o n c ∷ dealt kind n w)) (r c) ∙ go (has class.identifiers c) (names-dealt kind n r w)
+names-dealt K n r [] = refl
+names-dealt K n r (word c ∷ w) =
+    ap (λ o. counted (kind.Name ∷ []) (roled o n c ∷ dealt K n w)) (r c) ∙ go (has class.identifiers c) (names-dealt K n r w)
   where
-    go : (b : Bool) → counted (2 ∷ []) (dealt kind n w) ≡ nameCount w + counted (2 ∷ []) w
-        → counted (2 ∷ []) (roled (cond b asName aMark) n c ∷ dealt kind n w) ≡ (cond b 1 0 + nameCount w) + counted (2 ∷ []) w
+    go : (b : Bool) → counted (kind.Name ∷ []) (dealt K n w) ≡ nameCount w + counted (kind.Name ∷ []) w
+        → counted (kind.Name ∷ []) (roled (cond b asName aMark) n c ∷ dealt K n w) ≡ (cond b 1 0 + nameCount w) + counted (kind.Name ∷ []) w
     go true e = omega arith
     go false e = omega arith
-names-dealt kind n r (child x l h d ∷ w) = let e = names-dealt kind n r w in omega arith
+names-dealt K n r (child x l h d ∷ w) = let e = names-dealt K n r w in omega arith

@@ -11,6 +11,7 @@ use Rattle.own.specs.Tree.{Tok, Items, none, mark, sub, yield}
 use Rattle.own.specs.Law.{Sort, word, child}
 use Rattle.own.specs.Rules.{sorts, firstClass}
 use Rattle.own.specs.Places.{or-cases}
+use Rattle.own.specs.Kinds as kind
 use Rattle.kinds.specs.Lists.{Some, some, some-sound, all, all-some, from-some}
 use Rattle.kinds.specs.Shape.{Part, of, name, arm, bound, size, Shape, nothing, never, part, _▸_, _∣_, many, has, fits, Spells, empty, one-mark, one-part, seq, left, right, stop, more}
 use Rattle.kinds.specs.Shape as k
@@ -22,20 +23,20 @@ use Rattle.grammar.specs.Records.{Role, aMark, asName, asNumber, roleOf,
 -- A token of a class in its role; the number is n.
 unfoldable pub roled : Role → ℕ → ℕ → Sort
 roled aMark n c = word c
-roled asName n c = child 2 0 0 c
-roled asNumber n c = child 40 (lowHalf n) (highHalf n) c
+roled asName n c = child kind.Name 0 0 c
+roled asNumber n c = child kind.Number (lowHalf n) (highHalf n) c
 
 -- The pieces of a record of this kind, each token in its role.
 unfoldable pub dealt : ℕ → ℕ → List Sort → List Sort
-dealt kind n [] = []
-dealt kind n (word c ∷ w) = roled (roleOf kind c) n c ∷ dealt kind n w
-dealt kind n (child k l h d ∷ w) = child k l h d ∷ dealt kind n w
+dealt K n [] = []
+dealt K n (word c ∷ w) = roled (roleOf K c) n c ∷ dealt K n w
+dealt K n (child k l h d ∷ w) = child k l h d ∷ dealt K n w
 
-pub dealt-append : (kind n : ℕ) (v w : List Sort) → dealt kind n (v ++ w) ≡ dealt kind n v ++ dealt kind n w
+pub dealt-append : (K n : ℕ) (v w : List Sort) → dealt K n (v ++ w) ≡ dealt K n v ++ dealt K n w
 unfolding dealt
-dealt-append kind n [] w = refl
-dealt-append kind n (word c ∷ v) w = ap (λ l. roled (roleOf kind c) n c ∷ l) (dealt-append kind n v w)
-dealt-append kind n (child k l h d ∷ v) w = ap (λ m. child k l h d ∷ m) (dealt-append kind n v w)
+dealt-append K n [] w = refl
+dealt-append K n (word c ∷ v) w = ap (λ l. roled (roleOf K c) n c ∷ l) (dealt-append K n v w)
+dealt-append K n (child k l h d ∷ v) w = ap (λ m. child k l h d ∷ m) (dealt-append K n v w)
 
 sorts-placed : (o : Role) (n : ℕ) (t : Tok) (r : Items) → sorts (placed o n t r) ≡ roled o n (t .class) ∷ sorts r
 unfolding placed roled
@@ -44,12 +45,12 @@ sorts-placed asName n t r = refl
 sorts-placed asNumber n t r = refl
 
 -- They are the pieces of the arranged record.
-pub sorts-arranged : (kind n : ℕ) (is : Items) → sorts (arranged kind n is) ≡ dealt kind n (sorts is)
+pub sorts-arranged : (K n : ℕ) (is : Items) → sorts (arranged K n is) ≡ dealt K n (sorts is)
 unfolding arranged dealt
-sorts-arranged kind n none = refl
-sorts-arranged kind n (mark t r) =
-    sorts-placed (roleOf kind (t .class)) n t (arranged kind n r) ∙ ap (λ l. roled (roleOf kind (t .class)) n (t .class) ∷ l) (sorts-arranged kind n r)
-sorts-arranged kind n (sub k l h js r) = ap (λ m. child k l h (firstClass (yield js)) ∷ m) (sorts-arranged kind n r)
+sorts-arranged K n none = refl
+sorts-arranged K n (mark t r) =
+    sorts-placed (roleOf K (t .class)) n t (arranged K n r) ∙ ap (λ l. roled (roleOf K (t .class)) n (t .class) ∷ l) (sorts-arranged K n r)
+sorts-arranged K n (sub k l h js r) = ap (λ m. child k l h (firstClass (yield js)) ∷ m) (sorts-arranged K n r)
 
 -- ---- the test
 
@@ -147,18 +148,18 @@ unfoldable pub shapeIn : (Shape → Shape → Bool) → Shape → Shape → Bool
 shapeIn f a b = all (λ l. some (rowIn f l) (variants b)) (variants a)
 
 -- The kind of the record, the number of its decimal, and the parts that this number is.
-module _ (kind n : ℕ) (ok : Part → Bool) where
+module _ (K n : ℕ) (ok : Part → Bool) where
   -- a token in its role
   unfoldable pub tokenIn : Role → ℕ → Shape → Bool
   tokenIn aMark c b = has (marksOf b) c
-  tokenIn asName c b = isPart (λ p. fits p 2 0 0 c) b
+  tokenIn asName c b = isPart (λ p. fits p kind.Name 0 0 c) b
   tokenIn asNumber c b = eqb c class.DecLiteral && isPart ok b
 
   -- a token or a part
   unfoldable pub pieceIn : Shape → Shape → Bool
   pieceIn nothing b = false
   pieceIn never b = false
-  pieceIn (k.mark cs) b = all (λ c. tokenIn (roleOf kind c) c b) cs
+  pieceIn (k.mark cs) b = all (λ c. tokenIn (roleOf K c) c b) cs
   pieceIn (part p) b = onlyKinds p && isPart (λ q. all (has (kindsOf q)) (kindsOf p)) b
   pieceIn (x ▸ y) b = false
   pieceIn (x ∣ y) b = false
@@ -189,18 +190,18 @@ module _ (kind n : ℕ) (ok : Part → Bool) where
   into a b = shapeIn atomIn a b
 
   abbrev Into : Shape → Shape → Type 0
-  Into a b = (w : List Sort) → Spells a w → Spells b (dealt kind n w)
+  Into a b = (w : List Sort) → Spells a w → Spells b (dealt K n w)
 
   abbrev Sound : (Shape → Shape → Bool) → Type 0
   Sound f = (a b : Shape) → T (f a b) → Into a b
 
-  row-sound : (f : Shape → Shape → Bool) → Sound f → (l m : List Shape) → T (rowIn f l m) → {w : List Sort} → Row l w → Row m (dealt kind n w)
+  row-sound : (f : Shape → Shape → Bool) → Sound f → (l m : List Shape) → T (rowIn f l m) → {w : List Sort} → Row l w → Row m (dealt K n w)
   unfolding rowIn dealt
   row-sound f s [] [] t r-end = r-end
   row-sound f s [] (b ∷ m) t r = absurd t
   row-sound f s (a ∷ l) [] t r = absurd t
   row-sound f s (a ∷ l) (b ∷ m) t (r-more {v = v} {w = w} p r) =
-      subst (λ (u : List Sort). Row (b ∷ m) u) (sym (dealt-append kind n v w))
+      subst (λ (u : List Sort). Row (b ∷ m) u) (sym (dealt-append K n v w))
       (r-more (s a b (first-of (f a b) (rowIn f l m) t) v p) (row-sound f s l m (second-of (f a b) (rowIn f l m) t) r))
 
   shape-sound : (f : Shape → Shape → Bool) → Sound f → Sound (shapeIn f)
@@ -209,22 +210,22 @@ module _ (kind n : ℕ) (ok : Part → Bool) where
       variants-out b (from-some (λ l x. some-sound (rowIn f l) (λ m u. row-sound f s l m u (x .1)) (variants b) (x .0))
       (all-some (λ l. some (rowIn f l) (variants b)) t (variants-in p)))
 
-  module _ (right : (p : Part) → T (ok p) → T (fits p 40 (lowHalf n) (highHalf n) class.DecLiteral)) where
+  module _ (right : (p : Part) → T (ok p) → T (fits p kind.Number (lowHalf n) (highHalf n) class.DecLiteral)) where
     token-sound : (o : Role) (c : ℕ) (b : Shape) → T (tokenIn o c b) → Spells b (roled o n c ∷ [])
     unfolding tokenIn roled
     token-sound aMark c b t = marks-spell b c t
-    token-sound asName c b t = part-spells (λ p. fits p 2 0 0 c) (child 2 0 0 c) (λ p u. one-part 2 0 0 c u) b t
+    token-sound asName c b t = part-spells (λ p. fits p kind.Name 0 0 c) (child kind.Name 0 0 c) (λ p u. one-part kind.Name 0 0 c u) b t
     token-sound asNumber c b t =
         let e = eqb→eq c class.DecLiteral (first-of (eqb c class.DecLiteral) (isPart ok b) t) in
-        part-spells ok (child 40 (lowHalf n) (highHalf n) c)
-        (λ p u. one-part 40 (lowHalf n) (highHalf n) c (subst (λ (x : ℕ). T (fits p 40 (lowHalf n) (highHalf n) x)) (sym e) (right p u))) b
+        part-spells ok (child kind.Number (lowHalf n) (highHalf n) c)
+        (λ p u. one-part kind.Number (lowHalf n) (highHalf n) c (subst (λ (x : ℕ). T (fits p kind.Number (lowHalf n) (highHalf n) x)) (sym e) (right p u))) b
         (second-of (eqb c class.DecLiteral) (isPart ok b) t)
 
     piece-sound : Sound pieceIn
     unfolding pieceIn dealt
     piece-sound nothing b t w p = absurd t
     piece-sound never b t w p = absurd t
-    piece-sound (k.mark cs) b t w (one-mark c h) = token-sound (roleOf kind c) c b (all-has (λ x. tokenIn (roleOf kind x) x b) cs t c h)
+    piece-sound (k.mark cs) b t w (one-mark c h) = token-sound (roleOf K c) c b (all-has (λ x. tokenIn (roleOf K x) x b) cs t c h)
     piece-sound (part p) b t w (one-part k l h c i) =
         let u = first-of (onlyKinds p) (isPart (λ q. all (has (kindsOf q)) (kindsOf p)) b) t in
         part-spells (λ q. all (has (kindsOf q)) (kindsOf p)) (child k l h c)
@@ -234,11 +235,11 @@ module _ (kind n : ℕ) (ok : Part → Bool) where
     piece-sound (x ∣ y) b t w p = absurd t
     piece-sound (many a) b t w p = absurd t
 
-    many-deals : {a b : Shape} → Into a b → {w : List Sort} → Spells (many a) w → Spells (many b) (dealt kind n w)
+    many-deals : {a b : Shape} → Into a b → {w : List Sort} → Spells (many a) w → Spells (many b) (dealt K n w)
     unfolding dealt
     many-deals f stop = stop
     many-deals {a} {b} f (more {v = v} {w = w} p q) =
-        subst (λ (u : List Sort). Spells (many b) u) (sym (dealt-append kind n v w)) (more (f v p) (many-deals f q))
+        subst (λ (u : List Sort). Spells (many b) u) (sym (dealt-append K n v w)) (more (f v p) (many-deals f q))
 
     many-sound : (a b : Shape) → T (manyIn a b) → Into (many a) b
     unfolding manyIn
@@ -266,5 +267,5 @@ module _ (kind n : ℕ) (ok : Part → Bool) where
     into-sound a b t w p = shape-sound atomIn atom-sound a b t w p
 
     -- The same of one row.
-    pub row-into : (l : List Shape) (b : Shape) → T (some (rowIn atomIn l) (variants b)) → {w : List Sort} → Row l w → Spells b (dealt kind n w)
+    pub row-into : (l : List Shape) (b : Shape) → T (some (rowIn atomIn l) (variants b)) → {w : List Sort} → Row l w → Spells b (dealt K n w)
     row-into l b t r = variants-out b (some-sound (rowIn atomIn l) (λ m u. row-sound atomIn atom-sound l m u r) (variants b) t)

@@ -18,11 +18,12 @@ use Rattle.words.specs.declared.Found.{Found}
 use Rattle.words.specs.declared.Found.the-variants.{Word, Plain}
 use Rattle.own.specs.Law.{Sort, word, child}
 use Rattle.own.specs.Places.{or-cases}
+use Rattle.own.specs.Kinds as kind
 use Rattle.kinds.specs.Lists.{some, all}
 use Rattle.kinds.specs.Shape.{Part, of, name, arm, bound, size, Shape, nothing, never, part, _▸_, _∣_, many, has, count, span, fits, Spells}
 use Rattle.kinds.specs.Shape as k
 use Rattle.kinds.specs.Fields.{counted}
-use Rattle.kinds.specs.Rules.{the}
+use Rattle.kinds.specs.Rules.{the, builtinCount, unsignedCount}
 use Rattle.lexer.specs.Classes as class
 use Rattle.grammar.specs.KeptRows.{Row, variants}
 use Rattle.grammar.specs.KeptInto.{dealt}
@@ -114,59 +115,59 @@ module _ (n : ℕ) where
   -- ---- a name of a type, by its text
   unfoldable pub typeRow : ℕ → List Shape → Bool
   typeRow c row =
-      exactIn (rec.plain 4) row && (not (eqb c class.Ident) || (exactIn (rec.plain 6) row && (allBelow (λ i. exactIn (head 5 i 0) row) 24 && allBelow (λ i. exactIn (head 7 (2 ^ i) 0) row) 9)))
+      exactIn (rec.plain kind.Alias) row && (not (eqb c class.Ident) || (exactIn (rec.plain kind.BoolType) row && (allBelow (λ i. exactIn (head kind.Builtin i 0) row) builtinCount && allBelow (λ i. exactIn (head kind.Unsigned (2 ^ i) 0) row) unsignedCount)))
 
   module _ (row : List Shape) {w : List Sort} (r : Row row w) where
-    builtin-is : (f : Found) → ((i : ℕ) → f ≡ Word i → i < 24) → T (exactIn (rec.plain 4) row) → T (allBelow (λ i. exactIn (head 5 i 0) row) 24) → SpelledAs (builtinType f) n w
+    builtin-is : (f : Found) → ((i : ℕ) → f ≡ Word i → i < builtinCount) → T (exactIn (rec.plain kind.Alias) row) → T (allBelow (λ i. exactIn (head kind.Builtin i 0) row) builtinCount) → SpelledAs (builtinType f) n w
     unfolding builtinType
-    builtin-is (Word i) b p q = exact-sound (head 5 i 0) row (below-all (λ j. exactIn (head 5 j 0) row) 24 q i (b i refl)) r
-    builtin-is Plain b p q = exact-sound (rec.plain 4) row p r
+    builtin-is (Word i) b p q = exact-sound (head kind.Builtin i 0) row (below-all (λ j. exactIn (head kind.Builtin j 0) row) builtinCount q i (b i refl)) r
+    builtin-is Plain b p q = exact-sound (rec.plain kind.Alias) row p r
 
-    unsigned-is : (f : Found) (o : Head) → ((i : ℕ) → f ≡ Word i → i < 9) → T (allBelow (λ i. exactIn (head 7 (2 ^ i) 0) row) 9) → SpelledAs o n w → SpelledAs (unsignedType f o) n w
+    unsigned-is : (f : Found) (o : Head) → ((i : ℕ) → f ≡ Word i → i < unsignedCount) → T (allBelow (λ i. exactIn (head kind.Unsigned (2 ^ i) 0) row) unsignedCount) → SpelledAs o n w → SpelledAs (unsignedType f o) n w
     unfolding unsignedType
-    unsigned-is (Word i) o b p q = exact-sound (head 7 (2 ^ i) 0) row (below-all (λ j. exactIn (head 7 (2 ^ j) 0) row) 9 p i (b i refl)) r
+    unsigned-is (Word i) o b p q = exact-sound (head kind.Unsigned (2 ^ i) 0) row (below-all (λ j. exactIn (head kind.Unsigned (2 ^ j) 0) row) unsignedCount p i (b i refl)) r
     unsigned-is Plain o b p q = q
 
-    bool-is : (f : Found) (o : Head) → T (exactIn (rec.plain 6) row) → SpelledAs o n w → SpelledAs (boolType f o) n w
+    bool-is : (f : Found) (o : Head) → T (exactIn (rec.plain kind.BoolType) row) → SpelledAs o n w → SpelledAs (boolType f o) n w
     unfolding boolType
-    bool-is (Word i) o p q = exact-sound (rec.plain 6) row p r
+    bool-is (Word i) o p q = exact-sound (rec.plain kind.BoolType) row p r
     bool-is Plain o p q = q
 
     type-row : (text : List ℕ) (c : ℕ) → T (typeRow c row) → SpelledAs (typeName text c) n w
     unfolding typeRow typeName wordOf UINT_TYPES BUILTIN_ALIASES
-    type-row text c t = go (eqb c class.Ident) (second-of (exactIn (rec.plain 4) row) _ t)
+    type-row text c t = go (eqb c class.Ident) (second-of (exactIn (rec.plain kind.Alias) row) _ t)
       where
-        plain-is : T (exactIn (rec.plain 4) row)
-        plain-is = first-of (exactIn (rec.plain 4) row) _ t
+        plain-is : T (exactIn (rec.plain kind.Alias) row)
+        plain-is = first-of (exactIn (rec.plain kind.Alias) row) _ t
 
-        go : (b : Bool) → T (not b || (exactIn (rec.plain 6) row && (allBelow (λ i. exactIn (head 5 i 0) row) 24 && allBelow (λ i. exactIn (head 7 (2 ^ i) 0) row) 9)))
-            → SpelledAs (cond b (boolType (wordOf BOOL text) (unsignedType (wordOf UINT_TYPES text) (builtinType (wordOf BUILTIN_ALIASES text)))) (rec.plain 4)) n w
+        go : (b : Bool) → T (not b || (exactIn (rec.plain kind.BoolType) row && (allBelow (λ i. exactIn (head kind.Builtin i 0) row) builtinCount && allBelow (λ i. exactIn (head kind.Unsigned (2 ^ i) 0) row) unsignedCount)))
+            → SpelledAs (cond b (boolType (wordOf BOOL text) (unsignedType (wordOf UINT_TYPES text) (builtinType (wordOf BUILTIN_ALIASES text)))) (rec.plain kind.Alias)) n w
         go true u =
-            let x = exactIn (rec.plain 6) row in
-            let y = allBelow (λ i. exactIn (head 5 i 0) row) 24 in
-            let z = allBelow (λ i. exactIn (head 7 (2 ^ i) 0) row) 9 in
+            let x = exactIn (rec.plain kind.BoolType) row in
+            let y = allBelow (λ i. exactIn (head kind.Builtin i 0) row) builtinCount in
+            let z = allBelow (λ i. exactIn (head kind.Unsigned (2 ^ i) 0) row) unsignedCount in
             let v = second-of x (y && z) u in
             bool-is (wordOf BOOL text) _ (first-of x (y && z) u)
             (unsigned-is (wordOf UINT_TYPES text) _ (λ i e. find-within text 0 UINT_TYPES i e) (second-of y z v)
             (builtin-is (wordOf BUILTIN_ALIASES text) (λ i e. find-within text 0 BUILTIN_ALIASES i e) plain-is (first-of y z v)))
-        go false u = exact-sound (rec.plain 4) row plain-is r
+        go false u = exact-sound (rec.plain kind.Alias) row plain-is r
 
   pub type-law : (text : List ℕ) (a : Shape) {w : List Sort} → T (all (opened typeRow) (variants a)) → Spells a w → SpelledAs (typeName text (opening w)) n w
   type-law text a {w} t p = by-rows (opened typeRow) a t (λ l u r. opened-sound typeRow l u (λ c m x e s. subst (λ (y : ℕ). SpelledAs (typeName text y) n w) (sym e) (type-row m s text c x)) r) p
 
   -- ---- a pattern that is a name
   unfoldable pub patternRow : ℕ → List Shape → Bool
-  patternRow c row = exactIn (rec.plain 13) row && (not (eqb c class.Ident) || exactIn (rec.plain 14) row)
+  patternRow c row = exactIn (rec.plain kind.IdentifierPattern) row && (not (eqb c class.Ident) || exactIn (rec.plain kind.IgnorePattern) row)
 
   pattern-row : (text : List ℕ) (c : ℕ) (row : List Shape) {w : List Sort} → T (patternRow c row) → Row row w → SpelledAs (patternName text c) n w
   unfolding patternRow patternName
   pattern-row text c row {w} t r =
-      go (eqb c class.Ident) (same text (ascii "_")) (first-of (exactIn (rec.plain 13) row) (not (eqb c class.Ident) || exactIn (rec.plain 14) row) t) (second-of (exactIn (rec.plain 13) row) (not (eqb c class.Ident) || exactIn (rec.plain 14) row) t)
+      go (eqb c class.Ident) (same text (ascii "_")) (first-of (exactIn (rec.plain kind.IdentifierPattern) row) (not (eqb c class.Ident) || exactIn (rec.plain kind.IgnorePattern) row) t) (second-of (exactIn (rec.plain kind.IdentifierPattern) row) (not (eqb c class.Ident) || exactIn (rec.plain kind.IgnorePattern) row) t)
     where
-      go : (a b : Bool) → T (exactIn (rec.plain 13) row) → T (not a || exactIn (rec.plain 14) row) → SpelledAs (cond (a && b) (rec.plain 14) (rec.plain 13)) n w
-      go true true p q = exact-sound (rec.plain 14) row q r
-      go true false p q = exact-sound (rec.plain 13) row p r
-      go false b p q = exact-sound (rec.plain 13) row p r
+      go : (a b : Bool) → T (exactIn (rec.plain kind.IdentifierPattern) row) → T (not a || exactIn (rec.plain kind.IgnorePattern) row) → SpelledAs (cond (a && b) (rec.plain kind.IgnorePattern) (rec.plain kind.IdentifierPattern)) n w
+      go true true p q = exact-sound (rec.plain kind.IgnorePattern) row q r
+      go true false p q = exact-sound (rec.plain kind.IdentifierPattern) row p r
+      go false b p q = exact-sound (rec.plain kind.IdentifierPattern) row p r
 
   pub pattern-law : (text : List ℕ) (a : Shape) {w : List Sort} → T (all (opened patternRow) (variants a)) → Spells a w → SpelledAs (patternName text (opening w)) n w
   pattern-law text a {w} t p = by-rows (opened patternRow) a t (λ l u r. opened-sound patternRow l u (λ c m x e s. subst (λ (y : ℕ). SpelledAs (patternName text y) n w) (sym e) (pattern-row text c m x s)) r) p

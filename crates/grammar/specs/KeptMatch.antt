@@ -10,14 +10,19 @@ use borrow.Author.Tests.{eqb-true, eqb-false, lt-ltb}
 use lib.Dec.{T, eqb, eqb→eq, ltb}
 use lib.ListN.{length}
 use Rattle.text.specs.Table.{first-of, second-of}
+use Rattle.text.specs.Refusals as refusal
 use Rattle.own.specs.Tree.{partner}
 use Rattle.own.specs.Law.{Sort, word, child}
 use Rattle.own.specs.Places.{or-cases, pair}
+use Rattle.own.specs.Kinds as kind
+use Rattle.own.specs.Arms as arm
 use Rattle.kinds.specs.Lists.{all, here, there}
 use Rattle.kinds.specs.Shape.{of, arm, Shape, part, _▸_, _∣_, many, has, count, span, fits, Spells, one-mark, one-part, seq, left, right, stop, more}
 use Rattle.kinds.specs.Fields.{counted, holds}
 use Rattle.kinds.specs.Rules.{the, expression, enumArm, arms, braces, forms}
+use Rattle.kinds.specs.Rules as rules
 use Rattle.kinds.specs.Spelled.{Spelled, formsOf}
+use Rattle.kinds.specs.Families as family
 use Rattle.lexer.specs.Classes as class
 use Rattle.grammar.specs.KeptInto.{all-has, dealt, roled}
 use Rattle.grammar.specs.KeptHeads.{not-true, counted-append}
@@ -28,26 +33,26 @@ use Rattle.grammar.specs.Records as rec
 use Rattle.grammar.specs.Faults.{armLows, mates, armsFault}
 
 abbrev anyArm : Shape
-anyArm = part (of (37 ∷ 38 ∷ []))
+anyArm = part (of family.arms)
 
 -- a kind whose tokens are all its own
-dealt-plain : (kind n : ℕ) → ((c : ℕ) → roleOf kind c ≡ aMark) → (w : List Sort) → dealt kind n w ≡ w
+dealt-plain : (K n : ℕ) → ((c : ℕ) → roleOf K c ≡ aMark) → (w : List Sort) → dealt K n w ≡ w
 unfolding dealt roled
-dealt-plain kind n r [] = refl
-dealt-plain kind n r (word c ∷ w) = ap (λ o. roled o n c ∷ dealt kind n w) (r c) ∙ ap (λ l. word c ∷ l) (dealt-plain kind n r w)
-dealt-plain kind n r (child x l h d ∷ w) = ap (λ m. child x l h d ∷ m) (dealt-plain kind n r w)
+dealt-plain K n r [] = refl
+dealt-plain K n r (word c ∷ w) = ap (λ o. roled o n c ∷ dealt K n w) (r c) ∙ ap (λ l. word c ∷ l) (dealt-plain K n r w)
+dealt-plain K n r (child x l h d ∷ w) = ap (λ m. child x l h d ∷ m) (dealt-plain K n r w)
 
-arm-cases : (x : ℕ) → T (has (37 ∷ 38 ∷ []) x) → (x ≡ 37) ⊎ (x ≡ 38)
+arm-cases : (x : ℕ) → T (has family.arms x) → (x ≡ kind.BuiltinArm) ⊎ (x ≡ kind.EnumArm)
 unfolding has
-arm-cases x t = go (or-cases (eqb 37 x) (eqb 38 x || false) t)
+arm-cases x t = go (or-cases (eqb kind.BuiltinArm x) (eqb kind.EnumArm x || false) t)
   where
-    more-of : T (eqb 38 x) ⊎ T false → (x ≡ 37) ⊎ (x ≡ 38)
-    more-of (inl u) = inr (sym (eqb→eq 38 x u))
+    more-of : T (eqb kind.EnumArm x) ⊎ T false → (x ≡ kind.BuiltinArm) ⊎ (x ≡ kind.EnumArm)
+    more-of (inl u) = inr (sym (eqb→eq kind.EnumArm x u))
     more-of (inr u) = absurd u
 
-    go : T (eqb 37 x) ⊎ T (eqb 38 x || false) → (x ≡ 37) ⊎ (x ≡ 38)
-    go (inl u) = inl (sym (eqb→eq 37 x u))
-    go (inr u) = more-of (or-cases (eqb 38 x) false u)
+    go : T (eqb kind.BuiltinArm x) ⊎ T (eqb kind.EnumArm x || false) → (x ≡ kind.BuiltinArm) ⊎ (x ≡ kind.EnumArm)
+    go (inl u) = inl (sym (eqb→eq kind.BuiltinArm x u))
+    go (inr u) = more-of (or-cases (eqb kind.EnumArm x) false u)
 
 -- arms of which none is built-in
 enum-arms : {v : List Sort} → Spells (many anyArm) v → armLows v ≡ [] → Spells (many enumArm) v
@@ -55,16 +60,16 @@ unfolding armLows fits has
 enum-arms stop e = stop
 enum-arms (more {w = w} (one-part x l h c i) q) e = go (arm-cases x i) (λ z. enum-arms q z)
   where
-    go : (x ≡ 37) ⊎ (x ≡ 38) → (armLows w ≡ [] → Spells (many enumArm) w) → Spells (many enumArm) (child x l h c ∷ w)
+    go : (x ≡ kind.BuiltinArm) ⊎ (x ≡ kind.EnumArm) → (armLows w ≡ [] → Spells (many enumArm) w) → Spells (many enumArm) (child x l h c ∷ w)
     go (inl k) f =
-        let z : l ∷ armLows w ≡ [] = subst (λ (y : ℕ). cond (eqb y 37) (l ∷ armLows w) (armLows w) ≡ []) k e in
+        let z : l ∷ armLows w ≡ [] = subst (λ (y : ℕ). cond (eqb y kind.BuiltinArm) (l ∷ armLows w) (armLows w) ≡ []) k e in
         let o : _≡_ {A = ℕ} 0 1 = cc in
         absurd (omega arith)
     go (inr k) f =
-        let z : armLows w ≡ [] = subst (λ (y : ℕ). cond (eqb y 37) (l ∷ armLows w) (armLows w) ≡ []) k e in
-        subst (λ (y : ℕ). Spells (many enumArm) (child y l h c ∷ w)) (sym k) (more (one-part 38 l h c tt) (f z))
+        let z : armLows w ≡ [] = subst (λ (y : ℕ). cond (eqb y kind.BuiltinArm) (l ∷ armLows w) (armLows w) ≡ []) k e in
+        subst (λ (y : ℕ). Spells (many enumArm) (child y l h c ∷ w)) (sym k) (more (one-part kind.EnumArm l h c tt) (f z))
 
-some-enum : {v : List Sort} → Spells (many enumArm) v → 0 < counted (38 ∷ []) v → Spells (enumArm ▸ many enumArm) v
+some-enum : {v : List Sort} → Spells (many enumArm) v → 0 < counted (kind.EnumArm ∷ []) v → Spells (enumArm ▸ many enumArm) v
 unfolding counted
 some-enum stop h = absurd (omega arith)
 some-enum (more p q) h = seq p q
@@ -72,53 +77,53 @@ some-enum (more p q) h = seq p q
 -- built-in arms with their lows
 data Built : List Sort → List ℕ → Type 0 where
   b-end : Built [] []
-  b-more : {w : List Sort} {ls : List ℕ} (l h c : ℕ) → Built w ls → Built (child 37 l h c ∷ w) (l ∷ ls)
+  b-more : {w : List Sort} {ls : List ℕ} (l h c : ℕ) → Built w ls → Built (child kind.BuiltinArm l h c ∷ w) (l ∷ ls)
 
-built-arms : {v : List Sort} → Spells (many anyArm) v → counted (38 ∷ []) v ≡ 0 → Built v (armLows v)
+built-arms : {v : List Sort} → Spells (many anyArm) v → counted (kind.EnumArm ∷ []) v ≡ 0 → Built v (armLows v)
 unfolding armLows counted fits has
 built-arms stop e = b-end
 built-arms (more {w = w} (one-part x l h c i) q) e = go (arm-cases x i) (λ z. built-arms q z)
   where
-    go : (x ≡ 37) ⊎ (x ≡ 38) → (counted (38 ∷ []) w ≡ 0 → Built w (armLows w)) → Built (child x l h c ∷ w) (armLows (child x l h c ∷ w))
+    go : (x ≡ kind.BuiltinArm) ⊎ (x ≡ kind.EnumArm) → (counted (kind.EnumArm ∷ []) w ≡ 0 → Built w (armLows w)) → Built (child x l h c ∷ w) (armLows (child x l h c ∷ w))
     go (inl k) f =
-        let z : 0 + counted (38 ∷ []) w ≡ 0 = subst (λ (y : ℕ). cond (has (38 ∷ []) y) 1 0 + counted (38 ∷ []) w ≡ 0) k e in
-        subst (λ (y : ℕ). Built (child y l h c ∷ w) (cond (eqb y 37) (l ∷ armLows w) (armLows w))) (sym k) (b-more l h c (f (omega arith)))
+        let z : 0 + counted (kind.EnumArm ∷ []) w ≡ 0 = subst (λ (y : ℕ). cond (has (kind.EnumArm ∷ []) y) 1 0 + counted (kind.EnumArm ∷ []) w ≡ 0) k e in
+        subst (λ (y : ℕ). Built (child y l h c ∷ w) (cond (eqb y kind.BuiltinArm) (l ∷ armLows w) (armLows w))) (sym k) (b-more l h c (f (omega arith)))
     go (inr k) f =
-        let z : 1 + counted (38 ∷ []) w ≡ 0 = subst (λ (y : ℕ). cond (has (38 ∷ []) y) 1 0 + counted (38 ∷ []) w ≡ 0) k e in
+        let z : 1 + counted (kind.EnumArm ∷ []) w ≡ 0 = subst (λ (y : ℕ). cond (has (kind.EnumArm ∷ []) y) 1 0 + counted (kind.EnumArm ∷ []) w ≡ 0) k e in
         absurd (omega arith)
 
 module _ (a h c b h′ c′ : ℕ) where
   abbrev two : List Sort
-  two = child 37 a h c ∷ child 37 b h′ c′ ∷ []
+  two = child kind.BuiltinArm a h c ∷ child kind.BuiltinArm b h′ c′ ∷ []
 
   in-order : (x y : ℕ) → T (eqb a x && eqb b y) → Spells (part (arm x) ▸ part (arm y)) two
   unfolding fits
-  in-order x y t = seq (one-part 37 a h c (first-of (eqb a x) (eqb b y) t)) (one-part 37 b h′ c′ (second-of (eqb a x) (eqb b y) t))
+  in-order x y t = seq (one-part kind.BuiltinArm a h c (first-of (eqb a x) (eqb b y) t)) (one-part kind.BuiltinArm b h′ c′ (second-of (eqb a x) (eqb b y) t))
 
   mated : (x y : ℕ) → T (eqb a x && eqb b y) ⊎ T (eqb b x && eqb a y) → Spells (arms x y) two
   mated x y (inl t) = left (in-order x y t)
   mated x y (inr t) = right (in-order y x (pair (eqb a y) (eqb b x) (second-of (eqb b x) (eqb a y) t) (first-of (eqb b x) (eqb a y) t)))
 
   abbrev Partners : Type 0
-  Partners = Spells (arms 1 2 ∣ arms 3 4 ∣ arms 5 6) two
+  Partners = Spells rules.partners two
 
   partners : (p q : ℕ) → ((x y : ℕ) → T (eqb p x && eqb q y) → Spells (arms x y) two) → T (partner p q) → Partners
   unfolding partner
-  partners p q f t = go (or-cases (eqb p 1 && eqb q 2) ((eqb p 3 && eqb q 4) || (eqb p 5 && eqb q 6)) t)
+  partners p q f t = go (or-cases (eqb p arm.Left && eqb q arm.Right) ((eqb p arm.None && eqb q arm.Some) || (eqb p arm.False && eqb q arm.True)) t)
     where
-      rest : T (eqb p 3 && eqb q 4) ⊎ T (eqb p 5 && eqb q 6) → Partners
-      rest (inl u) = right (left (f 3 4 u))
-      rest (inr u) = right (right (f 5 6 u))
+      rest : T (eqb p arm.None && eqb q arm.Some) ⊎ T (eqb p arm.False && eqb q arm.True) → Partners
+      rest (inl u) = right (left (f arm.None arm.Some u))
+      rest (inr u) = right (right (f arm.False arm.True u))
 
-      go : T (eqb p 1 && eqb q 2) ⊎ T ((eqb p 3 && eqb q 4) || (eqb p 5 && eqb q 6)) → Partners
-      go (inl u) = left (f 1 2 u)
-      go (inr u) = rest (or-cases (eqb p 3 && eqb q 4) (eqb p 5 && eqb q 6) u)
+      go : T (eqb p arm.Left && eqb q arm.Right) ⊎ T ((eqb p arm.None && eqb q arm.Some) || (eqb p arm.False && eqb q arm.True)) → Partners
+      go (inl u) = left (f arm.Left arm.Right u)
+      go (inr u) = rest (or-cases (eqb p arm.None && eqb q arm.Some) (eqb p arm.False && eqb q arm.True) u)
 
   either-order : T (partner a b) ⊎ T (partner b a) → Partners
   either-order (inl t) = partners a b (λ x y u. mated x y (inl u)) t
   either-order (inr t) = partners b a (λ x y u. mated x y (inr u)) t
 
-two-arms : {v : List Sort} {ls : List ℕ} → Built v ls → T (mates ls) → Spells (arms 1 2 ∣ arms 3 4 ∣ arms 5 6) v
+two-arms : {v : List Sort} {ls : List ℕ} → Built v ls → T (mates ls) → Spells rules.partners v
 unfolding mates
 two-arms b-end t = absurd t
 two-arms (b-more a h c b-end) t = absurd t
@@ -135,7 +140,7 @@ faultless e lows f = go (eqb e 0) refl (eqb (length lows) 0) refl (eqb (length l
     none-of (x ∷ l) q = absurd (omega arith)
 
     go : (a : Bool) → eqb e 0 ≡ a → (b : Bool) → eqb (length lows) 0 ≡ b → (c d : Bool) → mates lows ≡ d
-        → _≡_ {A = ℕ} (cond a (cond b 11 (cond c (cond d 0 14) 13)) (cond b 0 12)) 0 → ((e ≡ 0) × T (mates lows)) ⊎ ((0 < e) × (lows ≡ []))
+        → _≡_ {A = ℕ} (cond a (cond b refusal.NoArms (cond c (cond d 0 refusal.NoPartners) refusal.ArmCount)) (cond b 0 refusal.MixedArms)) 0 → ((e ≡ 0) × T (mates lows)) ⊎ ((0 < e) × (lows ≡ []))
     go true p true q c d m z = absurd (omega arith)
     go true p false q true true m z = inl (eqb-true e 0 p, subst (λ b. T b) (sym m) tt)
     go true p false q true false m z = absurd (omega arith)
@@ -151,75 +156,75 @@ lows-end : (v : List Sort) (d : ℕ) → armLows (v ++ (word d ∷ [])) ≡ armL
 unfolding armLows
 lows-end [] d = refl
 lows-end (word c ∷ v) d = lows-end v d
-lows-end (child x l h c ∷ v) d = ap (λ m. cond (eqb x 37) (l ∷ m) m) (lows-end v d)
+lows-end (child x l h c ∷ v) d = ap (λ m. cond (eqb x kind.BuiltinArm) (l ∷ m) m) (lows-end v d)
 
-count-end : (v : List Sort) (d : ℕ) → counted (38 ∷ []) (v ++ (word d ∷ [])) ≡ counted (38 ∷ []) v
+count-end : (v : List Sort) (d : ℕ) → counted (kind.EnumArm ∷ []) (v ++ (word d ∷ [])) ≡ counted (kind.EnumArm ∷ []) v
 unfolding counted
-count-end v d = counted-append (38 ∷ []) v (word d ∷ []) ∙ omega arith
+count-end v d = counted-append (kind.EnumArm ∷ []) v (word d ∷ []) ∙ omega arith
 
 -- what is matched is no arm
-matched-kinds : T (all (λ x. not (eqb x 37) && not (has (38 ∷ []) x)) (39 ∷ span 18 36))
+matched-kinds : T (all (λ x. not (eqb x kind.BuiltinArm) && not (has (kind.EnumArm ∷ []) x)) family.expressions)
 unfolding all has span count
 matched-kinds = tt
 
 -- the two rules
-spelled-35 : (w : List Sort) → Spells (the class.Match ▸ expression ▸ braces (arms 1 2 ∣ arms 3 4 ∣ arms 5 6)) w → Spelled 35 0 0 w
+spelled-match : (w : List Sort) → Spells (the class.Match ▸ expression ▸ braces rules.partners) w → Spelled kind.Match 0 0 w
 unfolding formsOf forms holds
-spelled-35 w p = here (record { fields = tt; shape = p })
+spelled-match w p = here (record { fields = tt; shape = p })
 
-spelled-36 : (w : List Sort) → Spells (the class.Match ▸ expression ▸ braces (enumArm ▸ many enumArm)) w → Spelled 36 0 0 w
+spelled-enum : (w : List Sort) → Spells (the class.Match ▸ expression ▸ braces (enumArm ▸ many enumArm)) w → Spelled kind.EnumMatch 0 0 w
 unfolding formsOf forms holds
-spelled-36 w p = here (record { fields = tt; shape = p })
+spelled-enum w p = here (record { fields = tt; shape = p })
 
-own-35 : (c : ℕ) → roleOf 35 c ≡ aMark
+own-match : (c : ℕ) → roleOf kind.Match c ≡ aMark
 unfolding roleOf has
-own-35 c = refl
+own-match c = refl
 
-own-36 : (c : ℕ) → roleOf 36 c ≡ aMark
+own-enum : (c : ℕ) → roleOf kind.EnumMatch c ≡ aMark
 unfolding roleOf has
-own-36 c = refl
+own-enum c = refl
 
-as-35 : (n : ℕ) (w : List Sort) → Spelled 35 0 0 w → SpelledAs (rec.plain 35) n w
-as-35 n w p = subst (λ (u : List Sort). Spelled 35 0 0 u) (sym (dealt-plain 35 n own-35 w)) p
+as-match : (n : ℕ) (w : List Sort) → Spelled kind.Match 0 0 w → SpelledAs (rec.plain kind.Match) n w
+as-match n w p = subst (λ (u : List Sort). Spelled kind.Match 0 0 u) (sym (dealt-plain kind.Match n own-match w)) p
 
-as-36 : (n : ℕ) (w : List Sort) → Spelled 36 0 0 w → SpelledAs (rec.plain 36) n w
-as-36 n w p = subst (λ (u : List Sort). Spelled 36 0 0 u) (sym (dealt-plain 36 n own-36 w)) p
+as-enum : (n : ℕ) (w : List Sort) → Spelled kind.EnumMatch 0 0 w → SpelledAs (rec.plain kind.EnumMatch) n w
+as-enum n w p = subst (λ (u : List Sort). Spelled kind.EnumMatch 0 0 u) (sym (dealt-plain kind.EnumMatch n own-enum w)) p
 
 module _ (n a x l h c b : ℕ) (v : List Sort) (d : ℕ) (i : T (has (class.Match ∷ []) a)) (y : Spells expression (child x l h c ∷ [])) (j : T (has (class.LBrace ∷ []) b)) (m : Spells (many anyArm) v) (o : T (has (class.RBrace ∷ []) d)) where
   abbrev whole : List Sort
   whole = word a ∷ child x l h c ∷ word b ∷ (v ++ (word d ∷ []))
 
-  built-match : counted (38 ∷ []) v ≡ 0 → T (mates (armLows v)) → SpelledAs (rec.plain 35) n whole
-  built-match e t = as-35 n whole (spelled-35 whole (seq (one-mark a i) (seq y (seq (one-mark b j) (seq (two-arms (built-arms m e) t) (one-mark d o))))))
+  built-match : counted (kind.EnumArm ∷ []) v ≡ 0 → T (mates (armLows v)) → SpelledAs (rec.plain kind.Match) n whole
+  built-match e t = as-match n whole (spelled-match whole (seq (one-mark a i) (seq y (seq (one-mark b j) (seq (two-arms (built-arms m e) t) (one-mark d o))))))
 
-  enum-match : 0 < counted (38 ∷ []) v → armLows v ≡ [] → SpelledAs (rec.plain 36) n whole
-  enum-match e t = as-36 n whole (spelled-36 whole (seq (one-mark a i) (seq y (seq (one-mark b j) (seq (some-enum (enum-arms m t) e) (one-mark d o))))))
+  enum-match : 0 < counted (kind.EnumArm ∷ []) v → armLows v ≡ [] → SpelledAs (rec.plain kind.EnumMatch) n whole
+  enum-match e t = as-enum n whole (spelled-enum whole (seq (one-mark a i) (seq y (seq (one-mark b j) (seq (some-enum (enum-arms m t) e) (one-mark d o))))))
 
-  match-of : ((counted (38 ∷ []) v ≡ 0) × T (mates (armLows v))) ⊎ ((0 < counted (38 ∷ []) v) × (armLows v ≡ []))
-      → SpelledAs (cond (ltb 0 (counted (38 ∷ []) v)) (rec.plain 36) (rec.plain 35)) n whole
-  match-of (inl z) = subst (λ (q : ℕ). SpelledAs (cond (ltb 0 q) (rec.plain 36) (rec.plain 35)) n whole) (sym (z .0)) (built-match (z .0) (z .1))
-  match-of (inr z) = subst (λ (q : Bool). SpelledAs (cond q (rec.plain 36) (rec.plain 35)) n whole) (sym (lt-ltb 0 (counted (38 ∷ []) v) (z .0))) (enum-match (z .0) (z .1))
+  match-of : ((counted (kind.EnumArm ∷ []) v ≡ 0) × T (mates (armLows v))) ⊎ ((0 < counted (kind.EnumArm ∷ []) v) × (armLows v ≡ []))
+      → SpelledAs (cond (ltb 0 (counted (kind.EnumArm ∷ []) v)) (rec.plain kind.EnumMatch) (rec.plain kind.Match)) n whole
+  match-of (inl z) = subst (λ (q : ℕ). SpelledAs (cond (ltb 0 q) (rec.plain kind.EnumMatch) (rec.plain kind.Match)) n whole) (sym (z .0)) (built-match (z .0) (z .1))
+  match-of (inr z) = subst (λ (q : Bool). SpelledAs (cond q (rec.plain kind.EnumMatch) (rec.plain kind.Match)) n whole) (sym (lt-ltb 0 (counted (kind.EnumArm ∷ []) v) (z .0))) (enum-match (z .0) (z .1))
 
 -- The law of a match.
-pub match-law : (n : ℕ) {w : List Sort} → armsFault (counted (38 ∷ []) w) (armLows w) ≡ 0
-    → Spells (the class.Match ▸ (part (of (18 ∷ [])) ∣ part (of (39 ∷ span 19 36))) ▸ the class.LBrace ▸ many anyArm ▸ the class.RBrace) w
-    → SpelledAs (cond (ltb 0 (counted (38 ∷ []) w)) (rec.plain 36) (rec.plain 35)) n w
+pub match-law : (n : ℕ) {w : List Sort} → armsFault (counted (kind.EnumArm ∷ []) w) (armLows w) ≡ 0
+    → Spells (the class.Match ▸ (part (of family.blocks) ∣ part (of family.singles)) ▸ the class.LBrace ▸ many anyArm ▸ the class.RBrace) w
+    → SpelledAs (cond (ltb 0 (counted (kind.EnumArm ∷ []) w)) (rec.plain kind.EnumMatch) (rec.plain kind.Match)) n w
 unfolding counted armLows all has span count fits
-match-law n f (seq (one-mark a i) (seq e (seq (one-mark b j) (seq {v = v} m (one-mark d o))))) = go e f (expression-in (39 ∷ span 18 36) tt tt e)
+match-law n f (seq (one-mark a i) (seq e (seq (one-mark b j) (seq {v = v} m (one-mark d o))))) = go e f (expression-in family.expressions tt tt e)
   where
-    clear : (x l : ℕ) → eqb x 37 ≡ false → has (38 ∷ []) x ≡ false
-        → armsFault (cond (has (38 ∷ []) x) 1 0 + counted (38 ∷ []) (v ++ (word d ∷ []))) (cond (eqb x 37) (l ∷ armLows (v ++ (word d ∷ []))) (armLows (v ++ (word d ∷ [])))) ≡ 0
-        → armsFault (counted (38 ∷ []) v) (armLows v) ≡ 0
+    clear : (x l : ℕ) → eqb x kind.BuiltinArm ≡ false → has (kind.EnumArm ∷ []) x ≡ false
+        → armsFault (cond (has (kind.EnumArm ∷ []) x) 1 0 + counted (kind.EnumArm ∷ []) (v ++ (word d ∷ []))) (cond (eqb x kind.BuiltinArm) (l ∷ armLows (v ++ (word d ∷ []))) (armLows (v ++ (word d ∷ [])))) ≡ 0
+        → armsFault (counted (kind.EnumArm ∷ []) v) (armLows v) ≡ 0
     clear x l p q g =
-        let s : 0 + counted (38 ∷ []) (v ++ (word d ∷ [])) ≡ counted (38 ∷ []) v = omega (arith, count-end v d) in
-        subst (λ (y : ℕ). armsFault y (armLows v) ≡ 0) s (subst (λ (y : List ℕ). armsFault (0 + counted (38 ∷ []) (v ++ (word d ∷ []))) y ≡ 0) (lows-end v d) (rw (p, q) at g))
+        let s : 0 + counted (kind.EnumArm ∷ []) (v ++ (word d ∷ [])) ≡ counted (kind.EnumArm ∷ []) v = omega (arith, count-end v d) in
+        subst (λ (y : ℕ). armsFault y (armLows v) ≡ 0) s (subst (λ (y : List ℕ). armsFault (0 + counted (kind.EnumArm ∷ []) (v ++ (word d ∷ []))) y ≡ 0) (lows-end v d) (rw (p, q) at g))
 
-    go : {u : List Sort} → Spells (part (of (18 ∷ [])) ∣ part (of (39 ∷ span 19 36))) u → armsFault (counted (38 ∷ []) (word a ∷ (u ++ (word b ∷ (v ++ (word d ∷ [])))))) (armLows (word a ∷ (u ++ (word b ∷ (v ++ (word d ∷ [])))))) ≡ 0
-        → Spells (part (of (39 ∷ span 18 36))) u → SpelledAs (cond (ltb 0 (counted (38 ∷ []) (word a ∷ (u ++ (word b ∷ (v ++ (word d ∷ []))))))) (rec.plain 36) (rec.plain 35)) n (word a ∷ (u ++ (word b ∷ (v ++ (word d ∷ [])))))
+    go : {u : List Sort} → Spells (part (of family.blocks) ∣ part (of family.singles)) u → armsFault (counted (kind.EnumArm ∷ []) (word a ∷ (u ++ (word b ∷ (v ++ (word d ∷ [])))))) (armLows (word a ∷ (u ++ (word b ∷ (v ++ (word d ∷ [])))))) ≡ 0
+        → Spells (part (of family.expressions)) u → SpelledAs (cond (ltb 0 (counted (kind.EnumArm ∷ []) (word a ∷ (u ++ (word b ∷ (v ++ (word d ∷ []))))))) (rec.plain kind.EnumMatch) (rec.plain kind.Match)) n (word a ∷ (u ++ (word b ∷ (v ++ (word d ∷ [])))))
     go e g (one-part x l h c y) =
-        let k = all-has (λ z. not (eqb z 37) && not (has (38 ∷ []) z)) (39 ∷ span 18 36) matched-kinds x y in
-        let p = not-true (eqb x 37) (first-of (not (eqb x 37)) (not (has (38 ∷ []) x)) k) in
-        let q = not-true (has (38 ∷ []) x) (second-of (not (eqb x 37)) (not (has (38 ∷ []) x)) k) in
-        let s : cond (has (38 ∷ []) x) 1 0 + counted (38 ∷ []) (v ++ (word d ∷ [])) ≡ counted (38 ∷ []) v = rw q (omega (arith, count-end v d)) in
-        subst (λ (z : ℕ). SpelledAs (cond (ltb 0 z) (rec.plain 36) (rec.plain 35)) n (word a ∷ child x l h c ∷ word b ∷ (v ++ (word d ∷ [])))) (sym s)
-        (match-of n a x l h c b v d i (one-part x l h c y) j m o (faultless (counted (38 ∷ []) v) (armLows v) (clear x l p q g)))
+        let k = all-has (λ z. not (eqb z kind.BuiltinArm) && not (has (kind.EnumArm ∷ []) z)) family.expressions matched-kinds x y in
+        let p = not-true (eqb x kind.BuiltinArm) (first-of (not (eqb x kind.BuiltinArm)) (not (has (kind.EnumArm ∷ []) x)) k) in
+        let q = not-true (has (kind.EnumArm ∷ []) x) (second-of (not (eqb x kind.BuiltinArm)) (not (has (kind.EnumArm ∷ []) x)) k) in
+        let s : cond (has (kind.EnumArm ∷ []) x) 1 0 + counted (kind.EnumArm ∷ []) (v ++ (word d ∷ [])) ≡ counted (kind.EnumArm ∷ []) v = rw q (omega (arith, count-end v d)) in
+        subst (λ (z : ℕ). SpelledAs (cond (ltb 0 z) (rec.plain kind.EnumMatch) (rec.plain kind.Match)) n (word a ∷ child x l h c ∷ word b ∷ (v ++ (word d ∷ [])))) (sym s)
+        (match-of n a x l h c b v d i (one-part x l h c y) j m o (faultless (counted (kind.EnumArm ∷ []) v) (armLows v) (clear x l p q g)))

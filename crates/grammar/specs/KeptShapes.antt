@@ -14,18 +14,20 @@ use Rattle.theory.specs.Ebnf as shape
 use Rattle.text.specs.Table.{first-of, second-of}
 use Rattle.own.specs.Law.{Sort, word}
 use Rattle.own.specs.Places.{or-cases}
+use Rattle.own.specs.Kinds as kind
 use Rattle.kinds.specs.Shape.{Shape, nothing, never, mark, of, name, arm, bound, size, has, has-left, has-right, count, span, _▸_, _∣_, many, Spells, empty, one-mark, one-part, left, right, stop, more, fits}
 use Rattle.kinds.specs.Shape as k
 use Rattle.kinds.specs.Lists.{all}
 use Rattle.kinds.specs.Rules.{the, optional, element, expression}
 use Rattle.kinds.specs.Rules as rules
 use Rattle.kinds.specs.Build.{the-mark}
+use Rattle.kinds.specs.Families as family
 use Rattle.lexer.specs.Classes as t
 use Rattle.grammar.specs.Shapes.{shapes, elementsPart, argumentsPart, pathPart, headPathPart, pairPart}
 
 -- The kinds of the records that the shapes of a category become.
 unfoldable pub kindsIn : ℕ → List ℕ
-kindsIn C = getD ((1 ∷ []) ∷ (3 ∷ []) ∷ span 4 12 ∷ span 13 16 ∷ (18 ∷ []) ∷ (17 ∷ []) ∷ (39 ∷ span 19 36) ∷ (37 ∷ 38 ∷ []) ∷ []) C []
+kindsIn C = getD ((kind.Function ∷ []) ∷ (kind.Parameter ∷ []) ∷ family.types ∷ family.patterns ∷ family.blocks ∷ (kind.Let ∷ []) ∷ family.singles ∷ family.arms ∷ []) C []
 
 -- Either of two; marks are put together, and so are parts.
 unfoldable pub both : Shape → Shape → Shape
@@ -228,20 +230,20 @@ element-more : {u : List Sort} (s v : List Sort) → Spells element s → Spells
 element-more s v p q (k.seq {v = ms} {w = o} m e) =
     subst (λ (l : List Sort). Spells elementsShape l) (append-assoc (s ++ v) ms o ∙ append-assoc s v (ms ++ o)) (k.seq (more (k.seq p q) m) e)
 
-pub expression-in : (js : List ℕ) → T (all (has js) (18 ∷ [])) → T (all (has js) (39 ∷ span 19 36))
-    → {w : List Sort} → Spells (k.part (of (18 ∷ [])) ∣ k.part (of (39 ∷ span 19 36))) w → Spells (k.part (of js)) w
-expression-in js a b (left p) = part-within (18 ∷ []) js a p
-expression-in js a b (right p) = part-within (39 ∷ span 19 36) js b p
+pub expression-in : (js : List ℕ) → T (all (has js) family.blocks) → T (all (has js) family.singles)
+    → {w : List Sort} → Spells (k.part (of family.blocks) ∣ k.part (of family.singles)) w → Spells (k.part (of js)) w
+expression-in js a b (left p) = part-within family.blocks js a p
+expression-in js a b (right p) = part-within family.singles js b p
 
 elements-in : {w : List Sort}
-    → Spells (nothing ∣ (k.part (of (17 ∷ [])) ▸ the t.Semi ▸ elementsShape ∣ (k.part (of (18 ∷ [])) ∣ k.part (of (39 ∷ span 19 36))) ▸ (nothing ∣ the t.Semi ▸ elementsShape))) w
+    → Spells (nothing ∣ (k.part (of (kind.Let ∷ [])) ▸ the t.Semi ▸ elementsShape ∣ (k.part (of family.blocks) ∣ k.part (of family.singles)) ▸ (nothing ∣ the t.Semi ▸ elementsShape))) w
     → Spells elementsShape w
 unfolding all has span count
 elements-in (left empty) = k.seq stop (left empty)
-elements-in (right (left (k.seq {v = s} p (k.seq {v = v} q r)))) = element-more s v (part-within (17 ∷ []) (17 ∷ 39 ∷ span 18 36) tt p) q r
+elements-in (right (left (k.seq {v = s} p (k.seq {v = v} q r)))) = element-more s v (part-within (kind.Let ∷ []) family.elements tt p) q r
 elements-in (right (right (k.seq {v = s} p (left empty)))) =
-    k.seq stop (right (subst (λ (l : List Sort). Spells expression l) (sym (append-nil s)) (expression-in (39 ∷ span 18 36) tt tt p)))
-elements-in (right (right (k.seq {v = s} p (right (k.seq {v = v} q r))))) = element-more s v (expression-in (17 ∷ 39 ∷ span 18 36) tt tt p) q r
+    k.seq stop (right (subst (λ (l : List Sort). Spells expression l) (sym (append-nil s)) (expression-in family.expressions tt tt p)))
+elements-in (right (right (k.seq {v = s} p (right (k.seq {v = v} q r))))) = element-more s v (expression-in family.elements tt tt p) q r
 
 -- the named parts are spelled as their expressions
 part-in : (P : ℕ) {w : List Sort} → Spells (spelt (getD (shapes .parts) P eps)) w → Spells (getD partShapes P nothing) w

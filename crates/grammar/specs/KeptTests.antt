@@ -10,6 +10,7 @@ use lib.Dec.{T, eqb}
 use lib.ListN.{getD}
 use Rattle.theory.specs.Ebnf.{eps}
 use Rattle.own.specs.Law.{Sort}
+use Rattle.own.specs.Kinds as kind
 use Rattle.kinds.specs.Lists.{some, all}
 use Rattle.kinds.specs.Shape.{Part, of, name, arm, bound, size, Shape, has, span, count, doubled, fits, Spells}
 use Rattle.kinds.specs.Rules.{forms}
@@ -26,6 +27,10 @@ use Rattle.grammar.specs.KeptNames.{functionCase, functionRow, angledRow
 use Rattle.grammar.specs.KeptCalls.{wrapsRow, callsRow, genericRow, pathRow, parensRow, aloneRow, plainRow, nameRow, nameRows}
 use Rattle.grammar.specs.Records.{roleOf, placeIn, literalHead, callHead, wrapperHead, aloneHead, head}
 use Rattle.grammar.specs.Records as rec
+use Rattle.grammar.specs.ShapeKind.{FunctionShape, ParameterShape, EitherTypeShape, OptionTypeShape, ListTypeShape, NamedTypeShape}
+use Rattle.grammar.specs.ShapeKind.{TupleTypeShape, ArrayTypeShape, NamePatternShape, TuplePatternShape, ArrayPatternShape, AssignmentShape}
+use Rattle.grammar.specs.ShapeKind.{LiteralShape, ParensShape, ArrayShape, ListShape, SimpleCallShape, CastCallShape, NamedShape, BareShape}
+use Rattle.grammar.specs.ShapeKind.{TypedShape, FoldingShape, ForWhileShape, ArmShape}
 
 -- The shape of a kind of shapes, as the rules see it.
 unfoldable pub bodyShape : ℕ → Shape
@@ -52,30 +57,30 @@ foldNumber c p = cond (eqb c class.fold) (boundPart p) (cond (eqb c class.array-
 
 -- The tests, of any number n.
 pub record Tests (n : ℕ) : Type 0 where
-  pub parameter : T (all (exactIn n (rec.plain 3)) (variants (bodyShape 1)))
-  pub tuple-type : T (all (exactIn n (rec.plain 10)) (variants (bodyShape 6)))
-  pub tuple-pattern : T (all (exactIn n (rec.plain 15)) (variants (bodyShape 9)))
-  pub array-pattern : T (all (exactIn n (rec.plain 16)) (variants (bodyShape 10)))
-  pub assignment : T (all (exactIn n (rec.plain 17)) (variants (bodyShape 12)))
-  pub array : T (all (exactIn n (rec.plain 32)) (variants (bodyShape 15)))
-  pub list : T (all (exactIn n (rec.plain 33)) (variants (bodyShape 16)))
-  pub function : T (all (functionRow n) (variants (bodyShape 0)))
-  pub either-type : T (all (angledRow n (exactIn n (rec.plain 8))) (variants (bodyShape 2)))
-  pub option-type : T (all (angledRow n (exactIn n (rec.plain 9))) (variants (bodyShape 3)))
-  pub list-type : T (all (angledRow n (formIn 12 n noNumber (counts aBound))) (variants (bodyShape 4)))
-  pub type-name : T (all (opened (typeRow n)) (variants (bodyShape 5)))
-  pub array-type : T (all (formIn 11 n noNumber (counts anyNumber)) (variants (bodyShape 7)))
-  pub pattern-name : T (all (opened (patternRow n)) (variants (bodyShape 8)))
-  pub literal : T (all (opened (literalRow n)) (variants (bodyShape 13)))
-  pub parens : T (all (judge (lonelyRow n 30 31)) (variants (bodyShape 14)))
-  pub simple-call : T (all (opened (nameRows n (λ c. noNumber))) (variants (bodyShape 18)))
-  pub cast-call : T (all (opened (nameRows n (λ c. noNumber))) (variants (bodyShape 19)))
-  pub named : T (all (opened (nameRows n (λ c. noNumber))) (variants (bodyShape 20)))
-  pub bare : T (all (opened (nameRows n (λ c. noNumber))) (variants (bodyShape 21)))
-  pub typed : T (all (opened (nameRows n (λ c. noNumber))) (variants (bodyShape 22)))
-  pub for-while : T (all (opened (nameRows n (λ c. noNumber))) (variants (bodyShape 24)))
-  pub folding : T (all (opened (nameRows n foldNumber)) (variants (bodyShape 23)))
-  pub arm : T (all (opened (armRow n)) (variants (bodyShape 25)))
+  pub parameter : T (all (exactIn n (rec.plain kind.Parameter)) (variants (bodyShape ParameterShape)))
+  pub tuple-type : T (all (exactIn n (rec.plain kind.TupleType)) (variants (bodyShape TupleTypeShape)))
+  pub tuple-pattern : T (all (exactIn n (rec.plain kind.TuplePattern)) (variants (bodyShape TuplePatternShape)))
+  pub array-pattern : T (all (exactIn n (rec.plain kind.ArrayPattern)) (variants (bodyShape ArrayPatternShape)))
+  pub assignment : T (all (exactIn n (rec.plain kind.Let)) (variants (bodyShape AssignmentShape)))
+  pub array : T (all (exactIn n (rec.plain kind.Array)) (variants (bodyShape ArrayShape)))
+  pub list : T (all (exactIn n (rec.plain kind.List)) (variants (bodyShape ListShape)))
+  pub function : T (all (functionRow n) (variants (bodyShape FunctionShape)))
+  pub either-type : T (all (angledRow n (exactIn n (rec.plain kind.EitherType))) (variants (bodyShape EitherTypeShape)))
+  pub option-type : T (all (angledRow n (exactIn n (rec.plain kind.OptionType))) (variants (bodyShape OptionTypeShape)))
+  pub list-type : T (all (angledRow n (formIn kind.ListType n noNumber (counts aBound))) (variants (bodyShape ListTypeShape)))
+  pub type-name : T (all (opened (typeRow n)) (variants (bodyShape NamedTypeShape)))
+  pub array-type : T (all (formIn kind.ArrayType n noNumber (counts anyNumber)) (variants (bodyShape ArrayTypeShape)))
+  pub pattern-name : T (all (opened (patternRow n)) (variants (bodyShape NamePatternShape)))
+  pub literal : T (all (opened (literalRow n)) (variants (bodyShape LiteralShape)))
+  pub parens : T (all (judge (lonelyRow n kind.Parenthesised kind.Tuple)) (variants (bodyShape ParensShape)))
+  pub simple-call : T (all (opened (nameRows n (λ c. noNumber))) (variants (bodyShape SimpleCallShape)))
+  pub cast-call : T (all (opened (nameRows n (λ c. noNumber))) (variants (bodyShape CastCallShape)))
+  pub named : T (all (opened (nameRows n (λ c. noNumber))) (variants (bodyShape NamedShape)))
+  pub bare : T (all (opened (nameRows n (λ c. noNumber))) (variants (bodyShape BareShape)))
+  pub typed : T (all (opened (nameRows n (λ c. noNumber))) (variants (bodyShape TypedShape)))
+  pub for-while : T (all (opened (nameRows n (λ c. noNumber))) (variants (bodyShape ForWhileShape)))
+  pub folding : T (all (opened (nameRows n foldNumber)) (variants (bodyShape FoldingShape)))
+  pub arm : T (all (opened (armRow n)) (variants (bodyShape ArmShape)))
 
 -- They pass, by computation.
 pub tests : (n : ℕ) → Tests n

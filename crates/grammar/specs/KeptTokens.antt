@@ -1,17 +1,19 @@
--- The record tree of a shape tree has exactly the draft's tokens, in order, and the record above all is a function's.
+-- The record trees of a shape tree have exactly the draft's tokens, in order, and those of one function are one, a function's.
 -- Assumes nothing.
 use mathlib.Core.List.{List, [], _∷_, _++_, append-nil}
-use mathlib.Core.Path.{_≡_, refl, sym, ap, ap₂, _∙_}
+use mathlib.Core.Path.{_≡_, refl, sym, ap, ap₂, subst, _∙_}
 use Prim.Native.Nat.{ℕ, zero, suc, _+_, _≤_}
 use native.Mathlib.Omega.{arith}
 use lib.ListN.{length, take, drop, length-append, length-drop}
 use lib.Seq.{take-add, take-length}
 use Rattle.theory.specs.Ebnf as shape
 use Rattle.theory.specs.Parse.{found}
-use Rattle.own.specs.Tree.{Tok, Items, none, mark, sub, Node, roots, yield, tokens}
+use Rattle.own.specs.Tree.{Tok, Items, none, mark, sub, Node, node, roots, yield, tokens}
+use Rattle.own.specs.Kinds as kind
 use Rattle.grammar.specs.ShapeKind.{FunctionShape}
-use Rattle.grammar.specs.WellShaped.{Shape, shape-function, shapeOf, shape-exactly}
-use Rattle.grammar.specs.Records.{Role, aMark, asName, asNumber, roleOf, placed, arranged, firstTok, reads, decimal, functionHead, headOf, forms, formOf, Head, headFor, recorded, recordItems, top, recordTree}
+use Rattle.grammar.specs.Entry.{Entry, oneFunction}
+use Rattle.grammar.specs.WellShaped.{Shape, Nodes, no-more, a-node, shape-function, shape-nodes, shapeOf, shape-exactly}
+use Rattle.grammar.specs.Records.{Role, aMark, asName, asNumber, roleOf, placed, arranged, firstTok, reads, decimal, functionHead, headOf, forms, formOf, Head, headFor, recorded, recordItems, recordTrees}
 
 -- The classes of tokens.
 unfoldable pub classesOf : List Tok → List ℕ
@@ -30,11 +32,11 @@ yield-placed asName n t r = refl
 yield-placed asNumber n t r = refl
 
 -- What becomes a record of its own keeps its place in the text.
-pub yield-arranged : (kind n : ℕ) (is : Items) → yield (arranged kind n is) ≡ yield is
+pub yield-arranged : (K n : ℕ) (is : Items) → yield (arranged K n is) ≡ yield is
 unfolding arranged
-yield-arranged kind n none = refl
-yield-arranged kind n (mark t r) = yield-placed (roleOf kind (t .class)) n t (arranged kind n r) ∙ ap (λ l. t ∷ l) (yield-arranged kind n r)
-yield-arranged kind n (sub k l h js r) = ap (λ m. yield js ++ m) (yield-arranged kind n r)
+yield-arranged K n none = refl
+yield-arranged K n (mark t r) = yield-placed (roleOf K (t .class)) n t (arranged K n r) ∙ ap (λ l. t ∷ l) (yield-arranged K n r)
+yield-arranged K n (sub k l h js r) = ap (λ m. yield js ++ m) (yield-arranged K n r)
 
 yield-recorded : (n : ℕ) (h : Head) (is r : Items) → yield (recorded n h is r) ≡ yield is ++ yield r
 unfolding recorded
@@ -62,26 +64,43 @@ yield-records draft (shape.sub k js r) ts h =
     yield-recorded (reads (decimal draft is)) (headFor draft k is) is (recordItems draft r (drop n ts)) ∙ ap₂ (λ x y. x ++ y) a b ∙ sym (take-add n m ts)
     ∙ ap (λ i. take i ts) (sym e)
 
--- A shape tree's records are one tree.
-pub one-tree : (draft : List ℕ) (ts : List Tok) {r : shape.Items} → Shape r → roots (recordTree draft ts r ∷ []) ≡ recordItems draft r ts
-unfolding recordTree recordItems recorded top
-one-tree draft ts s = let f = shape-function s in rw (f .1) refl
+-- the records of nodes alone are trees side by side
+nodes-trees : (draft : List ℕ) (ts : List Tok) {r : shape.Items} → Nodes r → roots (recordTrees draft ts r) ≡ recordItems draft r ts
+unfolding recordTrees recordItems recorded
+nodes-trees draft ts no-more = refl
+nodes-trees draft ts (a-node k js {r} n) =
+    let is = recordItems draft js ts in
+    let h = headFor draft k is in
+    ap (λ x. sub (h .kind) (h .low) (h .high) (arranged (h .kind) (reads (decimal draft is)) is) x) (nodes-trees draft (drop (length (shape.yield js)) ts) n)
 
-module _ (draft : List ℕ) (ts : List Tok) (r : shape.Items) (found-it : shapeOf (classesOf ts) ≡ found r) where
+-- The records of a shape tree are trees side by side.
+pub whole-trees : (en : Entry) (draft : List ℕ) (ts : List Tok) {r : shape.Items} → Shape en r → roots (recordTrees draft ts r) ≡ recordItems draft r ts
+whole-trees en draft ts s = nodes-trees draft ts (shape-nodes en s)
+
+module _ (en : Entry) (draft : List ℕ) (ts : List Tok) (r : shape.Items) (found-it : shapeOf en (classesOf ts) ≡ found r) where
   -- it is a shape tree of these tokens
-  pub is-shape : Shape r
-  is-shape = shape-exactly (classesOf ts) r .0 found-it .0
+  pub is-shape : Shape en r
+  is-shape = shape-exactly en (classesOf ts) r .0 found-it .0
 
   pub its-yield : shape.yield r ≡ classesOf ts
-  its-yield = shape-exactly (classesOf ts) r .0 found-it .1
+  its-yield = shape-exactly en (classesOf ts) r .0 found-it .1
 
-  -- The tokens of the record tree are exactly the draft's, in order: none dropped, none read twice.
-  pub keeps-tokens : tokens (recordTree draft ts r ∷ []) ≡ ts
+  -- The tokens of the record trees are exactly the draft's, in order: none dropped, none read twice.
+  pub keeps-tokens : tokens (recordTrees draft ts r) ≡ ts
   keeps-tokens =
       let e : length (shape.yield r) ≡ length ts = ap length its-yield ∙ length-classes ts in
-      ap yield (one-tree draft ts is-shape) ∙ yield-records draft r ts (omega arith) ∙ ap (λ n. take n ts) e ∙ take-length ts
+      ap yield (whole-trees en draft ts is-shape) ∙ yield-records draft r ts (omega arith) ∙ ap (λ n. take n ts) e ∙ take-length ts
 
-  -- "1 function": the record above all is of kind 1.
-  pub top-function : recordTree draft ts r .kind ≡ 1
-  unfolding recordTree recordItems recorded top headFor headOf formOf forms functionHead
-  top-function = let f = shape-function is-shape in rw (f .1) refl
+module _ (draft : List ℕ) (ts : List Tok) where
+  -- a record tree by itself, of a function
+  abbrev Top : List Node → Type 0
+  Top ns = (n : Node) × (ns ≡ n ∷ []) × (n .kind ≡ kind.Function)
+
+  of-node : (js : shape.Items) → Top (recordTrees draft ts (shape.sub FunctionShape js shape.nil))
+  unfolding recordTrees recordItems recorded headFor headOf formOf forms functionHead
+  of-node js = (_, refl, refl)
+
+  -- "1 function": the trees of one function are one, and the record above all is a function.
+  pub top-function : (r : shape.Items) → shapeOf oneFunction (classesOf ts) ≡ found r → Top (recordTrees draft ts r)
+  top-function r e =
+      let f = shape-function (is-shape oneFunction draft ts r e) in subst (λ q. Top (recordTrees draft ts q)) (sym (f .1)) (of-node (f .0))

@@ -1,12 +1,13 @@
 -- The drafts of document 01 that are marked ●, "Drafts with known results" and the listing's example, as one list with what the paper
 -- says of each; and one proof by computation that the definitions agree. Where the paper's drafts have ~ the fat arrow `=>` stands.
+-- Refusals and kinds are in the paper's figures, so that the names for them are tested too.
 -- Assumes nothing.
 use mathlib.Core.List.{List, [], _∷_, _++_, map}
 use mathlib.Core.Path.{_≡_, refl}
 use Prim.Native.Nat.{ℕ}
 use Prim.Native.String.{String}
 use Rattle.text.specs.Ascii.{ascii, asciiFrom}
-use Rattle.grammar.specs.Lines.{LF}
+use Rattle.lines.specs.Form.{LF}
 use Rattle.grammar.specs.Cases.{refusedWith, records, kindOfB, lists, Case, defined, whole, inBraces}
 
 -- Lines of text as bytes, LF after each.

@@ -3,6 +3,7 @@ pub mod Notation
 pub mod Shapes
 pub mod Tables
 pub mod TablesIndex
+pub mod Entry
 pub mod WellShaped
 pub mod Samples
 pub mod Records

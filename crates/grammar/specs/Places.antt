@@ -9,6 +9,7 @@ use native.Mathlib.Omega.{arith}
 use borrow.Author.Tests.{ltb-true}
 use lib.Dec.{eqb, ltb}
 use lib.ListN.{length, getD, drop}
+use Rattle.text.specs.Refusals as refusal
 use Rattle.num.specs.Bound.{boundOk, sizeOk}
 use Rattle.theory.specs.Ebnf as shape
 use Rattle.lexer.specs.Lexemes.{Token}
@@ -17,12 +18,14 @@ use Rattle.lexer.specs.Tokens.{Between, tokens-between, lexeme-refused}
 use Rattle.own.specs.Tree.{Tok, Items, marks}
 use Rattle.own.specs.Lists.{All, nil, _&_}
 use Rattle.own.specs.Rules.{sorts}
+use Rattle.own.specs.Kinds as kind
 use Rattle.lexer.specs.Classes as t
 use Rattle.kinds.specs.Fields.{counted}
 use Rattle.grammar.specs.ShapeKind.{ListTypeShape, MatchShape, FoldingShape}
 use Rattle.grammar.specs.Records.{sees, opening, firstTok, firstOf, decimal, recorded, recordItems}
 use Rattle.grammar.specs.Faults.{Fault, unless, armLows, armsFault, faultsAt, faults, faultOf}
 use Rattle.grammar.specs.FaultNumbers.{both, chosen, of-answered}
+use Rattle.grammar.specs.Entry.{Entry}
 use Rattle.grammar.specs.Answer.{refused, toksOf, startOf, answer}
 use Rattle.grammar.specs.Outcome.{Refusal, too-long, no-lexeme, too-many, too-deep, misshapen, faulted, no-room, refused-exactly}
 
@@ -90,9 +93,9 @@ at-start draft m k is s =
     let w = sorts is in
     let number = firstOf t.DecLiteral (marks is) in
     let a : number .start ≤ m = first-of-starts m t.DecLiteral (marks is) s in
-    let f = armsFault (counted (38 ∷ []) w) (armLows w) in
-    let bound = unless-start m (not (sees t.LAngle w) || boundOk (decimal draft is)) 9 number a in
-    let size = unless-start m (not (sees t.LAngle w) || sizeOk (decimal draft is)) 10 number a in
+    let f = armsFault (counted (kind.EnumArm ∷ []) w) (armLows w) in
+    let bound = unless-start m (not (sees t.LAngle w) || boundOk (decimal draft is)) refusal.Bound number a in
+    let size = unless-start m (not (sees t.LAngle w) || sizeOk (decimal draft is)) refusal.Size number a in
     let arms = unless-start m (eqb f 0) f (firstTok (marks is)) (first-starts m (marks is) s) in
     chosen (λ g. g .place ≤ m) (eqb k ListTypeShape) bound
     (chosen (λ g. g .place ≤ m) (eqb k FoldingShape) (chosen (λ g. g .place ≤ m) (eqb (opening w) t.array-fold) size bound)
@@ -118,10 +121,10 @@ start-within draft ts k b = go (ltb k (length ts)) refl
     go true e = let h = at-before 0 (length draft) ts k b (ltb-true k (length ts) e) in omega arith
     go false e = omega arith
 
-module _ (l : Limits) (draft : List ℕ) (tw rw : ℕ) where
-  row-within : {c p : ℕ} → Refusal l draft tw rw c p → p ≤ length draft
+module _ (en : Entry) (l : Limits) (draft : List ℕ) (tw rw : ℕ) where
+  row-within : {c p : ℕ} → Refusal en l draft tw rw c p → p ≤ length draft
   row-within (too-long h) = omega arith
-  row-within (no-lexeme {c = c} {p = p} h e) = let z = lexeme-refused draft c p e .2 in omega arith
+  row-within (no-lexeme {c = c} {p = p} h e) = let z = lexeme-refused draft c p e .1 in omega arith
   row-within (too-many {ts = ts} h e k) = let z = at-before 0 (length draft) ts (room l tw) (tokens-between draft ts e) k in omega arith
   row-within (too-deep {ts = ts} {p = p} h e k q) = let z = deep-before 0 (length draft) 0 0 ts p (tokens-between draft ts e) q in omega arith
   row-within (misshapen {ts = ts} {k = k} w f) = start-within draft ts k (tokens-between draft ts (w .lexes))
@@ -130,5 +133,5 @@ module _ (l : Limits) (draft : List ℕ) (tw rw : ℕ) where
   row-within (no-room s e h) = omega arith
 
   -- "Places are byte numbers from 0": that of a refusal is at most the length.
-  pub place-within : (c p : ℕ) → answer l draft tw rw ≡ refused c p → p ≤ length draft
-  place-within c p e = row-within (refused-exactly l draft tw rw c p .0 e)
+  pub place-within : (c p : ℕ) → answer en l draft tw rw ≡ refused c p → p ≤ length draft
+  place-within c p e = row-within (refused-exactly en l draft tw rw c p .0 e)

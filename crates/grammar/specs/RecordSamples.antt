@@ -11,6 +11,7 @@ use lib.ListN.{length, drop}
 use Rattle.text.specs.Ascii.{ascii, asciiFrom}
 use Rattle.text.specs.Part.{partOf}
 use Rattle.text.specs.Same.{same}
+use Rattle.text.specs.Refusals as refusal
 use Rattle.words.specs.Words.{KEYWORDS, MACROS, MODULE_RESERVED, RULE_WORDS, RULE_NAMES, FUNCTION_RESERVED, BOOLEANS, BOOL, UINT_TYPES, BUILTIN_ALIASES, find, wordOf}
 use Rattle.num.specs.Digits as digits
 use Rattle.num.specs.Value.{decimalFrom, fitted, numberOf}
@@ -27,14 +28,18 @@ use Rattle.theory.specs.Exec.{thenWord, thenRest, thenSub, exec}
 use Rattle.theory.specs.Fuel.{saves, need}
 use Rattle.theory.specs.Parse.{Found, found, stuck, judge, parse}
 use Rattle.own.specs.Tree.{Tok, Node, partner, canonical, turned, Rec, records}
+use Rattle.own.specs.Kinds as kind
+use Rattle.own.specs.Arms as arm
+use Rattle.own.specs.Calls as call
 use Rattle.kinds.specs.Shape.{has, count, span}
 use Rattle.kinds.specs.Fields.{counted}
 use Rattle.grammar.specs.Shapes.{shapes}
 use Rattle.grammar.specs.Tables.{table, means}
+use Rattle.grammar.specs.Entry.{oneFunction}
 use Rattle.grammar.specs.WellShaped.{shapeOf}
 use Rattle.grammar.specs.Records.{lowHalf, highHalf, reads, sees, opening, nameCount, partCount, lone, unended, placeIn, builtinType, unsignedType, boolType, typeName, patternName}
 use Rattle.grammar.specs.Records.{literalHead, functionHead, callHead, wrapperHead, calledHead, aloneHead, nameHead, armHead, headOf, forms, formOf, roleOf, placed, arranged}
-use Rattle.grammar.specs.Records.{textOf, firstTok, firstOf, decimal, headFor, recorded, recordItems, top, recordTree}
+use Rattle.grammar.specs.Records.{textOf, firstTok, firstOf, decimal, headFor, recorded, recordItems, recordTrees}
 use Rattle.grammar.specs.Faults.{Fault, unless, armLows, mates, armsFault, faultsAt, faults, earlier, earliest, faultOf}
 
 -- The tokens of a draft with their classes; none if it does not lex.
@@ -63,7 +68,7 @@ judged show (some f) rs = (f .number ∷ f .place ∷ []) ∷ []
 judged show none rs = map show rs
 
 unfoldable pub handed : (Rec → List ℕ) → List ℕ → List Tok → Found → List (List ℕ)
-handed show draft ts (found r) = judged show (faultOf draft ts r) (records (recordTree draft ts r ∷ []))
+handed show draft ts (found r) = judged show (faultOf draft ts r) (records (recordTrees draft ts r))
 handed show draft ts (stuck p) = []
 
 -- The records of a draft; it opens all that it computes with.
@@ -76,23 +81,23 @@ unfolding classed toksOf classes judged handed ascii asciiFrom partOf same KEYWO
     thenRest thenSub exec saves need judge parse partner canonical turned has count span counted shapes table means shapeOf lowHalf highHalf reads
     sees opening nameCount partCount lone unended placeIn builtinType unsignedType boolType typeName patternName literalHead functionHead callHead
     wrapperHead calledHead aloneHead nameHead armHead headOf forms formOf roleOf placed arranged textOf firstTok firstOf decimal headFor recorded
-    recordItems top recordTree unless armLows mates armsFault faultsAt faults earlier earliest faultOf
+    recordItems recordTrees unless armLows mates armsFault faultsAt faults earlier earliest faultOf
 recordsOf show text =
     let draft = ascii text in
     let ts = toksOf draft (lexemes draft) in
-    handed show draft ts (shapeOf (classes ts))
+    handed show draft ts (shapeOf oneFunction (classes ts))
 
 -- The listing's example: nine records.
 pub the-listing : recordsOf line "fn f(){match b{true=>1,false=>2,}}"
-    ≡ (1 ∷ 0 ∷ 34 ∷ 0 ∷ 0 ∷ 9 ∷ [])
-    ∷ (2 ∷ 3 ∷ 4 ∷ 0 ∷ 0 ∷ 1 ∷ [])
-    ∷ (18 ∷ 6 ∷ 34 ∷ 1 ∷ 0 ∷ 7 ∷ [])
-    ∷ (35 ∷ 7 ∷ 33 ∷ 0 ∷ 0 ∷ 6 ∷ [])
-    ∷ (29 ∷ 13 ∷ 14 ∷ 0 ∷ 0 ∷ 1 ∷ [])
-    ∷ (37 ∷ 23 ∷ 32 ∷ 5 ∷ 0 ∷ 2 ∷ [])
-    ∷ (24 ∷ 30 ∷ 31 ∷ 0 ∷ 0 ∷ 1 ∷ [])
-    ∷ (37 ∷ 15 ∷ 23 ∷ 6 ∷ 0 ∷ 2 ∷ [])
-    ∷ (24 ∷ 21 ∷ 22 ∷ 0 ∷ 0 ∷ 1 ∷ [])
+    ≡ (kind.Function ∷ 0 ∷ 34 ∷ 0 ∷ 0 ∷ 9 ∷ [])
+    ∷ (kind.Name ∷ 3 ∷ 4 ∷ 0 ∷ 0 ∷ 1 ∷ [])
+    ∷ (kind.Block ∷ 6 ∷ 34 ∷ 1 ∷ 0 ∷ 7 ∷ [])
+    ∷ (kind.Match ∷ 7 ∷ 33 ∷ 0 ∷ 0 ∷ 6 ∷ [])
+    ∷ (kind.Variable ∷ 13 ∷ 14 ∷ 0 ∷ 0 ∷ 1 ∷ [])
+    ∷ (kind.BuiltinArm ∷ 23 ∷ 32 ∷ arm.False ∷ 0 ∷ 2 ∷ [])
+    ∷ (kind.Decimal ∷ 30 ∷ 31 ∷ 0 ∷ 0 ∷ 1 ∷ [])
+    ∷ (kind.BuiltinArm ∷ 15 ∷ 23 ∷ arm.True ∷ 0 ∷ 2 ∷ [])
+    ∷ (kind.Decimal ∷ 21 ∷ 22 ∷ 0 ∷ 0 ∷ 1 ∷ [])
     ∷ []
 unfolding recordsOf
 the-listing = refl
@@ -101,37 +106,42 @@ the-listing = refl
 abbrev pub made : String → List (List ℕ)
 made text = recordsOf short text
 
+-- Those of a record that has nothing beneath it, low and high 0.
+abbrev pub leaf : ℕ → List ℕ
+leaf k = k ∷ 0 ∷ 0 ∷ 1 ∷ []
+
 -- `Left(1)`: kind 19, 5 records. `Left(1,)`: call, 6 records. Empty B: 3 records.
 pub left-one : made "fn f(){Left(1)}"
-    ≡ (1 ∷ 0 ∷ 0 ∷ 5 ∷ []) ∷ (2 ∷ 0 ∷ 0 ∷ 1 ∷ []) ∷ (18 ∷ 1 ∷ 0 ∷ 3 ∷ []) ∷ (19 ∷ 0 ∷ 0 ∷ 2 ∷ []) ∷ (24 ∷ 0 ∷ 0 ∷ 1 ∷ []) ∷ []
+    ≡ (kind.Function ∷ 0 ∷ 0 ∷ 5 ∷ []) ∷ leaf kind.Name ∷ (kind.Block ∷ 1 ∷ 0 ∷ 3 ∷ []) ∷ (kind.Left ∷ 0 ∷ 0 ∷ 2 ∷ []) ∷ leaf kind.Decimal ∷ []
 unfolding recordsOf
 left-one = refl
 
 pub left-call : made "fn f(){Left(1,)}"
-    ≡ (1 ∷ 0 ∷ 0 ∷ 6 ∷ []) ∷ (2 ∷ 0 ∷ 0 ∷ 1 ∷ []) ∷ (18 ∷ 1 ∷ 0 ∷ 4 ∷ []) ∷ (39 ∷ 10 ∷ 0 ∷ 3 ∷ []) ∷ (2 ∷ 0 ∷ 0 ∷ 1 ∷ []) ∷ (24 ∷ 0 ∷ 0 ∷ 1 ∷ []) ∷ []
+    ≡ (kind.Function ∷ 0 ∷ 0 ∷ 6 ∷ []) ∷ leaf kind.Name ∷ (kind.Block ∷ 1 ∷ 0 ∷ 4 ∷ []) ∷ (kind.Call ∷ call.Custom ∷ 0 ∷ 3 ∷ []) ∷ leaf kind.Name ∷ leaf kind.Decimal ∷ []
 unfolding recordsOf
 left-call = refl
 
 -- Refusals 9 to 14 of "Drafts with known results".
 pub refusals : map made ("fn f(){match x{}}" ∷ "fn f(){match x{true=>1,}}" ∷ "fn f(){match x{None=>1,true=>2,}}" ∷ "fn f(){match x{A::B=>1,None=>2,}}"
     ∷ "fn f(){fold::<g,3>(x)}" ∷ "fn f(){array_fold::<g,0>(x)}" ∷ [])
-    ≡ ((11 ∷ 7 ∷ []) ∷ []) ∷ ((13 ∷ 7 ∷ []) ∷ []) ∷ ((14 ∷ 7 ∷ []) ∷ []) ∷ ((12 ∷ 7 ∷ []) ∷ []) ∷ ((9 ∷ 16 ∷ []) ∷ []) ∷ ((10 ∷ 22 ∷ []) ∷ []) ∷ []
+    ≡ ((refusal.NoArms ∷ 7 ∷ []) ∷ []) ∷ ((refusal.ArmCount ∷ 7 ∷ []) ∷ []) ∷ ((refusal.NoPartners ∷ 7 ∷ []) ∷ []) ∷ ((refusal.MixedArms ∷ 7 ∷ []) ∷ [])
+    ∷ ((refusal.Bound ∷ 16 ∷ []) ∷ []) ∷ ((refusal.Size ∷ 22 ∷ []) ∷ []) ∷ []
 unfolding recordsOf
 refusals = refl
 
 -- A function that is public, with two parameters and a result type: its eleven records with their places.
 pub a-function : recordsOf line "pub fn g(a:u8,b:Pubkey,)->bool{a}"
-    ≡ (1 ∷ 0 ∷ 33 ∷ 3 ∷ 2 ∷ 11 ∷ [])
-    ∷ (2 ∷ 7 ∷ 8 ∷ 0 ∷ 0 ∷ 1 ∷ [])
-    ∷ (3 ∷ 9 ∷ 13 ∷ 0 ∷ 0 ∷ 3 ∷ [])
-    ∷ (2 ∷ 9 ∷ 10 ∷ 0 ∷ 0 ∷ 1 ∷ [])
-    ∷ (7 ∷ 11 ∷ 13 ∷ 8 ∷ 0 ∷ 1 ∷ [])
-    ∷ (3 ∷ 14 ∷ 22 ∷ 0 ∷ 0 ∷ 3 ∷ [])
-    ∷ (2 ∷ 14 ∷ 15 ∷ 0 ∷ 0 ∷ 1 ∷ [])
-    ∷ (5 ∷ 16 ∷ 22 ∷ 1 ∷ 0 ∷ 1 ∷ [])
-    ∷ (6 ∷ 26 ∷ 30 ∷ 0 ∷ 0 ∷ 1 ∷ [])
-    ∷ (18 ∷ 30 ∷ 33 ∷ 1 ∷ 0 ∷ 2 ∷ [])
-    ∷ (29 ∷ 31 ∷ 32 ∷ 0 ∷ 0 ∷ 1 ∷ [])
+    ≡ (kind.Function ∷ 0 ∷ 33 ∷ 3 ∷ 2 ∷ 11 ∷ [])
+    ∷ (kind.Name ∷ 7 ∷ 8 ∷ 0 ∷ 0 ∷ 1 ∷ [])
+    ∷ (kind.Parameter ∷ 9 ∷ 13 ∷ 0 ∷ 0 ∷ 3 ∷ [])
+    ∷ (kind.Name ∷ 9 ∷ 10 ∷ 0 ∷ 0 ∷ 1 ∷ [])
+    ∷ (kind.Unsigned ∷ 11 ∷ 13 ∷ 8 ∷ 0 ∷ 1 ∷ [])
+    ∷ (kind.Parameter ∷ 14 ∷ 22 ∷ 0 ∷ 0 ∷ 3 ∷ [])
+    ∷ (kind.Name ∷ 14 ∷ 15 ∷ 0 ∷ 0 ∷ 1 ∷ [])
+    ∷ (kind.Builtin ∷ 16 ∷ 22 ∷ 1 ∷ 0 ∷ 1 ∷ [])
+    ∷ (kind.BoolType ∷ 26 ∷ 30 ∷ 0 ∷ 0 ∷ 1 ∷ [])
+    ∷ (kind.Block ∷ 30 ∷ 33 ∷ 1 ∷ 0 ∷ 2 ∷ [])
+    ∷ (kind.Variable ∷ 31 ∷ 32 ∷ 0 ∷ 0 ∷ 1 ∷ [])
     ∷ []
 unfolding recordsOf
 a-function = refl
@@ -148,25 +158,25 @@ pub types : map (λ text. drop 5 (made text)) ("fn f(){let _:Either<A,_>=1;}"
     ∷ "fn f(){let _:Either=1;}"
     ∷ "fn f(){let _:fold=1;}"
     ∷ "fn f(){let _:Ctx8=1;}" ∷ [])
-    ≡ ((8 ∷ 0 ∷ 0 ∷ 3 ∷ []) ∷ (4 ∷ 0 ∷ 0 ∷ 1 ∷ []) ∷ (4 ∷ 0 ∷ 0 ∷ 1 ∷ []) ∷ (24 ∷ 0 ∷ 0 ∷ 1 ∷ []) ∷ [])
-    ∷ ((9 ∷ 0 ∷ 0 ∷ 2 ∷ []) ∷ (6 ∷ 0 ∷ 0 ∷ 1 ∷ []) ∷ (24 ∷ 0 ∷ 0 ∷ 1 ∷ []) ∷ [])
-    ∷ ((12 ∷ 4 ∷ 0 ∷ 2 ∷ []) ∷ (7 ∷ 256 ∷ 0 ∷ 1 ∷ []) ∷ (24 ∷ 0 ∷ 0 ∷ 1 ∷ []) ∷ [])
-    ∷ ((12 ∷ 0 ∷ 2147483648 ∷ 2 ∷ []) ∷ (7 ∷ 1 ∷ 0 ∷ 1 ∷ []) ∷ (24 ∷ 0 ∷ 0 ∷ 1 ∷ []) ∷ [])
-    ∷ ((11 ∷ 0 ∷ 0 ∷ 2 ∷ []) ∷ (5 ∷ 22 ∷ 0 ∷ 1 ∷ []) ∷ (24 ∷ 0 ∷ 0 ∷ 1 ∷ []) ∷ [])
-    ∷ ((11 ∷ 1 ∷ 1 ∷ 2 ∷ []) ∷ (5 ∷ 23 ∷ 0 ∷ 1 ∷ []) ∷ (24 ∷ 0 ∷ 0 ∷ 1 ∷ []) ∷ [])
-    ∷ ((10 ∷ 0 ∷ 0 ∷ 1 ∷ []) ∷ (24 ∷ 0 ∷ 0 ∷ 1 ∷ []) ∷ [])
-    ∷ ((10 ∷ 0 ∷ 0 ∷ 2 ∷ []) ∷ (4 ∷ 0 ∷ 0 ∷ 1 ∷ []) ∷ (24 ∷ 0 ∷ 0 ∷ 1 ∷ []) ∷ [])
-    ∷ ((4 ∷ 0 ∷ 0 ∷ 1 ∷ []) ∷ (24 ∷ 0 ∷ 0 ∷ 1 ∷ []) ∷ [])
-    ∷ ((4 ∷ 0 ∷ 0 ∷ 1 ∷ []) ∷ (24 ∷ 0 ∷ 0 ∷ 1 ∷ []) ∷ [])
-    ∷ ((5 ∷ 0 ∷ 0 ∷ 1 ∷ []) ∷ (24 ∷ 0 ∷ 0 ∷ 1 ∷ []) ∷ []) ∷ []
+    ≡ ((kind.EitherType ∷ 0 ∷ 0 ∷ 3 ∷ []) ∷ leaf kind.Alias ∷ leaf kind.Alias ∷ leaf kind.Decimal ∷ [])
+    ∷ ((kind.OptionType ∷ 0 ∷ 0 ∷ 2 ∷ []) ∷ leaf kind.BoolType ∷ leaf kind.Decimal ∷ [])
+    ∷ ((kind.ListType ∷ 4 ∷ 0 ∷ 2 ∷ []) ∷ (kind.Unsigned ∷ 256 ∷ 0 ∷ 1 ∷ []) ∷ leaf kind.Decimal ∷ [])
+    ∷ ((kind.ListType ∷ 0 ∷ 2147483648 ∷ 2 ∷ []) ∷ (kind.Unsigned ∷ 1 ∷ 0 ∷ 1 ∷ []) ∷ leaf kind.Decimal ∷ [])
+    ∷ ((kind.ArrayType ∷ 0 ∷ 0 ∷ 2 ∷ []) ∷ (kind.Builtin ∷ 22 ∷ 0 ∷ 1 ∷ []) ∷ leaf kind.Decimal ∷ [])
+    ∷ ((kind.ArrayType ∷ 1 ∷ 1 ∷ 2 ∷ []) ∷ (kind.Builtin ∷ 23 ∷ 0 ∷ 1 ∷ []) ∷ leaf kind.Decimal ∷ [])
+    ∷ (leaf kind.TupleType ∷ leaf kind.Decimal ∷ [])
+    ∷ ((kind.TupleType ∷ 0 ∷ 0 ∷ 2 ∷ []) ∷ leaf kind.Alias ∷ leaf kind.Decimal ∷ [])
+    ∷ (leaf kind.Alias ∷ leaf kind.Decimal ∷ [])
+    ∷ (leaf kind.Alias ∷ leaf kind.Decimal ∷ [])
+    ∷ (leaf kind.Builtin ∷ leaf kind.Decimal ∷ []) ∷ []
 unfolding recordsOf
 types = refl
 
 -- Patterns, in `let`: from the pattern on.
 pub patterns : map (λ text. drop 4 (made text)) ("fn f(){let (a,[_,]):T=1;}"
     ∷ "fn f(){let []:T=1;}" ∷ [])
-    ≡ ((15 ∷ 0 ∷ 0 ∷ 4 ∷ []) ∷ (13 ∷ 0 ∷ 0 ∷ 1 ∷ []) ∷ (16 ∷ 0 ∷ 0 ∷ 2 ∷ []) ∷ (14 ∷ 0 ∷ 0 ∷ 1 ∷ []) ∷ (4 ∷ 0 ∷ 0 ∷ 1 ∷ []) ∷ (24 ∷ 0 ∷ 0 ∷ 1 ∷ []) ∷ [])
-    ∷ ((16 ∷ 0 ∷ 0 ∷ 1 ∷ []) ∷ (4 ∷ 0 ∷ 0 ∷ 1 ∷ []) ∷ (24 ∷ 0 ∷ 0 ∷ 1 ∷ []) ∷ []) ∷ []
+    ≡ ((kind.TuplePattern ∷ 0 ∷ 0 ∷ 4 ∷ []) ∷ leaf kind.IdentifierPattern ∷ (kind.ArrayPattern ∷ 0 ∷ 0 ∷ 2 ∷ []) ∷ leaf kind.IgnorePattern ∷ leaf kind.Alias ∷ leaf kind.Decimal ∷ [])
+    ∷ (leaf kind.ArrayPattern ∷ leaf kind.Alias ∷ leaf kind.Decimal ∷ []) ∷ []
 unfolding recordsOf
 patterns = refl
 
@@ -185,20 +195,20 @@ pub calls : map (λ text. drop 3 (made text)) ("fn f(){jet::eq_8(x)}"
     ∷ "fn f(){array_fold::<g,5>(x)}"
     ∷ "fn f(){for_while::<g>(x)}"
     ∷ "fn f(){raw_hash::<T>(x)}" ∷ [])
-    ≡ ((39 ∷ 1 ∷ 0 ∷ 3 ∷ []) ∷ (2 ∷ 0 ∷ 0 ∷ 1 ∷ []) ∷ (29 ∷ 0 ∷ 0 ∷ 1 ∷ []) ∷ [])
-    ∷ ((39 ∷ 2 ∷ 0 ∷ 3 ∷ []) ∷ (4 ∷ 0 ∷ 0 ∷ 1 ∷ []) ∷ (29 ∷ 0 ∷ 0 ∷ 1 ∷ []) ∷ [])
-    ∷ ((39 ∷ 3 ∷ 0 ∷ 3 ∷ []) ∷ (4 ∷ 0 ∷ 0 ∷ 1 ∷ []) ∷ (29 ∷ 0 ∷ 0 ∷ 1 ∷ []) ∷ [])
-    ∷ ((39 ∷ 4 ∷ 0 ∷ 2 ∷ []) ∷ (29 ∷ 0 ∷ 0 ∷ 1 ∷ []) ∷ [])
-    ∷ ((39 ∷ 5 ∷ 0 ∷ 3 ∷ []) ∷ (4 ∷ 0 ∷ 0 ∷ 1 ∷ []) ∷ (29 ∷ 0 ∷ 0 ∷ 1 ∷ []) ∷ [])
-    ∷ ((39 ∷ 6 ∷ 0 ∷ 2 ∷ []) ∷ (29 ∷ 0 ∷ 0 ∷ 1 ∷ []) ∷ [])
-    ∷ ((39 ∷ 7 ∷ 0 ∷ 1 ∷ []) ∷ [])
-    ∷ ((39 ∷ 8 ∷ 0 ∷ 2 ∷ []) ∷ (29 ∷ 0 ∷ 0 ∷ 1 ∷ []) ∷ [])
-    ∷ ((39 ∷ 9 ∷ 0 ∷ 3 ∷ []) ∷ (4 ∷ 0 ∷ 0 ∷ 1 ∷ []) ∷ (29 ∷ 0 ∷ 0 ∷ 1 ∷ []) ∷ [])
-    ∷ ((39 ∷ 10 ∷ 0 ∷ 4 ∷ []) ∷ (2 ∷ 0 ∷ 0 ∷ 1 ∷ []) ∷ (29 ∷ 0 ∷ 0 ∷ 1 ∷ []) ∷ (29 ∷ 0 ∷ 0 ∷ 1 ∷ []) ∷ [])
-    ∷ ((39 ∷ 11 ∷ 0 ∷ 4 ∷ []) ∷ (2 ∷ 0 ∷ 0 ∷ 1 ∷ []) ∷ (40 ∷ 2 ∷ 0 ∷ 1 ∷ []) ∷ (29 ∷ 0 ∷ 0 ∷ 1 ∷ []) ∷ [])
-    ∷ ((39 ∷ 12 ∷ 0 ∷ 4 ∷ []) ∷ (2 ∷ 0 ∷ 0 ∷ 1 ∷ []) ∷ (40 ∷ 5 ∷ 0 ∷ 1 ∷ []) ∷ (29 ∷ 0 ∷ 0 ∷ 1 ∷ []) ∷ [])
-    ∷ ((39 ∷ 13 ∷ 0 ∷ 3 ∷ []) ∷ (2 ∷ 0 ∷ 0 ∷ 1 ∷ []) ∷ (29 ∷ 0 ∷ 0 ∷ 1 ∷ []) ∷ [])
-    ∷ ((39 ∷ 14 ∷ 0 ∷ 3 ∷ []) ∷ (4 ∷ 0 ∷ 0 ∷ 1 ∷ []) ∷ (29 ∷ 0 ∷ 0 ∷ 1 ∷ []) ∷ []) ∷ []
+    ≡ ((kind.Call ∷ call.Jet ∷ 0 ∷ 3 ∷ []) ∷ leaf kind.Name ∷ leaf kind.Variable ∷ [])
+    ∷ ((kind.Call ∷ call.UnwrapLeft ∷ 0 ∷ 3 ∷ []) ∷ leaf kind.Alias ∷ leaf kind.Variable ∷ [])
+    ∷ ((kind.Call ∷ call.UnwrapRight ∷ 0 ∷ 3 ∷ []) ∷ leaf kind.Alias ∷ leaf kind.Variable ∷ [])
+    ∷ ((kind.Call ∷ call.Unwrap ∷ 0 ∷ 2 ∷ []) ∷ leaf kind.Variable ∷ [])
+    ∷ ((kind.Call ∷ call.IsNone ∷ 0 ∷ 3 ∷ []) ∷ leaf kind.Alias ∷ leaf kind.Variable ∷ [])
+    ∷ ((kind.Call ∷ call.Assert ∷ 0 ∷ 2 ∷ []) ∷ leaf kind.Variable ∷ [])
+    ∷ ((kind.Call ∷ call.Panic ∷ 0 ∷ 1 ∷ []) ∷ [])
+    ∷ ((kind.Call ∷ call.Debug ∷ 0 ∷ 2 ∷ []) ∷ leaf kind.Variable ∷ [])
+    ∷ ((kind.Call ∷ call.TypeCast ∷ 0 ∷ 3 ∷ []) ∷ leaf kind.Alias ∷ leaf kind.Variable ∷ [])
+    ∷ ((kind.Call ∷ call.Custom ∷ 0 ∷ 4 ∷ []) ∷ leaf kind.Name ∷ leaf kind.Variable ∷ leaf kind.Variable ∷ [])
+    ∷ ((kind.Call ∷ call.Fold ∷ 0 ∷ 4 ∷ []) ∷ leaf kind.Name ∷ (kind.Number ∷ 2 ∷ 0 ∷ 1 ∷ []) ∷ leaf kind.Variable ∷ [])
+    ∷ ((kind.Call ∷ call.ArrayFold ∷ 0 ∷ 4 ∷ []) ∷ leaf kind.Name ∷ (kind.Number ∷ 5 ∷ 0 ∷ 1 ∷ []) ∷ leaf kind.Variable ∷ [])
+    ∷ ((kind.Call ∷ call.ForWhile ∷ 0 ∷ 3 ∷ []) ∷ leaf kind.Name ∷ leaf kind.Variable ∷ [])
+    ∷ ((kind.Call ∷ call.RawHash ∷ 0 ∷ 3 ∷ []) ∷ leaf kind.Alias ∷ leaf kind.Variable ∷ []) ∷ []
 unfolding recordsOf
 calls = refl
 
@@ -224,27 +234,27 @@ pub expressions : map (λ text. drop 3 (made text)) ("fn f(){None}"
     ∷ "fn f(){Some(x,x)}"
     ∷ "fn f(){Left()}"
     ∷ "fn f(){{1}}" ∷ [])
-    ≡ ((22 ∷ 0 ∷ 0 ∷ 1 ∷ []) ∷ [])
-    ∷ ((23 ∷ 0 ∷ 0 ∷ 1 ∷ []) ∷ [])
-    ∷ ((23 ∷ 1 ∷ 0 ∷ 1 ∷ []) ∷ [])
-    ∷ ((25 ∷ 0 ∷ 0 ∷ 1 ∷ []) ∷ [])
-    ∷ ((26 ∷ 0 ∷ 0 ∷ 1 ∷ []) ∷ [])
-    ∷ ((27 ∷ 0 ∷ 0 ∷ 1 ∷ []) ∷ [])
-    ∷ ((28 ∷ 0 ∷ 0 ∷ 1 ∷ []) ∷ [])
-    ∷ ((29 ∷ 0 ∷ 0 ∷ 1 ∷ []) ∷ [])
-    ∷ ((30 ∷ 0 ∷ 0 ∷ 2 ∷ []) ∷ (24 ∷ 0 ∷ 0 ∷ 1 ∷ []) ∷ [])
-    ∷ ((31 ∷ 0 ∷ 0 ∷ 2 ∷ []) ∷ (24 ∷ 0 ∷ 0 ∷ 1 ∷ []) ∷ [])
-    ∷ ((31 ∷ 0 ∷ 0 ∷ 1 ∷ []) ∷ [])
-    ∷ ((32 ∷ 0 ∷ 0 ∷ 2 ∷ []) ∷ (24 ∷ 0 ∷ 0 ∷ 1 ∷ []) ∷ [])
-    ∷ ((33 ∷ 0 ∷ 0 ∷ 1 ∷ []) ∷ [])
-    ∷ ((34 ∷ 2 ∷ 0 ∷ 3 ∷ []) ∷ (2 ∷ 0 ∷ 0 ∷ 1 ∷ []) ∷ (2 ∷ 0 ∷ 0 ∷ 1 ∷ []) ∷ [])
-    ∷ ((34 ∷ 3 ∷ 0 ∷ 4 ∷ []) ∷ (2 ∷ 0 ∷ 0 ∷ 1 ∷ []) ∷ (2 ∷ 0 ∷ 0 ∷ 1 ∷ []) ∷ (2 ∷ 0 ∷ 0 ∷ 1 ∷ []) ∷ [])
-    ∷ ((34 ∷ 2 ∷ 0 ∷ 4 ∷ []) ∷ (2 ∷ 0 ∷ 0 ∷ 1 ∷ []) ∷ (2 ∷ 0 ∷ 0 ∷ 1 ∷ []) ∷ (24 ∷ 0 ∷ 0 ∷ 1 ∷ []) ∷ [])
-    ∷ ((20 ∷ 0 ∷ 0 ∷ 2 ∷ []) ∷ (29 ∷ 0 ∷ 0 ∷ 1 ∷ []) ∷ [])
-    ∷ ((21 ∷ 0 ∷ 0 ∷ 2 ∷ []) ∷ (29 ∷ 0 ∷ 0 ∷ 1 ∷ []) ∷ [])
-    ∷ ((39 ∷ 10 ∷ 0 ∷ 4 ∷ []) ∷ (2 ∷ 0 ∷ 0 ∷ 1 ∷ []) ∷ (29 ∷ 0 ∷ 0 ∷ 1 ∷ []) ∷ (29 ∷ 0 ∷ 0 ∷ 1 ∷ []) ∷ [])
-    ∷ ((39 ∷ 10 ∷ 0 ∷ 2 ∷ []) ∷ (2 ∷ 0 ∷ 0 ∷ 1 ∷ []) ∷ [])
-    ∷ ((18 ∷ 1 ∷ 0 ∷ 2 ∷ []) ∷ (24 ∷ 0 ∷ 0 ∷ 1 ∷ []) ∷ []) ∷ []
+    ≡ (leaf kind.None ∷ [])
+    ∷ (leaf kind.Boolean ∷ [])
+    ∷ ((kind.Boolean ∷ 1 ∷ 0 ∷ 1 ∷ []) ∷ [])
+    ∷ (leaf kind.Hexadecimal ∷ [])
+    ∷ (leaf kind.Binary ∷ [])
+    ∷ (leaf kind.Witness ∷ [])
+    ∷ (leaf kind.ParameterValue ∷ [])
+    ∷ (leaf kind.Variable ∷ [])
+    ∷ ((kind.Parenthesised ∷ 0 ∷ 0 ∷ 2 ∷ []) ∷ leaf kind.Decimal ∷ [])
+    ∷ ((kind.Tuple ∷ 0 ∷ 0 ∷ 2 ∷ []) ∷ leaf kind.Decimal ∷ [])
+    ∷ (leaf kind.Tuple ∷ [])
+    ∷ ((kind.Array ∷ 0 ∷ 0 ∷ 2 ∷ []) ∷ leaf kind.Decimal ∷ [])
+    ∷ (leaf kind.List ∷ [])
+    ∷ ((kind.EnumConstruction ∷ 2 ∷ 0 ∷ 3 ∷ []) ∷ leaf kind.Name ∷ leaf kind.Name ∷ [])
+    ∷ ((kind.EnumConstruction ∷ 3 ∷ 0 ∷ 4 ∷ []) ∷ leaf kind.Name ∷ leaf kind.Name ∷ leaf kind.Name ∷ [])
+    ∷ ((kind.EnumConstruction ∷ 2 ∷ 0 ∷ 4 ∷ []) ∷ leaf kind.Name ∷ leaf kind.Name ∷ leaf kind.Decimal ∷ [])
+    ∷ ((kind.Right ∷ 0 ∷ 0 ∷ 2 ∷ []) ∷ leaf kind.Variable ∷ [])
+    ∷ ((kind.Some ∷ 0 ∷ 0 ∷ 2 ∷ []) ∷ leaf kind.Variable ∷ [])
+    ∷ ((kind.Call ∷ call.Custom ∷ 0 ∷ 4 ∷ []) ∷ leaf kind.Name ∷ leaf kind.Variable ∷ leaf kind.Variable ∷ [])
+    ∷ ((kind.Call ∷ call.Custom ∷ 0 ∷ 2 ∷ []) ∷ leaf kind.Name ∷ [])
+    ∷ ((kind.Block ∷ 1 ∷ 0 ∷ 2 ∷ []) ∷ leaf kind.Decimal ∷ []) ∷ []
 unfolding recordsOf
 expressions = refl
 
@@ -252,13 +262,13 @@ expressions = refl
 pub matches : map (λ text. drop 3 (made text)) ("fn f(){match x{A::B=>1,A::C(p:u1,(q,):u2)=>{}A::D(_:T,)=>2,}}"
     ∷ "fn f(){match x{Right(a:u1)=>a,Left(b:u2)=>b,}}"
     ∷ "fn f(){match x{Some(a:T)=>1,None=>{2}}}" ∷ [])
-    ≡ ((36 ∷ 0 ∷ 0 ∷ 21 ∷ []) ∷ (29 ∷ 0 ∷ 0 ∷ 1 ∷ []) ∷ (38 ∷ 2 ∷ 0 ∷ 4 ∷ []) ∷ (2 ∷ 0 ∷ 0 ∷ 1 ∷ []) ∷ (2 ∷ 0 ∷ 0 ∷ 1 ∷ []) ∷ (24 ∷ 0 ∷ 0 ∷ 1 ∷ [])
-    ∷ (38 ∷ 2 ∷ 2 ∷ 9 ∷ []) ∷ (2 ∷ 0 ∷ 0 ∷ 1 ∷ []) ∷ (2 ∷ 0 ∷ 0 ∷ 1 ∷ []) ∷ (13 ∷ 0 ∷ 0 ∷ 1 ∷ []) ∷ (7 ∷ 1 ∷ 0 ∷ 1 ∷ []) ∷ (15 ∷ 0 ∷ 0 ∷ 2 ∷ [])
-    ∷ (13 ∷ 0 ∷ 0 ∷ 1 ∷ []) ∷ (7 ∷ 2 ∷ 0 ∷ 1 ∷ []) ∷ (18 ∷ 0 ∷ 0 ∷ 1 ∷ []) ∷ (38 ∷ 2 ∷ 1 ∷ 6 ∷ []) ∷ (2 ∷ 0 ∷ 0 ∷ 1 ∷ []) ∷ (2 ∷ 0 ∷ 0 ∷ 1 ∷ [])
-    ∷ (14 ∷ 0 ∷ 0 ∷ 1 ∷ []) ∷ (4 ∷ 0 ∷ 0 ∷ 1 ∷ []) ∷ (24 ∷ 0 ∷ 0 ∷ 1 ∷ []) ∷ [])
-    ∷ ((35 ∷ 0 ∷ 0 ∷ 10 ∷ []) ∷ (29 ∷ 0 ∷ 0 ∷ 1 ∷ []) ∷ (37 ∷ 1 ∷ 0 ∷ 4 ∷ []) ∷ (13 ∷ 0 ∷ 0 ∷ 1 ∷ []) ∷ (7 ∷ 2 ∷ 0 ∷ 1 ∷ []) ∷ (29 ∷ 0 ∷ 0 ∷ 1 ∷ [])
-    ∷ (37 ∷ 2 ∷ 0 ∷ 4 ∷ []) ∷ (13 ∷ 0 ∷ 0 ∷ 1 ∷ []) ∷ (7 ∷ 1 ∷ 0 ∷ 1 ∷ []) ∷ (29 ∷ 0 ∷ 0 ∷ 1 ∷ []) ∷ [])
-    ∷ ((35 ∷ 0 ∷ 0 ∷ 9 ∷ []) ∷ (29 ∷ 0 ∷ 0 ∷ 1 ∷ []) ∷ (37 ∷ 3 ∷ 0 ∷ 3 ∷ []) ∷ (18 ∷ 1 ∷ 0 ∷ 2 ∷ []) ∷ (24 ∷ 0 ∷ 0 ∷ 1 ∷ []) ∷ (37 ∷ 4 ∷ 0 ∷ 4 ∷ [])
-    ∷ (13 ∷ 0 ∷ 0 ∷ 1 ∷ []) ∷ (4 ∷ 0 ∷ 0 ∷ 1 ∷ []) ∷ (24 ∷ 0 ∷ 0 ∷ 1 ∷ []) ∷ []) ∷ []
+    ≡ ((kind.EnumMatch ∷ 0 ∷ 0 ∷ 21 ∷ []) ∷ leaf kind.Variable ∷ (kind.EnumArm ∷ 2 ∷ 0 ∷ 4 ∷ []) ∷ leaf kind.Name ∷ leaf kind.Name ∷ leaf kind.Decimal
+    ∷ (kind.EnumArm ∷ 2 ∷ 2 ∷ 9 ∷ []) ∷ leaf kind.Name ∷ leaf kind.Name ∷ leaf kind.IdentifierPattern ∷ (kind.Unsigned ∷ 1 ∷ 0 ∷ 1 ∷ []) ∷ (kind.TuplePattern ∷ 0 ∷ 0 ∷ 2 ∷ [])
+    ∷ leaf kind.IdentifierPattern ∷ (kind.Unsigned ∷ 2 ∷ 0 ∷ 1 ∷ []) ∷ leaf kind.Block ∷ (kind.EnumArm ∷ 2 ∷ 1 ∷ 6 ∷ []) ∷ leaf kind.Name ∷ leaf kind.Name
+    ∷ leaf kind.IgnorePattern ∷ leaf kind.Alias ∷ leaf kind.Decimal ∷ [])
+    ∷ ((kind.Match ∷ 0 ∷ 0 ∷ 10 ∷ []) ∷ leaf kind.Variable ∷ (kind.BuiltinArm ∷ arm.Left ∷ 0 ∷ 4 ∷ []) ∷ leaf kind.IdentifierPattern ∷ (kind.Unsigned ∷ 2 ∷ 0 ∷ 1 ∷ []) ∷ leaf kind.Variable
+    ∷ (kind.BuiltinArm ∷ arm.Right ∷ 0 ∷ 4 ∷ []) ∷ leaf kind.IdentifierPattern ∷ (kind.Unsigned ∷ 1 ∷ 0 ∷ 1 ∷ []) ∷ leaf kind.Variable ∷ [])
+    ∷ ((kind.Match ∷ 0 ∷ 0 ∷ 9 ∷ []) ∷ leaf kind.Variable ∷ (kind.BuiltinArm ∷ arm.None ∷ 0 ∷ 3 ∷ []) ∷ (kind.Block ∷ 1 ∷ 0 ∷ 2 ∷ []) ∷ leaf kind.Decimal ∷ (kind.BuiltinArm ∷ arm.Some ∷ 0 ∷ 4 ∷ [])
+    ∷ leaf kind.IdentifierPattern ∷ leaf kind.Alias ∷ leaf kind.Decimal ∷ []) ∷ []
 unfolding recordsOf
 matches = refl

@@ -16,12 +16,17 @@ use Rattle.num.specs.Value.{numberOf}
 use Rattle.num.specs.declared.Value.{Value}
 use Rattle.num.specs.declared.Value.the-variants.{Number, TooLarge}
 use Rattle.theory.specs.Ebnf as shape
-use Rattle.own.specs.Tree.{Tok, Items, none, mark, sub, Node, node, marks}
+use Rattle.own.specs.Tree.{Tok, Items, none, mark, sub, Node, kids, marks}
 use Rattle.own.specs.Flat.{no-token}
 use Rattle.own.specs.Law.{Sort, word, child}
 use Rattle.own.specs.Rules.{sorts}
-use Rattle.kinds.specs.Shape.{has, span}
+use Rattle.own.specs.Kinds as kind
+use Rattle.own.specs.Arms as arm
+use Rattle.own.specs.Calls as call
+use Rattle.kinds.specs.Shape.{has, halfRange}
+use Rattle.kinds.specs.Families as family
 use Rattle.kinds.specs.Fields.{counted}
+use Rattle.kinds.specs.Rules.{wrappers}
 use Rattle.lexer.specs.Classes as t
 
 -- The fields of a record that its shape decides.
@@ -37,12 +42,16 @@ head k l h = record { kind = k; low = l; high = h }
 abbrev pub plain : ℕ → Head
 plain k = head k 0 0
 
+-- The largest 64-bit number.
+abbrev pub largest : ℕ
+largest = 18446744073709551615
+
 -- "together they hold a 64-bit number where `number` stands": its two halves of 32 bits.
 unfoldable pub lowHalf : ℕ → ℕ
-lowHalf n = n % 4294967296
+lowHalf n = n % halfRange
 
 unfoldable pub highHalf : ℕ → ℕ
-highHalf n = n / 4294967296
+highHalf n = n / halfRange
 
 abbrev pub wide : ℕ → ℕ → Head
 wide k n = head k (lowHalf n) (highHalf n)
@@ -94,70 +103,74 @@ placeIn d n (a ∷ l) c = cond (eqb c a) n (placeIn d (suc n) l c)
 -- "4–7 alias, builtin (low 0–23 in `BuiltinAlias` order), bool, unsigned (`u1` to `u256`, powers of two only; low bits)":
 -- by the text of the name. The names that a rule speaks of are none of these, so only a plain name is looked at.
 unfoldable pub builtinType : Found → Head
-builtinType (Word i) = head 5 i 0
-builtinType Plain = plain 4
+builtinType (Word i) = head kind.Builtin i 0
+builtinType Plain = plain kind.Alias
 
 unfoldable pub unsignedType : Found → Head → Head
-unsignedType (Word i) other = head 7 (2 ^ i) 0
+unsignedType (Word i) other = head kind.Unsigned (2 ^ i) 0
 unsignedType Plain other = other
 
 unfoldable pub boolType : Found → Head → Head
-boolType (Word i) other = plain 6
+boolType (Word i) other = plain kind.BoolType
 boolType Plain other = other
 
 unfoldable pub typeName : List ℕ → ℕ → Head
 typeName text c =
-    cond (eqb c t.Ident) (boolType (wordOf BOOL text) (unsignedType (wordOf UINT_TYPES text) (builtinType (wordOf BUILTIN_ALIASES text)))) (plain 4)
+    cond (eqb c t.Ident) (boolType (wordOf BOOL text) (unsignedType (wordOf UINT_TYPES text) (builtinType (wordOf BUILTIN_ALIASES text)))) (plain kind.Alias)
 
 -- "13 identifier pattern, 14 `_`"
 unfoldable pub patternName : List ℕ → ℕ → Head
-patternName text c = cond (eqb c t.Ident && same text (ascii "_")) (plain 14) (plain 13)
+patternName text c = cond (eqb c t.Ident && same text (ascii "_")) (plain kind.IgnorePattern) (plain kind.IdentifierPattern)
 
 -- "22 None, 23 boolean (low 0 or 1), 24 decimal, 25 hexadecimal, 26 binary, 27 witness, 28 parameter value"
 unfoldable pub literalHead : ℕ → Head
 literalHead c =
-    cond (eqb c t.false) (head 23 0 0)
-    (cond (eqb c t.true) (head 23 1 0)
-    (cond (eqb c t.DecLiteral) (plain 24)
-    (cond (eqb c t.HexLiteral) (plain 25)
-    (cond (eqb c t.BinLiteral) (plain 26)
-    (cond (eqb c t.Witness) (plain 27) (plain 28))))))
+    cond (eqb c t.false) (head kind.Boolean 0 0)
+    (cond (eqb c t.true) (head kind.Boolean 1 0)
+    (cond (eqb c t.DecLiteral) (plain kind.Decimal)
+    (cond (eqb c t.HexLiteral) (plain kind.Hexadecimal)
+    (cond (eqb c t.BinLiteral) (plain kind.Binary)
+    (cond (eqb c t.Witness) (plain kind.Witness) (plain kind.ParameterValue))))))
 
 -- "1 function | low 1 for pub, plus 2 for a result type; high parameters."
 unfoldable pub functionHead : List Sort → Head
-functionHead w = head 1 (cond (sees t.Pub w) 1 0 + cond (sees t.Arrow w) 2 0) (counted (3 ∷ []) w)
+functionHead w = head kind.Function (cond (sees t.Pub w) 1 0 + cond (sees t.Arrow w) 2 0) (counted (kind.Parameter ∷ []) w)
 
--- "39 call | low 1–14 in `CallName` order", by the token that it begins with; `<T>::into` begins with `<`, and 10 is any other function.
+-- "39 call | low 1–14 in `CallName` order": the tokens that calls begin with, in that order; `<T>::into` begins with `<`.
+abbrev pub callWords : List ℕ
+callWords =
+    t.Jet ∷ t.unwrap-left ∷ t.unwrap-right ∷ t.unwrap ∷ t.is-none ∷ t.assert! ∷ t.panic! ∷ t.dbg! ∷ t.LAngle ∷ t.Ident ∷ t.fold ∷ t.array-fold ∷ t.for-while ∷ t.raw-hash ∷ []
+
+-- A call by the token that it begins with; any other is a function's name.
 unfoldable pub callHead : ℕ → Head
-callHead c =
-    head 39
-    (placeIn 10 1
-    (t.Jet ∷ t.unwrap-left ∷ t.unwrap-right ∷ t.unwrap ∷ t.is-none ∷ t.assert! ∷ t.panic! ∷ t.dbg! ∷ t.LAngle ∷ t.Ident ∷ t.fold ∷ t.array-fold ∷ t.for-while ∷ t.raw-hash ∷ [])
-    c)
-    0
+callHead c = head kind.Call (placeIn call.Custom call.Jet callWords c) 0
 
 -- "19 Left, 20 Right, 21 Some"
 unfoldable pub wrapperHead : ℕ → Head
-wrapperHead c = plain (placeIn 0 19 (t.Left ∷ t.Right ∷ t.Some ∷ []) c)
+wrapperHead c = plain (placeIn 0 kind.Left wrappers c)
 
 -- "`Left`, `Right`, `Some` with one expression in parentheses and no comma is that wrapper; with any other `(` it is a call of that name."
 unfoldable pub calledHead : List Sort → Head
-calledHead w = cond (has (t.Left ∷ t.Right ∷ t.Some ∷ []) (opening w) && lone w) (wrapperHead (opening w)) (callHead (opening w))
+calledHead w = cond (has wrappers (opening w) && lone w) (wrapperHead (opening w)) (callHead (opening w))
 
 -- A token alone: "`None` is itself unless `::` follows." "Other name tokens are variables".
 unfoldable pub aloneHead : ℕ → Head
-aloneHead c = cond (eqb c t.None) (plain 22) (plain 29)
+aloneHead c = cond (eqb c t.None) (plain kind.None) (plain kind.Variable)
 
 -- What begins with a name, a macro, a jet or `<`: a call with a type or a function in `< >`; "Two or more names joined by `::` construct
 -- an enum": "34 enum construction | low names"; a call or wrapper; a token alone.
 unfoldable pub nameHead : List Sort → Head
-nameHead w = cond (sees t.LAngle w) (callHead (opening w)) (cond (sees t.DoubleColon w) (head 34 (nameCount w) 0) (cond (sees t.LParen w) (calledHead w) (aloneHead (opening w))))
+nameHead w = cond (sees t.LAngle w) (callHead (opening w)) (cond (sees t.DoubleColon w) (head kind.EnumConstruction (nameCount w) 0) (cond (sees t.LParen w) (calledHead w) (aloneHead (opening w))))
 
--- "37 built-in arm | low 1–6: Left, Right, None, Some, False, True"; "38 enum arm | low names, high pairs", which has a `::`.
+-- "37 built-in arm | low 1–6: Left, Right, None, Some, False, True": the tokens that these begin with, in that order.
+abbrev pub armWords : List ℕ
+armWords = t.Left ∷ t.Right ∷ t.None ∷ t.Some ∷ t.false ∷ t.true ∷ []
+
+-- A built-in arm, or "38 enum arm | low names, high pairs", which has a `::`.
 unfoldable pub armHead : List Sort → Head
 armHead w =
-    cond (sees t.DoubleColon w) (head 38 (nameCount w) (counted (span 13 16) w))
-    (head 37 (placeIn 0 1 (t.Left ∷ t.Right ∷ t.None ∷ t.Some ∷ t.false ∷ t.true ∷ []) (opening w)) 0)
+    cond (sees t.DoubleColon w) (head kind.EnumArm (nameCount w) (counted family.patterns w))
+    (head kind.BuiltinArm (placeIn 0 arm.Left armWords (opening w)) 0)
 
 -- How a shape decides the head of its record.
 pub data Form : Type 0 where
@@ -180,7 +193,7 @@ pub data Form : Type 0 where
 unfoldable pub headOf : Form → List ℕ → ℕ → List Sort → Head
 headOf (always k) text n w = plain k
 headOf (numbered k) text n w = wide k n
-headOf (angled k) text n w = cond (sees t.LAngle w) (wide k n) (plain 4)
+headOf (angled k) text n w = cond (sees t.LAngle w) (wide k n) (plain kind.Alias)
 headOf (lonely k j) text n w = cond (lone w) (plain k) (plain j)
 headOf aFunction text n w = functionHead w
 headOf aTypeName text n w = typeName text (opening w)
@@ -188,22 +201,22 @@ headOf aPatternName text n w = patternName text (opening w)
 headOf aLiteral text n w = literalHead (opening w)
 headOf aName text n w = nameHead w
 headOf anArm text n w = armHead w
-headOf aBlock text n w = head 18 (cond (unended false w) 1 0) 0
-headOf aMatch text n w = cond (ltb 0 (counted (38 ∷ []) w)) (plain 36) (plain 35)
+headOf aBlock text n w = head kind.Block (cond (unended false w) 1 0) 0
+headOf aMatch text n w = cond (ltb 0 (counted (kind.EnumArm ∷ []) w)) (plain kind.EnumMatch) (plain kind.Match)
 
 -- The form of each kind of shape, in the order of `shapes` (ShapeKind.antt).
 unfoldable pub forms : List Form
 forms =
     -- a function, a parameter
-    aFunction ∷ always 3
+    aFunction ∷ always kind.Parameter
     -- types: Either, Option, List, a name, a tuple, an array
-    ∷ angled 8 ∷ angled 9 ∷ angled 12 ∷ aTypeName ∷ always 10 ∷ numbered 11
+    ∷ angled kind.EitherType ∷ angled kind.OptionType ∷ angled kind.ListType ∷ aTypeName ∷ always kind.TupleType ∷ numbered kind.ArrayType
     -- patterns: a name, a tuple, an array
-    ∷ aPatternName ∷ always 15 ∷ always 16
+    ∷ aPatternName ∷ always kind.TuplePattern ∷ always kind.ArrayPattern
     -- a block, a `let`
-    ∷ aBlock ∷ always 17
+    ∷ aBlock ∷ always kind.Let
     -- expressions: a literal, in parentheses, an array, a list, a match
-    ∷ aLiteral ∷ lonely 30 31 ∷ always 32 ∷ always 33 ∷ aMatch
+    ∷ aLiteral ∷ lonely kind.Parenthesised kind.Tuple ∷ always kind.Array ∷ always kind.List ∷ aMatch
     -- a simple call, a cast, and the five that begin with a name
     ∷ aName ∷ aName ∷ aName ∷ aName ∷ aName ∷ aName ∷ aName
     -- an arm
@@ -212,7 +225,7 @@ forms =
 unfoldable pub formOf : ℕ → Form
 formOf k = getD forms k (always 0)
 
--- What a token of a record is: a mark of its own, a name (kind 2) or a number (kind 40).
+-- What a token of a record is: a mark of its own, or a record of its own, a name or a number.
 pub data Role : Type 0 where
   aMark : Role
   asName : Role
@@ -221,15 +234,15 @@ pub data Role : Type 0 where
 -- "In a call a jet's token or a function name is a kind 2 child", and its decimal a kind 40; in a function, a parameter, an enum
 -- construction and an enum arm every name is a kind 2 child; in any other record no token is a child. By kind and the token's class.
 unfoldable pub roleOf : ℕ → ℕ → Role
-roleOf kind c =
-    cond (has (1 ∷ 3 ∷ 34 ∷ 38 ∷ []) kind) (cond (has t.identifiers c) asName aMark)
-    (cond (eqb kind 39) (cond (has (t.Jet ∷ t.functionNames) c) asName (cond (eqb c t.DecLiteral) asNumber aMark)) aMark)
+roleOf k c =
+    cond (has family.namesKept k) (cond (has t.identifiers c) asName aMark)
+    (cond (eqb k kind.Call) (cond (has (t.Jet ∷ t.functionNames) c) asName (cond (eqb c t.DecLiteral) asNumber aMark)) aMark)
 
 -- A token in its role, and what follows; the number is n.
 unfoldable pub placed : Role → ℕ → Tok → Items → Items
 placed aMark n t r = mark t r
-placed asName n t r = sub 2 0 0 (mark t none) r
-placed asNumber n t r = sub 40 (lowHalf n) (highHalf n) (mark t none) r
+placed asName n t r = sub kind.Name 0 0 (mark t none) r
+placed asNumber n t r = sub kind.Number (lowHalf n) (highHalf n) (mark t none) r
 
 -- The items of a record of this kind: each of its tokens in its role, its parts as they are.
 unfoldable pub arranged : ℕ → ℕ → Items → Items
@@ -270,12 +283,6 @@ recordItems draft (shape.sub k js r) ts =
     let is = recordItems draft js ts in
     recorded (reads (decimal draft is)) (headFor draft k is) is (recordItems draft r (drop (length (shape.yield js)) ts))
 
--- The first node of a list of items.
-unfoldable pub top : Items → Node
-top none = node 0 0 0 none
-top (mark t r) = top r
-top (sub k l h js r) = node k l h js
-
--- The record tree of a draft, from its tokens and their shape tree.
-unfoldable pub recordTree : List ℕ → List Tok → shape.Items → Node
-recordTree draft ts r = top (recordItems draft r ts)
+-- The record trees of a draft, side by side, from its tokens and their shape tree.
+unfoldable pub recordTrees : List ℕ → List Tok → shape.Items → List Node
+recordTrees draft ts r = kids (recordItems draft r ts)

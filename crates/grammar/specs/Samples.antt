@@ -17,6 +17,7 @@ use Rattle.lexer.specs.Classes as t
 use Rattle.grammar.specs.ShapeKind.{FunctionShape, BlockShape, LiteralShape, MatchShape, NamedShape, ArmShape}
 use Rattle.grammar.specs.Shapes.{shapes}
 use Rattle.grammar.specs.Tables.{table, means}
+use Rattle.grammar.specs.Entry.{oneFunction}
 use Rattle.grammar.specs.WellShaped.{shapeOf}
 
 -- "B stands in braces after the head", `fn f()`: the classes of its tokens,
@@ -36,7 +37,7 @@ armed c r = sub ArmShape (word c (word t.FatArrow (number (word t.Comma nil)))) 
 
 -- Accepted: empty B; `match b{true~1,false~2,}`; `Left(1)`; `Left(1,)`; `A::B()`.
 accepted :
-    map shapeOf (
+    map (shapeOf oneFunction) (
     with-head [] ∷
     with-head (t.Match ∷ t.Ident ∷ t.LBrace ∷ t.true ∷ t.FatArrow ∷ t.DecLiteral ∷ t.Comma ∷ t.false ∷ t.FatArrow ∷ t.DecLiteral ∷ t.Comma ∷ t.RBrace ∷ []) ∷
     with-head (t.Left ∷ t.LParen ∷ t.DecLiteral ∷ t.RParen ∷ []) ∷
@@ -53,7 +54,7 @@ accepted = refl
 
 -- Refused: the empty draft; `fn f(`, at its end; `match x{A::B()~1,}`; `{1} 2`; `fold(x)`; `match x{true~1,false~2}`; `None(1)`.
 refused :
-    map shapeOf (
+    map (shapeOf oneFunction) (
     [] ∷
     (t.Fn ∷ t.Ident ∷ t.LParen ∷ []) ∷
     with-head (t.Match ∷ t.Ident ∷ t.LBrace ∷ t.Ident ∷ t.DoubleColon ∷ t.Ident ∷ t.LParen ∷ t.RParen ∷ t.FatArrow ∷ t.DecLiteral ∷ t.Comma ∷ t.RBrace ∷ []) ∷
@@ -75,7 +76,7 @@ unfoldable match-of : List ℕ → List ℕ
 match-of cs = t.Match ∷ t.Ident ∷ t.LBrace ∷ (cs ++ (t.FatArrow ∷ t.DecLiteral ∷ t.Comma ∷ t.RBrace ∷ []))
 
 refused-too :
-    map shapeOf (
+    map (shapeOf oneFunction) (
     (t.Fn ∷ t.fold ∷ t.LParen ∷ t.RParen ∷ t.LBrace ∷ t.RBrace ∷ []) ∷
     with-head (let-of (t.Ident ∷ [])) ∷
     with-head (let-of (t.Either ∷ t.LAngle ∷ t.Ident ∷ t.Comma ∷ t.Ident ∷ []) ++ (t.Semi ∷ [])) ∷
@@ -99,7 +100,7 @@ tree-found (found r) = true
 tree-found (stuck p) = false
 
 accepted-too :
-    all (λ cs. tree-found (shapeOf cs)) (
+    all (λ cs. tree-found (shapeOf oneFunction cs)) (
     with-head (let-of (t.Either ∷ []) ++ (t.Semi ∷ [])) ∷
     with-head (let-of (t.List ∷ t.LAngle ∷ t.Ident ∷ t.Comma ∷ t.DecLiteral ∷ t.RAngle ∷ []) ++ (t.Semi ∷ [])) ∷
     with-head (t.Let ∷ t.LParen ∷ t.Ident ∷ t.Comma ∷ t.LBracket ∷ t.Ident ∷ t.RBracket ∷ t.Comma ∷ t.RParen ∷ t.Colon ∷ t.LParen ∷ t.Ident ∷ t.Comma ∷ t.RParen ∷ t.Eq ∷ t.DecLiteral ∷ t.Semi ∷ []) ∷

@@ -1,21 +1,30 @@
--- Past the forty kinds and the 62 classes nothing may be owned or held: the bounds are computed over the table of forms.
+-- Past the last kind and the last class nothing may be owned or held: the bounds are computed over the table of forms.
 -- Assumes nothing.
 use mathlib.Core.Bool.{Bool, false}
 use mathlib.Core.List.{List, [], _∷_, _++_}
 use mathlib.Core.Path.{_≡_, refl}
-use Prim.Native.Nat.{ℕ, _≤_}
+use Prim.Native.Nat.{ℕ, suc, _≤_}
 use native.Mathlib.Omega.{arith}
 use borrow.Author.Tests.{ne-eqb}
 use lib.Dec.{T, eqb, ltb, ltb→lt}
 use Rattle.text.specs.Table.{first-of, second-of}
 use Rattle.own.specs.Flat.{keep}
 use Rattle.own.specs.Places.{pair}
+use Rattle.own.specs.Kinds as kind
+use Rattle.lexer.specs.Classes as t
 use Rattle.kinds.specs.Lists.{some, all, all-keep}
 use Rattle.kinds.specs.Shape.{has, count, span, Shape}
 use Rattle.kinds.specs.Rules.{Form, forms}
 use Rattle.kinds.specs.Spelled.{formsOf}
 use Rattle.kinds.specs.Decide.{kindsOf, gather, classesIn, kindsIn, inForms, mayOwn, mayHold}
 use Rattle.kinds.specs.Groups.{groups, categories, bits, groupSet, markSet, categorySet, partSet}
+
+-- The number after the last class, and that after the last kind.
+abbrev classesEnd : ℕ
+classesEnd = suc t.true
+
+abbrev kindsEnd : ℕ
+kindsEnd = suc kind.Last
 
 -- All numbers of a list are below n.
 abbrev under : ℕ → List ℕ → Bool
@@ -45,47 +54,47 @@ kind-under : (f : Shape → List ℕ) (n kind : ℕ) → T (all (λ x. under n (
 unfolding formsOf
 kind-under f n kind t = forms-under f n (formsOf kind) (all-keep (λ x. under n (f (x .shape))) (λ x. eqb (x .kind) kind) forms t)
 
-classes-under : T (all (λ x. under 63 (classesIn (x .shape))) forms)
+classes-under : T (all (λ x. under classesEnd (classesIn (x .shape))) forms)
 unfolding all gather forms
 classes-under = tt
 
-kinds-under : T (all (λ x. under 41 (kindsIn (x .shape))) forms)
+kinds-under : T (all (λ x. under kindsEnd (kindsIn (x .shape))) forms)
 unfolding all gather kindsOf forms count span
 kinds-under = tt
 
--- No kind owns a class past 62.
-pub no-class : (kind class : ℕ) → 63 ≤ class → mayOwn kind class ≡ false
+-- No kind owns a class past the last.
+pub no-class : (kind class : ℕ) → classesEnd ≤ class → mayOwn kind class ≡ false
 unfolding mayOwn
-no-class kind class h = has-none (inForms classesIn (formsOf kind)) 63 class (kind-under classesIn 63 kind classes-under) h
+no-class kind class h = has-none (inForms classesIn (formsOf kind)) classesEnd class (kind-under classesIn classesEnd kind classes-under) h
 
--- No kind holds a kind past 40.
-pub no-child : (kind kid : ℕ) → 41 ≤ kid → mayHold kind kid ≡ false
+-- No kind holds a kind past the last.
+pub no-child : (kind kid : ℕ) → kindsEnd ≤ kid → mayHold kind kid ≡ false
 unfolding mayHold
-no-child kind kid h = has-none (inForms kindsIn (formsOf kind)) 41 kid (kind-under kindsIn 41 kind kinds-under) h
+no-child kind kid h = has-none (inForms kindsIn (formsOf kind)) kindsEnd kid (kind-under kindsIn kindsEnd kind kinds-under) h
 
--- no form is of a kind past 40
-keep-none : (l : List Form) (kind : ℕ) → T (all (λ x. ltb (x .kind) 41) l) → 41 ≤ kind → keep (λ x. eqb (x .kind) kind) l ≡ []
+-- no form is of a kind past the last
+keep-none : (l : List Form) (kind : ℕ) → T (all (λ x. ltb (x .kind) kindsEnd) l) → kindsEnd ≤ kind → keep (λ x. eqb (x .kind) kind) l ≡ []
 unfolding all
 keep-none [] kind t h = refl
 keep-none (x ∷ l) kind t h =
-    let lt = ltb→lt (x .kind) 41 (first-of (ltb (x .kind) 41) (all (λ y. ltb (y .kind) 41) l) t) in
-    rw (ne-eqb (x .kind) kind (λ e. omega arith)) (keep-none l kind (second-of (ltb (x .kind) 41) (all (λ y. ltb (y .kind) 41) l) t) h)
+    let lt = ltb→lt (x .kind) kindsEnd (first-of (ltb (x .kind) kindsEnd) (all (λ y. ltb (y .kind) kindsEnd) l) t) in
+    rw (ne-eqb (x .kind) kind (λ e. omega arith)) (keep-none l kind (second-of (ltb (x .kind) kindsEnd) (all (λ y. ltb (y .kind) kindsEnd) l) t) h)
 
-kinds-forty : T (all (λ x. ltb (x .kind) 41) forms)
+kinds-listed : T (all (λ x. ltb (x .kind) kindsEnd) forms)
 unfolding all forms
-kinds-forty = tt
+kinds-listed = tt
 
-no-forms : (kind : ℕ) → 41 ≤ kind → formsOf kind ≡ []
+no-forms : (kind : ℕ) → kindsEnd ≤ kind → formsOf kind ≡ []
 unfolding formsOf
-no-forms kind h = keep-none forms kind kinds-forty h
+no-forms kind h = keep-none forms kind kinds-listed h
 
--- A kind past 40 owns nothing.
-pub no-owner : (kind class : ℕ) → 41 ≤ kind → mayOwn kind class ≡ false
+-- A kind past the last owns nothing.
+pub no-owner : (kind class : ℕ) → kindsEnd ≤ kind → mayOwn kind class ≡ false
 unfolding mayOwn has inForms
 no-owner kind class h = rw (no-forms kind h) refl
 
--- A kind past 40 holds nothing.
-pub no-holder : (kind kid : ℕ) → 41 ≤ kind → mayHold kind kid ≡ false
+-- A kind past the last holds nothing.
+pub no-holder : (kind kid : ℕ) → kindsEnd ≤ kind → mayHold kind kid ≡ false
 unfolding mayHold has inForms
 no-holder kind kid h = rw (no-forms kind h) refl
 
@@ -100,13 +109,13 @@ unfolding some
 some-none p h [] = refl
 some-none p h (x ∷ l) = rw (h x, some-none p h l) refl
 
--- A kind past 40 has no marks.
-pub no-marks : (kind : ℕ) → 41 ≤ kind → markSet kind ≡ 0
+-- A kind past the last has no marks.
+pub no-marks : (kind : ℕ) → kindsEnd ≤ kind → markSet kind ≡ 0
 unfolding markSet
 no-marks kind h = bits-none (some (mayOwn kind)) groups (some-none (mayOwn kind) (λ c. no-owner kind c h))
 
--- A kind past 40 has no children.
-pub no-parts : (kind : ℕ) → 41 ≤ kind → partSet kind ≡ 0
+-- A kind past the last has no children.
+pub no-parts : (kind : ℕ) → kindsEnd ≤ kind → partSet kind ≡ 0
 unfolding partSet
 no-parts kind h = bits-none (some (mayHold kind)) categories (some-none (mayHold kind) (λ c. no-holder kind c h))
 
@@ -116,12 +125,12 @@ group-none [] n x t h = refl
 group-none (g ∷ l) n x t h =
     rw (has-none g n x (first-of (under n g) (all (under n) l) t) h, group-none l n x (second-of (under n g) (all (under n) l) t) h) refl
 
--- A class past 62 is in no group.
-pub no-group : (class : ℕ) → 63 ≤ class → groupSet class ≡ 0
+-- A class past the last is in no group.
+pub no-group : (class : ℕ) → classesEnd ≤ class → groupSet class ≡ 0
 unfolding groupSet all groups
-no-group class h = group-none groups 63 class tt h
+no-group class h = group-none groups classesEnd class tt h
 
--- A kind past 40 is in no group.
-pub no-category : (kid : ℕ) → 41 ≤ kid → categorySet kid ≡ 0
+-- A kind past the last is in no group.
+pub no-category : (kid : ℕ) → kindsEnd ≤ kid → categorySet kid ≡ 0
 unfolding categorySet all categories count span
-no-category kid h = group-none categories 41 kid tt h
+no-category kid h = group-none categories kindsEnd kid tt h

@@ -10,6 +10,7 @@ use Rattle.own.specs.Tree.{Node, tokens, records}
 use Rattle.own.specs.Flat.{blank}
 use Rattle.own.specs.Law.{Sort, word, child, made}
 use Rattle.own.specs.Lists.{All, nil, _&_, all-map, all-append}
+use Rattle.own.specs.Kinds as kind
 use Rattle.kinds.specs.Lists.{Some, here, there}
 use Rattle.kinds.specs.Shape.{has, has-left, has-right, Part, of, name, arm, bound, size, isBound, number, fits, Shape, nothing, never, mark, part, _▸_, _∣_, many, Spells, empty, one-mark, one-part, seq, left, right, stop, more}
 use Rattle.kinds.specs.Rules.{Form}
@@ -19,10 +20,10 @@ use Rattle.kinds.specs.Ownership.{Right, law-3}
 -- The kinds of child that a part asks for.
 unfoldable pub kindsOf : Part → List ℕ
 kindsOf (of ks) = ks
-kindsOf (name cs) = 2 ∷ []
-kindsOf (arm n) = 37 ∷ []
-kindsOf bound = 40 ∷ []
-kindsOf size = 40 ∷ []
+kindsOf (name cs) = kind.Name ∷ []
+kindsOf (arm n) = kind.BuiltinArm ∷ []
+kindsOf bound = kind.Number ∷ []
+kindsOf size = kind.Number ∷ []
 
 -- What is gathered from all marks and all parts of a shape.
 unfoldable pub gather : (List ℕ → List ℕ) → (Part → List ℕ) → Shape → List ℕ
@@ -68,10 +69,10 @@ may kind (child k l h c) = mayHold kind k
 fits-kind : (p : Part) (k l h c : ℕ) → T (fits p k l h c) → T (has (kindsOf p) k)
 unfolding fits kindsOf has
 fits-kind (of ks) k l h c t = t
-fits-kind (name cs) k l h c t = rw (eqb→eq k 2 (first-of (eqb k 2) (has cs c) t)) tt
-fits-kind (arm n) k l h c t = rw (eqb→eq k 37 (first-of (eqb k 37) (eqb l n) t)) tt
-fits-kind bound k l h c t = rw (eqb→eq k 40 (first-of (eqb k 40) (isBound (number l h)) t)) tt
-fits-kind size k l h c t = rw (eqb→eq k 40 (first-of (eqb k 40) (ltb 0 (number l h)) t)) tt
+fits-kind (name cs) k l h c t = rw (eqb→eq k kind.Name (first-of (eqb k kind.Name) (has cs c) t)) tt
+fits-kind (arm n) k l h c t = rw (eqb→eq k kind.BuiltinArm (first-of (eqb k kind.BuiltinArm) (eqb l n) t)) tt
+fits-kind bound k l h c t = rw (eqb→eq k kind.Number (first-of (eqb k kind.Number) (isBound (number l h)) t)) tt
+fits-kind size k l h c t = rw (eqb→eq k kind.Number (first-of (eqb k kind.Number) (ltb 0 (number l h)) t)) tt
 
 -- what is listed is listed in longer lists
 more-left : (cs cs′ ks ks′ : List ℕ) {w : List Sort} → All (λ s. T (listed cs ks s)) w → All (λ s. T (listed (cs ++ cs′) (ks ++ ks′) s)) w

@@ -6,7 +6,9 @@ use mathlib.Core.List.{List, [], _∷_}
 use Prim.Native.Nat.{ℕ, _+_}
 use lib.Dec.{eqb, ltb}
 use Rattle.own.specs.Law.{Sort, word, child}
-use Rattle.kinds.specs.Shape.{has, span, number, isBound}
+use Rattle.own.specs.Kinds as kind
+use Rattle.kinds.specs.Shape.{has, halfRange, number, isBound}
+use Rattle.kinds.specs.Families as family
 
 -- What low and high hold.
 pub data Fields : Type 0 where
@@ -22,11 +24,11 @@ pub data Fields : Type 0 where
   wide : Fields
   -- a 64-bit number that is a bound
   bounded : Fields
-  -- low is this number, and high is how many parameters (children of kind 3) there are
+  -- low is this number, and high is how many of the children are parameters
   parameters : ℕ → Fields
-  -- low is how many names (children of kind 2) there are, and high is 0
+  -- low is how many of the children are names, and high is 0
   names : Fields
-  -- low is how many names there are, and high how many patterns (children of kinds 13 to 16)
+  -- low is how many of the children are names, and high how many are patterns
   pairs : Fields
 
 -- How many children are of one of these kinds.
@@ -37,7 +39,7 @@ counted ks (child k l h c ∷ w) = cond (has ks k) 1 0 + counted ks w
 
 -- Two 32-bit halves.
 unfoldable pub halves : ℕ → ℕ → Bool
-halves l h = ltb l 4294967296 && ltb h 4294967296
+halves l h = ltb l halfRange && ltb h halfRange
 
 -- Whether low and high are what the fields say, of a record with these pieces.
 unfoldable pub holds : Fields → ℕ → ℕ → List Sort → Bool
@@ -47,6 +49,6 @@ holds (below n) l h w = ltb l n && eqb h 0
 holds (among ns) l h w = has ns l && eqb h 0
 holds wide l h w = halves l h
 holds bounded l h w = halves l h && isBound (number l h)
-holds (parameters n) l h w = eqb l n && eqb h (counted (3 ∷ []) w)
-holds names l h w = eqb l (counted (2 ∷ []) w) && eqb h 0
-holds pairs l h w = eqb l (counted (2 ∷ []) w) && eqb h (counted (span 13 16) w)
+holds (parameters n) l h w = eqb l n && eqb h (counted (kind.Parameter ∷ []) w)
+holds names l h w = eqb l (counted (kind.Name ∷ []) w) && eqb h 0
+holds pairs l h w = eqb l (counted (kind.Name ∷ []) w) && eqb h (counted family.patterns w)

@@ -3,9 +3,11 @@
 use mathlib.Core.Bool.{Bool, cond}
 use mathlib.Core.List.{List, [], _∷_}
 use Prim.Native.Nat.{ℕ, _+_, _*_}
+use Rattle.own.specs.Kinds as kind
 use Rattle.lexer.specs.Classes as t
 use Rattle.kinds.specs.Lists.{some}
-use Rattle.kinds.specs.Shape.{has, span}
+use Rattle.kinds.specs.Shape.{has}
+use Rattle.kinds.specs.Families as family
 use Rattle.kinds.specs.Decide.{mayOwn, mayHold}
 
 -- The groups of token classes.
@@ -44,10 +46,20 @@ groups =
     ∷ (t.false ∷ t.true ∷ [])
     ∷ []
 
--- The groups of child kinds: name, parameter, types, patterns, let, block, other expressions, built-in arm, enum arm, number.
+-- The groups of child kinds.
 unfoldable pub categories : List (List ℕ)
 categories =
-    (2 ∷ []) ∷ (3 ∷ []) ∷ span 4 12 ∷ span 13 16 ∷ (17 ∷ []) ∷ (18 ∷ []) ∷ (39 ∷ span 19 36) ∷ (37 ∷ []) ∷ (38 ∷ []) ∷ (40 ∷ []) ∷ []
+    (kind.Name ∷ [])
+    ∷ (kind.Parameter ∷ [])
+    ∷ family.types
+    ∷ family.patterns
+    ∷ (kind.Let ∷ [])
+    ∷ family.blocks
+    ∷ family.singles
+    ∷ (kind.BuiltinArm ∷ [])
+    ∷ (kind.EnumArm ∷ [])
+    ∷ (kind.Number ∷ [])
+    ∷ []
 
 -- The set of the groups that pass a test.
 unfoldable pub bits : (List ℕ → Bool) → List (List ℕ) → ℕ

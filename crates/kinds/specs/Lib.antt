@@ -1,6 +1,7 @@
 pub mod Lists
 pub mod Words
 pub mod Shape
+pub mod Families
 pub mod Derive
 pub mod Fields
 pub mod Rules

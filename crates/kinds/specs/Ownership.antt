@@ -15,12 +15,14 @@ use Rattle.own.specs.Law.{Sort, word, child, Ownership}
 use Rattle.own.specs.Places.{or-left, or-right, or-cases}
 use Rattle.own.specs.Rules.{sorts, Keeps, each-map, ownership}
 use Rattle.own.specs.Words.{toks, recs, handed}
+use Rattle.own.specs.Kinds as kind
+use Rattle.own.specs.Arms as arm
 use Rattle.kinds.specs.Words.{classOf}
 use Rattle.kinds.specs.Lists.{some, all, all-keep, all-some, from-some, only-one}
 use Rattle.kinds.specs.Shape.{count, span, arm, fits, Shape, nothing, never, part, _▸_, _∣_, many, Spells, empty, one-mark, one-part, seq, left, right, stop, more}
 use Rattle.kinds.specs.Shape as shape
 use Rattle.lexer.specs.Classes as t
-use Rattle.kinds.specs.Rules.{forms, the, expression, braces, arms}
+use Rattle.kinds.specs.Rules.{forms, the, expression, braces, arms, partners}
 use Rattle.kinds.specs.Spelled.{formsOf, Spelled}
 
 -- Whether every sequence of a shape has a mark.
@@ -38,8 +40,8 @@ pub each-marked : T (all (λ f. marked (f .shape)) forms)
 unfolding all marked forms
 each-marked = tt
 
--- Each of the forty kinds has a form, by one computation.
-pub each-kind : T (all (λ k. some (λ f. true) (formsOf k)) (span 1 40))
+-- Each kind has a form, by one computation.
+pub each-kind : T (all (λ k. some (λ f. true) (formsOf k)) (span kind.Function kind.Last))
 unfolding all some formsOf forms count span
 each-kind = tt
 
@@ -92,9 +94,9 @@ record Arms (v : List Sort) : Type 0 where
   are : v ≡ child (a .kind) (a .low) (a .high) a-class ∷ child (b .kind) (b .low) (b .high) b-class ∷ []
   partners : T (canonical a b || canonical b a)
 
-is-arm : (k l n h c : ℕ) → T (fits (arm n) k l h c) → (k ≡ 37) × (l ≡ n)
+is-arm : (k l n h c : ℕ) → T (fits (arm n) k l h c) → (k ≡ kind.BuiltinArm) × (l ≡ n)
 unfolding fits
-is-arm k l n h c t = (eqb→eq k 37 (first-of (eqb k 37) (eqb l n) t), eqb→eq l n (second-of (eqb k 37) (eqb l n) t))
+is-arm k l n h c t = (eqb→eq k kind.BuiltinArm (first-of (eqb k kind.BuiltinArm) (eqb l n) t), eqb→eq l n (second-of (eqb k kind.BuiltinArm) (eqb l n) t))
 
 arms-are : (x y : ℕ) → T (partner x y) → {v : List Sort} → Spells (arms x y) v → Arms v
 unfolding canonical
@@ -123,11 +125,11 @@ arms-are x y t (right (seq (one-part k l h c p) (one-part k′ l′ h′ c′ p�
           (or-right (partner y x) (partner x y) t);
     }
 
-any-arms : {v : List Sort} → Spells (arms 1 2 ∣ arms 3 4 ∣ arms 5 6) v → Arms v
+any-arms : {v : List Sort} → Spells partners v → Arms v
 unfolding partner
-any-arms (left p) = arms-are 1 2 tt p
-any-arms (right (left p)) = arms-are 3 4 tt p
-any-arms (right (right p)) = arms-are 5 6 tt p
+any-arms (left p) = arms-are arm.Left arm.Right tt p
+any-arms (right (left p)) = arms-are arm.None arm.Some tt p
+any-arms (right (right p)) = arms-are arm.False arm.True tt p
 
 -- the children that a rule sees, as nodes with nothing beneath
 kidsOf : List Sort → List Node
@@ -152,7 +154,7 @@ paired-seen (e ∷ a ∷ []) = refl
 paired-seen (e ∷ a ∷ b ∷ []) = refl
 paired-seen (e ∷ a ∷ b ∷ c ∷ l) = refl
 
-match-paired : {w : List Sort} → Spells (the t.Match ▸ expression ▸ braces (arms 1 2 ∣ arms 3 4 ∣ arms 5 6)) w → T (paired (kidsOf w))
+match-paired : {w : List Sort} → Spells (the t.Match ▸ expression ▸ braces partners) w → T (paired (kidsOf w))
 unfolding kidsOf canonical
 match-paired (seq (one-mark c p) (seq (one-part k l h c′ q) (seq (one-mark d r) (seq {v = v} x (one-mark e z))))) =
     let a = any-arms x in
@@ -162,7 +164,7 @@ match-paired (seq (one-mark c p) (seq (one-part k l h c′ q) (seq (one-mark d r
 pub pairs : (n : Node) → Keeps Spelled n → Paired n
 unfolding formsOf forms
 pairs n s e =
-    let its : Spelled 35 (n .low) (n .high) (sorts (n .items)) = subst (λ (k : ℕ). Spelled k (n .low) (n .high) (sorts (n .items))) e s in
+    let its : Spelled kind.Match (n .low) (n .high) (sorts (n .items)) = subst (λ (k : ℕ). Spelled k (n .low) (n .high) (sorts (n .items))) e s in
     subst (λ b. T b) (ap paired (kids-seen (n .items)) ∙ paired-seen (kids (n .items))) (match-paired (only-one its .shape))
 
 -- Trees that the laws speak of: tokens in order, and every node spells the rule of its kind.

@@ -1,11 +1,15 @@
--- The kinds table of document 01 as data: for each kind 1 to 40 the forms that a record of it may have, with what low and high hold.
+-- The kinds table of document 01 as data: for each kind the forms that a record of it may have, with what low and high hold.
 -- Written from "Well-shaped drafts" and "Records and the marks they own"; the row of the table stands above each form.
 -- Assumes nothing.
 use mathlib.Core.List.{List, [], _∷_}
 use Prim.Native.Nat.{ℕ}
+use Rattle.own.specs.Kinds as kind
+use Rattle.own.specs.Calls as call
+use Rattle.own.specs.Arms as arm
 use Rattle.lexer.specs.Classes as t
 use Rattle.kinds.specs.Fields.{Fields, plain, low, below, among, wide, bounded, parameters, names, pairs}
-use Rattle.kinds.specs.Shape.{span, doubled, of, name, arm, bound, size, Shape, nothing, mark, part, _▸_, _∣_, many}
+use Rattle.kinds.specs.Shape.{doubled, of, name, arm, bound, size, Shape, nothing, mark, part, _▸_, _∣_, many}
+use Rattle.kinds.specs.Families as family
 
 -- Names that may be variables: "`None` is itself unless `::` follows".
 abbrev pub variables : List ℕ
@@ -23,43 +27,43 @@ callable = t.Ident ∷ t.Either ∷ t.Option ∷ t.List ∷ []
 abbrev pub the : ℕ → Shape
 the c = mark (c ∷ [])
 
--- A child that is a type: kinds 4 to 12.
+-- A child that is a type.
 abbrev pub type : Shape
-type = part (of (span 4 12))
+type = part (of family.types)
 
--- A child that is a pattern: kinds 13 to 16.
+-- A child that is a pattern.
 abbrev pub pattern : Shape
-pattern = part (of (span 13 16))
+pattern = part (of family.patterns)
 
--- A child that is an expression: kinds 18 to 36, and 39.
+-- A child that is an expression.
 abbrev pub expression : Shape
-expression = part (of (39 ∷ span 18 36))
+expression = part (of family.expressions)
 
--- A child that is a block: kind 18.
+-- A child that is a block.
 abbrev pub block : Shape
-block = part (of (18 ∷ []))
+block = part (of family.blocks)
 
 -- A child that is an expression, but no block.
 abbrev pub single : Shape
-single = part (of (39 ∷ span 19 36))
+single = part (of family.singles)
 
--- An element of a block: a let (kind 17) or an expression.
+-- An element of a block: a `let` or an expression.
 abbrev pub element : Shape
-element = part (of (17 ∷ 39 ∷ span 18 36))
+element = part (of family.elements)
 
--- A parameter (kind 3).
+-- A parameter.
 abbrev pub parameter : Shape
-parameter = part (of (3 ∷ []))
+parameter = part (of (kind.Parameter ∷ []))
 
--- An enum arm (kind 38).
+-- An enum arm.
 abbrev pub enumArm : Shape
-enumArm = part (of (38 ∷ []))
+enumArm = part (of (kind.EnumArm ∷ []))
 
--- A name (kind 2) that is an identifier.
+-- A name that is an identifier.
 abbrev pub identifier : Shape
 identifier = part (name t.identifiers)
 
--- A name (kind 2) that is a function name.
+-- A name that is a function name.
 abbrev pub functionName : Shape
 functionName = part (name t.functionNames)
 
@@ -107,9 +111,20 @@ typed = pattern ▸ the t.Colon ▸ type
 abbrev pub body : Shape
 body = the t.FatArrow ▸ (block ▸ optional (the t.Comma) ∣ single ▸ the t.Comma)
 
--- Two built-in arms, in the order written: Left with Right, None with Some, False with True.
+-- Two built-in arms, in the order written.
 abbrev pub arms : ℕ → ℕ → Shape
 arms a b = part (arm a) ▸ part (arm b) ∣ part (arm b) ▸ part (arm a)
+
+-- Two that are partners: Left with Right, None with Some, False with True.
+abbrev pub partners : Shape
+partners = arms arm.Left arm.Right ∣ arms arm.None arm.Some ∣ arms arm.False arm.True
+
+-- How many builtin aliases and how many unsigned types there are: "low 0–23 in `BuiltinAlias` order", "`u1` to `u256`, powers of two only".
+abbrev pub builtinCount : ℕ
+builtinCount = 24
+
+abbrev pub unsignedCount : ℕ
+unsignedCount = 9
 
 -- One form of a kind.
 pub record Form : Type 0 where
@@ -123,19 +138,19 @@ form k f s = record { kind = k; fields = f; shape = s }
 
 -- A function with low 0 to 3: `pub` adds 1 and a result type 2.
 abbrev pub function : ℕ → Shape → Shape → Form
-function n public result = form 1 (parameters n) (public ▸ the t.Fn ▸ functionName ▸ parens (list parameter) ▸ result ▸ block)
+function n public result = form kind.Function (parameters n) (public ▸ the t.Fn ▸ functionName ▸ parens (list parameter) ▸ result ▸ block)
 
 -- A built-in arm with `(p: T)` after its word.
 abbrev pub armWith : ℕ → ℕ → Form
-armWith n c = form 37 (low n) (the c ▸ parens typed ▸ body)
+armWith n c = form kind.BuiltinArm (low n) (the c ▸ parens typed ▸ body)
 
 -- A built-in arm that is its word alone.
 abbrev pub armOf : ℕ → ℕ → Form
-armOf n c = form 37 (low n) (the c ▸ body)
+armOf n c = form kind.BuiltinArm (low n) (the c ▸ body)
 
 -- A call: what stands before the argument list.
-abbrev pub call : ℕ → Shape → Form
-call n before = form 39 (low n) (before ▸ parens (list expression))
+abbrev pub callOf : ℕ → Shape → Form
+callOf n before = form kind.Call (low n) (before ▸ parens (list expression))
 
 -- The turbofish `::<..>` after a word.
 abbrev pub generic : ℕ → Shape → Shape
@@ -150,82 +165,82 @@ forms =
     ∷ function 2 nothing (the t.Arrow ▸ type)
     ∷ function 3 (the t.Pub) (the t.Arrow ▸ type)
     -- 2 name: its token; in a call also a jet's
-    ∷ form 2 plain (mark (t.Jet ∷ t.identifiers))
+    ∷ form kind.Name plain (mark (t.Jet ∷ t.identifiers))
     -- 3 parameter: name, type; `:`
-    ∷ form 3 plain (identifier ▸ the t.Colon ▸ type)
+    ∷ form kind.Parameter plain (identifier ▸ the t.Colon ▸ type)
     -- 4 alias; 5 builtin (low 0-23 in `BuiltinAlias` order); 6 bool; 7 unsigned (`u1` to `u256`, powers of two only; low bits): token
-    ∷ form 4 plain (mark t.identifiers)
-    ∷ form 5 (below 24) (the t.Ident)
-    ∷ form 6 plain (the t.Ident)
-    ∷ form 7 (among (doubled 9 1)) (the t.Ident)
+    ∷ form kind.Alias plain (mark t.identifiers)
+    ∷ form kind.Builtin (below builtinCount) (the t.Ident)
+    ∷ form kind.BoolType plain (the t.Ident)
+    ∷ form kind.Unsigned (among (doubled unsignedCount 1)) (the t.Ident)
     -- 8 Either, 9 Option: types; all other tokens
-    ∷ form 8 plain (the t.Either ▸ angles (type ▸ the t.Comma ▸ type))
-    ∷ form 9 plain (the t.Option ▸ angles type)
+    ∷ form kind.EitherType plain (the t.Either ▸ angles (type ▸ the t.Comma ▸ type))
+    ∷ form kind.OptionType plain (the t.Option ▸ angles type)
     -- 10 tuple type: types; `( )`
-    ∷ form 10 plain (parens (list type))
+    ∷ form kind.TupleType plain (parens (list type))
     -- 11 array type, 12 list type: number; type; all other tokens
-    ∷ form 11 wide (brackets (type ▸ the t.Semi ▸ the t.DecLiteral))
-    ∷ form 12 bounded (the t.List ▸ angles (type ▸ the t.Comma ▸ the t.DecLiteral))
+    ∷ form kind.ArrayType wide (brackets (type ▸ the t.Semi ▸ the t.DecLiteral))
+    ∷ form kind.ListType bounded (the t.List ▸ angles (type ▸ the t.Comma ▸ the t.DecLiteral))
     -- 13 identifier pattern, 14 `_`: token
-    ∷ form 13 plain (mark t.identifiers)
-    ∷ form 14 plain (the t.Ident)
+    ∷ form kind.IdentifierPattern plain (mark t.identifiers)
+    ∷ form kind.IgnorePattern plain (the t.Ident)
     -- 15 tuple, 16 array pattern: patterns; brackets
-    ∷ form 15 plain (parens (list pattern))
-    ∷ form 16 plain (brackets (list pattern))
+    ∷ form kind.TuplePattern plain (parens (list pattern))
+    ∷ form kind.ArrayPattern plain (brackets (list pattern))
     -- 17 let: pattern, type, expression; `let : =`
-    ∷ form 17 plain (the t.Let ▸ typed ▸ the t.Eq ▸ expression)
+    ∷ form kind.Let plain (the t.Let ▸ typed ▸ the t.Eq ▸ expression)
     -- 18 block: low 1 with a last expression; `{ }` and every `;`
-    ∷ form 18 (low 0) (braces (many (element ▸ the t.Semi)))
-    ∷ form 18 (low 1) (braces (many (element ▸ the t.Semi) ▸ expression))
+    ∷ form kind.Block (low 0) (braces (many (element ▸ the t.Semi)))
+    ∷ form kind.Block (low 1) (braces (many (element ▸ the t.Semi) ▸ expression))
     -- 19 Left, 20 Right, 21 Some: expression; word, `( )`
-    ∷ form 19 plain (the t.Left ▸ parens expression)
-    ∷ form 20 plain (the t.Right ▸ parens expression)
-    ∷ form 21 plain (the t.Some ▸ parens expression)
+    ∷ form kind.Left plain (the t.Left ▸ parens expression)
+    ∷ form kind.Right plain (the t.Right ▸ parens expression)
+    ∷ form kind.Some plain (the t.Some ▸ parens expression)
     -- 22 None, 23 boolean (low 0 or 1), 24 decimal, 25 hexadecimal, 26 binary, 27 witness, 28 parameter value, 29 variable: token
-    ∷ form 22 plain (the t.None)
-    ∷ form 23 (low 0) (the t.false)
-    ∷ form 23 (low 1) (the t.true)
-    ∷ form 24 plain (the t.DecLiteral)
-    ∷ form 25 plain (the t.HexLiteral)
-    ∷ form 26 plain (the t.BinLiteral)
-    ∷ form 27 plain (the t.Witness)
-    ∷ form 28 plain (the t.Param)
-    ∷ form 29 plain (mark variables)
+    ∷ form kind.None plain (the t.None)
+    ∷ form kind.Boolean (low 0) (the t.false)
+    ∷ form kind.Boolean (low 1) (the t.true)
+    ∷ form kind.Decimal plain (the t.DecLiteral)
+    ∷ form kind.Hexadecimal plain (the t.HexLiteral)
+    ∷ form kind.Binary plain (the t.BinLiteral)
+    ∷ form kind.Witness plain (the t.Witness)
+    ∷ form kind.ParameterValue plain (the t.Param)
+    ∷ form kind.Variable plain (mark variables)
     -- 30 parenthesised, 31 tuple, 32 array, 33 list: expressions; brackets, `list!`
-    ∷ form 30 plain (parens expression)
-    ∷ form 31 plain (parens (commaList expression))
-    ∷ form 32 plain (brackets (list expression))
-    ∷ form 33 plain (the t.list! ▸ brackets (list expression))
+    ∷ form kind.Parenthesised plain (parens expression)
+    ∷ form kind.Tuple plain (parens (commaList expression))
+    ∷ form kind.Array plain (brackets (list expression))
+    ∷ form kind.List plain (the t.list! ▸ brackets (list expression))
     -- 34 enum construction: low names; names, arguments; `::`, `( )` if written
-    ∷ form 34 names (path ▸ optional (parens (list expression)))
+    ∷ form kind.EnumConstruction names (path ▸ optional (parens (list expression)))
     -- 35 match, 36 enum match: expression, arms; `match { }`
-    ∷ form 35 plain (the t.Match ▸ expression ▸ braces (arms 1 2 ∣ arms 3 4 ∣ arms 5 6))
-    ∷ form 36 plain (the t.Match ▸ expression ▸ braces (enumArm ▸ many enumArm))
+    ∷ form kind.Match plain (the t.Match ▸ expression ▸ braces partners)
+    ∷ form kind.EnumMatch plain (the t.Match ▸ expression ▸ braces (enumArm ▸ many enumArm))
     -- 37 built-in arm: low 1-6: Left, Right, None, Some, False, True; pattern and type if any, expression; the rest
-    ∷ armWith 1 t.Left
-    ∷ armWith 2 t.Right
-    ∷ armOf 3 t.None
-    ∷ armWith 4 t.Some
-    ∷ armOf 5 t.false
-    ∷ armOf 6 t.true
+    ∷ armWith arm.Left t.Left
+    ∷ armWith arm.Right t.Right
+    ∷ armOf arm.None t.None
+    ∷ armWith arm.Some t.Some
+    ∷ armOf arm.False t.false
+    ∷ armOf arm.True t.true
     -- 38 enum arm: low names, high pairs; names, patterns with types, expression; the rest
-    ∷ form 38 pairs (path ▸ optional (parens (some typed)) ▸ body)
+    ∷ form kind.EnumArm pairs (path ▸ optional (parens (some typed)) ▸ body)
     -- 39 call: low 1-14 in `CallName` order; type or name, kind 40, arguments; the rest
-    ∷ call 1 (part (name (t.Jet ∷ [])))
-    ∷ call 2 (generic t.unwrap-left type)
-    ∷ call 3 (generic t.unwrap-right type)
-    ∷ call 4 (the t.unwrap)
-    ∷ call 5 (generic t.is-none type)
-    ∷ call 6 (the t.assert!)
-    ∷ call 7 (the t.panic!)
-    ∷ call 8 (the t.dbg!)
-    ∷ call 9 (angles type ▸ the t.DoubleColon ▸ the t.into)
-    ∷ call 10 (part (name callable))
-    ∷ form 39 (low 10) (part (name wrappers) ▸ parens (commaList expression))
-    ∷ call 11 (generic t.fold (functionName ▸ the t.Comma ▸ part bound))
-    ∷ call 12 (generic t.array-fold (functionName ▸ the t.Comma ▸ part size))
-    ∷ call 13 (generic t.for-while functionName)
-    ∷ call 14 (generic t.raw-hash type)
+    ∷ callOf call.Jet (part (name (t.Jet ∷ [])))
+    ∷ callOf call.UnwrapLeft (generic t.unwrap-left type)
+    ∷ callOf call.UnwrapRight (generic t.unwrap-right type)
+    ∷ callOf call.Unwrap (the t.unwrap)
+    ∷ callOf call.IsNone (generic t.is-none type)
+    ∷ callOf call.Assert (the t.assert!)
+    ∷ callOf call.Panic (the t.panic!)
+    ∷ callOf call.Debug (the t.dbg!)
+    ∷ callOf call.TypeCast (angles type ▸ the t.DoubleColon ▸ the t.into)
+    ∷ callOf call.Custom (part (name callable))
+    ∷ form kind.Call (low call.Custom) (part (name wrappers) ▸ parens (commaList expression))
+    ∷ callOf call.Fold (generic t.fold (functionName ▸ the t.Comma ▸ part bound))
+    ∷ callOf call.ArrayFold (generic t.array-fold (functionName ▸ the t.Comma ▸ part size))
+    ∷ callOf call.ForWhile (generic t.for-while functionName)
+    ∷ callOf call.RawHash (generic t.raw-hash type)
     -- 40 number: number; token
-    ∷ form 40 wide (the t.DecLiteral)
+    ∷ form kind.Number wide (the t.DecLiteral)
     ∷ []

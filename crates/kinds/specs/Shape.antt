@@ -8,6 +8,7 @@ use Prim.Native.Nat.{ℕ, zero, suc, _+_, _*_, _-_}
 use lib.Dec.{T, eqb, ltb}
 use Rattle.own.specs.Law.{Sort, word, child}
 use Rattle.own.specs.Places.{or-left, or-right, or-cases}
+use Rattle.own.specs.Kinds as kind
 
 -- Whether a number is in a list.
 unfoldable pub has : List ℕ → ℕ → Bool
@@ -44,33 +45,41 @@ unfoldable pub doubled : ℕ → ℕ → List ℕ
 doubled zero a = []
 doubled (suc n) a = a ∷ doubled n (2 * a)
 
+-- How many numbers a half of 32 bits may be.
+abbrev pub halfRange : ℕ
+halfRange = 4294967296
+
 -- The 64-bit number that low and high hold together.
 unfoldable pub number : ℕ → ℕ → ℕ
-number low high = low + 4294967296 * high
+number low high = low + halfRange * high
 
--- A bound: a power of two from 2 to 9,223,372,036,854,775,808, the 63 that refusal 9 lets pass.
+-- How many bounds there are.
+abbrev pub boundCount : ℕ
+boundCount = 63
+
+-- A bound: a power of two from 2 to 9,223,372,036,854,775,808, those that refusal 9 lets pass.
 unfoldable pub isBound : ℕ → Bool
-isBound n = has (doubled 63 2) n
+isBound n = has (doubled boundCount 2) n
 
 -- A child that a rule asks for.
 pub data Part : Type 0 where
   -- of one of these kinds
   of : List ℕ → Part
-  -- a name (kind 2) whose token is of one of these classes
+  -- a name whose token is of one of these classes
   name : List ℕ → Part
-  -- a built-in arm (kind 37) of this low
+  -- a built-in arm of this low
   arm : ℕ → Part
-  -- a number (kind 40) that is a bound; a number from 1
+  -- a number that is a bound; a number from 1
   bound : Part
   size : Part
 
 -- Whether a child of this kind, low and high, whose first token is of this class, is the part.
 unfoldable pub fits : Part → ℕ → ℕ → ℕ → ℕ → Bool
-fits (of ks) kind low high class = has ks kind
-fits (name cs) kind low high class = eqb kind 2 && has cs class
-fits (arm n) kind low high class = eqb kind 37 && eqb low n
-fits bound kind low high class = eqb kind 40 && isBound (number low high)
-fits size kind low high class = eqb kind 40 && ltb 0 (number low high)
+fits (of ks) k low high class = has ks k
+fits (name cs) k low high class = eqb k kind.Name && has cs class
+fits (arm n) k low high class = eqb k kind.BuiltinArm && eqb low n
+fits bound k low high class = eqb k kind.Number && isBound (number low high)
+fits size k low high class = eqb k kind.Number && ltb 0 (number low high)
 
 -- A shape: nothing; none at all; a token of one of these classes; a part; one after the other; either; any number of times.
 infixr 60 _▸_

@@ -10,6 +10,8 @@ use Rattle.text.specs.Table.{first-of, second-of}
 use Rattle.own.specs.Tree.{Tok, Items, none, mark, sub, Node, node, roots, Each, partner, canonical, turned, Rec, tokens, records}
 use Rattle.own.specs.Law.{Ownership}
 use Rattle.own.specs.Rules.{sorts, Keeps}
+use Rattle.own.specs.Kinds as kind
+use Rattle.own.specs.Arms as arm
 use Rattle.lexer.specs.Classes as t
 use Rattle.kinds.specs.Spelled.{Spelled, spelled, spelled-sound}
 use Rattle.kinds.specs.Ownership.{Right, law-3}
@@ -43,26 +45,34 @@ abbrev leaf : ℕ → Tok → Items → Items
 leaf k u r = sub k 0 0 (mark u none) r
 
 -- An arm: its word, the fat arrow, a decimal and a comma, from a place on.
-abbrev arm : ℕ → Tok → Tok → Tok → Tok → Items → Items
-arm low word arrow digits comma r = sub 37 low 0 (mark word (mark arrow (leaf 24 digits (mark comma none)))) r
+abbrev armed : ℕ → Tok → Tok → Tok → Tok → Items → Items
+armed low word arrow digits comma r = sub kind.BuiltinArm low 0 (mark word (mark arrow (leaf kind.Decimal digits (mark comma none)))) r
 
 -- `fn f(){match b{true=>1,false=>2,}}`, the draft of the listing.
 abbrev pub draft : List Node
 draft =
-    node 1 0 0
-    (mark (tk t.Fn 0 2) (leaf 2 (tk t.Ident 3 4) (mark (tk t.LParen 4 5) (mark (tk t.RParen 5 6)
-    (sub 18 1 0 (mark (tk t.LBrace 6 7)
-    (sub 35 0 0 (mark (tk t.Match 7 12) (leaf 29 (tk t.Ident 13 14) (mark (tk t.LBrace 14 15)
-    (arm 6 (tk t.true 15 19) (tk t.FatArrow 19 21) (tk t.DecLiteral 21 22) (tk t.Comma 22 23)
-    (arm 5 (tk t.false 23 28) (tk t.FatArrow 28 30) (tk t.DecLiteral 30 31) (tk t.Comma 31 32)
+    node kind.Function 0 0
+    (mark (tk t.Fn 0 2) (leaf kind.Name (tk t.Ident 3 4) (mark (tk t.LParen 4 5) (mark (tk t.RParen 5 6)
+    (sub kind.Block 1 0 (mark (tk t.LBrace 6 7)
+    (sub kind.Match 0 0 (mark (tk t.Match 7 12) (leaf kind.Variable (tk t.Ident 13 14) (mark (tk t.LBrace 14 15)
+    (armed arm.True (tk t.true 15 19) (tk t.FatArrow 19 21) (tk t.DecLiteral 21 22) (tk t.Comma 22 23)
+    (armed arm.False (tk t.false 23 28) (tk t.FatArrow 28 30) (tk t.DecLiteral 30 31) (tk t.Comma 31 32)
     (mark (tk t.RBrace 32 33) none))))))
     (mark (tk t.RBrace 33 34) none))) none)))))
     ∷ []
 
 -- Its records are the nine lines of document 01's listing.
 pub its-records : records draft
-    ≡ rc 1 0 34 0 0 9 ∷ rc 2 3 4 0 0 1 ∷ rc 18 6 34 1 0 7 ∷ rc 35 7 33 0 0 6 ∷ rc 29 13 14 0 0 1
-    ∷ rc 37 23 32 5 0 2 ∷ rc 24 30 31 0 0 1 ∷ rc 37 15 23 6 0 2 ∷ rc 24 21 22 0 0 1 ∷ []
+    ≡ rc kind.Function 0 34 0 0 9
+    ∷ rc kind.Name 3 4 0 0 1
+    ∷ rc kind.Block 6 34 1 0 7
+    ∷ rc kind.Match 7 33 0 0 6
+    ∷ rc kind.Variable 13 14 0 0 1
+    ∷ rc kind.BuiltinArm 23 32 arm.False 0 2
+    ∷ rc kind.Decimal 30 31 0 0 1
+    ∷ rc kind.BuiltinArm 15 23 arm.True 0 2
+    ∷ rc kind.Decimal 21 22 0 0 1
+    ∷ []
 unfolding partner canonical turned
 its-records = refl
 

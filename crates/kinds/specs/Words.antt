@@ -23,15 +23,15 @@ pub record Word : Type 0 where
   pub kind : ℕ
   pub text : String
 
--- The word of a class: a name (token kind 32), a macro (36), a boolean (31).
+-- The word of a class: a name, a macro, a boolean.
 abbrev pub name : ℕ → String → Word
-name c s = record { class = c; kind = 32; text = s }
+name c s = record { class = c; kind = t.Ident; text = s }
 
 abbrev pub macro : ℕ → String → Word
-macro c s = record { class = c; kind = 36; text = s }
+macro c s = record { class = c; kind = t.Macro; text = s }
 
 abbrev pub boolean : ℕ → String → Word
-boolean c s = record { class = c; kind = 31; text = s }
+boolean c s = record { class = c; kind = t.Bool; text = s }
 
 -- The words that the rules name, with the names of their classes.
 unfoldable pub named : List Word
@@ -64,8 +64,8 @@ named =
     -- any other name, a digit run and a mark have their kinds
     ∷ name t.Ident "f"
     ∷ name t.Ident "_"
-    ∷ record { class = t.DecLiteral; kind = 28; text = "1" }
-    ∷ record { class = t.FatArrow; kind = 19; text = "=>" }
+    ∷ record { class = t.DecLiteral; kind = t.DecLiteral; text = "1" }
+    ∷ record { class = t.FatArrow; kind = t.FatArrow; text = "=>" }
     ∷ []
 
 -- Each has its class by the lexer's definition, by one computation.
@@ -74,6 +74,6 @@ unfolding all named lexer.classOf wordOf find same RULE_WORDS RULE_NAMES FUNCTIO
 named-classes = tt
 
 -- No word that the lexer tells apart is left out but `match`, which is always the keyword.
-pub each-word-named : T (all (λ w. some (λ v. same (ascii (v .text)) w) (record { class = t.Match; kind = 9; text = "match" } ∷ named)) RULE_WORDS)
+pub each-word-named : T (all (λ w. some (λ v. same (ascii (v .text)) w) (record { class = t.Match; kind = t.Match; text = "match" } ∷ named)) RULE_WORDS)
 unfolding all some named same RULE_WORDS RULE_NAMES FUNCTION_RESERVED MACROS BOOLEANS ascii asciiFrom
 each-word-named = tt

@@ -1,140 +1,51 @@
-// What a record of a kind may own and hold (document 01, the kinds table): decisions over the forty record kinds and over ranges of
+// What a record of a kind may own and hold (document 01, the kinds table): decisions over the record kinds and over ranges of
 // token classes and child kinds. A set of groups is a word, one bit a group; what the rules say of each kind is computed in specs/.
 ghost use mathlib.Core.Path.{_≡_};
 ghost use Rattle.kinds.specs.Decide.{mayOwn, mayHold};
 ghost use Rattle.kinds.specs.Groups.{markSet, groupSet, partSet, categorySet};
+use lexer::classes as class;
+use own::kind;
 
-// Groups of token classes: `pub`, `fn` and the thin arrow; `let` and `=`; `match`.
-const FUNCTION: u32 = 1 << 0;
-
-const LET: u32 = 1 << 1;
-
-const MATCH: u32 = 1 << 2;
-
-// Marks: `::`, `:`, `;`, `,`, the fat arrow, the four pairs of brackets.
-const PATH: u32 = 1 << 3;
-
-const COLON: u32 = 1 << 4;
-
-const SEMI: u32 = 1 << 5;
-
-const COMMA: u32 = 1 << 6;
-
-const FAT_ARROW: u32 = 1 << 7;
-
-const PARENS: u32 = 1 << 8;
-
-const BRACKETS: u32 = 1 << 9;
-
-const BRACES: u32 = 1 << 10;
-
-const ANGLES: u32 = 1 << 11;
-
-// Numbers; a plain name; jets, witnesses, parameters.
-const DECIMAL: u32 = 1 << 12;
-
-const HEX: u32 = 1 << 13;
-
-const BINARY: u32 = 1 << 14;
-
-const IDENT: u32 = 1 << 15;
-
-const JET: u32 = 1 << 16;
-
-const WITNESS: u32 = 1 << 17;
-
-const PARAM: u32 = 1 << 18;
-
-// The names that the rules speak of; reserved words that are called, and those that are not.
-const LEFT: u32 = 1 << 19;
-
-const RIGHT: u32 = 1 << 20;
-
-const SOME: u32 = 1 << 21;
-
-const NONE: u32 = 1 << 22;
-
-const EITHER: u32 = 1 << 23;
-
-const OPTION: u32 = 1 << 24;
-
-const LIST: u32 = 1 << 25;
-
-const CALLED: u32 = 1 << 26;
-
-const RESERVED: u32 = 1 << 27;
-
-// The macros that are called; `list!`; `true` and `false`.
-const MACRO: u32 = 1 << 28;
-
-const LIST_MACRO: u32 = 1 << 29;
-
-const BOOLEAN: u32 = 1 << 30;
-
-// Any name but `None`, and any name.
-const VARIABLE: u32 = IDENT | LEFT | RIGHT | SOME | EITHER | OPTION | LIST | CALLED | RESERVED;
-
-const NAMES: u32 = VARIABLE | NONE;
-
-// Groups of child kinds: types are 4 to 12, patterns 13 to 16, expressions 18 to 36 and 39, of which 18 is the block.
-const NAME: u32 = 1 << 0;
-
-const PARAMETER: u32 = 1 << 1;
-
-const TYPE: u32 = 1 << 2;
-
-const PATTERN: u32 = 1 << 3;
-
-const LET_STATEMENT: u32 = 1 << 4;
-
-const BLOCK: u32 = 1 << 5;
-
-const SINGLE: u32 = 1 << 6;
-
-const BUILTIN_ARM: u32 = 1 << 7;
-
-const ENUM_ARM: u32 = 1 << 8;
-
-const NUMBER: u32 = 1 << 9;
-
-const EXPRESSION: u32 = BLOCK | SINGLE;
+mod mark;
+mod part;
 
 // The group of a token class.
 fn group(class: u32) -> u32
     ensures { λ r. ⌜ r ≡ groupSet class ⌝ }
 {
     match class {
-        1 | 4 | 13 => FUNCTION,
-        5 | 18 => LET,
-        9 => MATCH,
-        14 => PATH,
-        15 => COLON,
-        16 => SEMI,
-        17 => COMMA,
-        19 => FAT_ARROW,
-        20..=21 => PARENS,
-        22..=23 => BRACKETS,
-        24..=25 => BRACES,
-        26..=27 => ANGLES,
-        28 => DECIMAL,
-        29 => HEX,
-        30 => BINARY,
-        32 => IDENT,
-        33 => JET,
-        34 => WITNESS,
-        35 => PARAM,
-        37 => LEFT,
-        38 => RIGHT,
-        39 => SOME,
-        40 => NONE,
-        41 => EITHER,
-        42 => OPTION,
-        43 => LIST,
-        44..=49 | 53..=54 | 56 => CALLED,
-        50..=51 | 55 => RESERVED,
-        57..=59 => MACRO,
-        60 => LIST_MACRO,
-        61..=62 => BOOLEAN,
+        class::PUB | class::FN | class::ARROW => mark::FUNCTION,
+        class::LET | class::EQ => mark::LET,
+        class::MATCH => mark::MATCH,
+        class::DOUBLE_COLON => mark::PATH,
+        class::COLON => mark::COLON,
+        class::SEMI => mark::SEMI,
+        class::COMMA => mark::COMMA,
+        class::FAT_ARROW => mark::FAT_ARROW,
+        class::LPAREN..=class::RPAREN => mark::PARENS,
+        class::LBRACKET..=class::RBRACKET => mark::BRACKETS,
+        class::LBRACE..=class::RBRACE => mark::BRACES,
+        class::LANGLE..=class::RANGLE => mark::ANGLES,
+        class::DEC_LITERAL => mark::DECIMAL,
+        class::HEX_LITERAL => mark::HEX,
+        class::BIN_LITERAL => mark::BINARY,
+        class::IDENT => mark::IDENT,
+        class::JET => mark::JET,
+        class::WITNESS => mark::WITNESS,
+        class::PARAM => mark::PARAM,
+        class::LEFT => mark::LEFT,
+        class::RIGHT => mark::RIGHT,
+        class::SOME => mark::SOME,
+        class::NONE => mark::NONE,
+        class::EITHER => mark::EITHER,
+        class::OPTION => mark::OPTION,
+        class::LIST => mark::LIST,
+        class::UNWRAP_LEFT..=class::UNWRAP | class::INTO..=class::FOLD | class::RAW_HASH =>
+            mark::CALLED,
+        class::ASSERT..=class::PANIC | class::DBG => mark::RESERVED,
+        class::ASSERT_MACRO..=class::DBG_MACRO => mark::MACRO,
+        class::LIST_MACRO => mark::LIST_MACRO,
+        class::FALSE..=class::TRUE => mark::BOOLEAN,
         _ => 0,
     }
 }
@@ -144,37 +55,50 @@ fn marks(kind: u32) -> u32
     ensures { λ r. ⌜ r ≡ markSet kind ⌝ }
 {
     match kind {
-        1 => FUNCTION | PARENS | COMMA,
-        2 => NAMES | JET,
-        3 => COLON,
-        4 | 13 => NAMES,
-        5..=7 | 14 => IDENT,
-        8 => EITHER | ANGLES | COMMA,
-        9 => OPTION | ANGLES,
-        10 | 15 | 31 => PARENS | COMMA,
-        11 => BRACKETS | SEMI | DECIMAL,
-        12 => LIST | ANGLES | COMMA | DECIMAL,
-        16 | 32 => BRACKETS | COMMA,
-        17 => LET | COLON,
-        18 => BRACES | SEMI,
-        19 => LEFT | PARENS,
-        20 => RIGHT | PARENS,
-        21 => SOME | PARENS,
-        22 => NONE,
-        23 => BOOLEAN,
-        24 | 40 => DECIMAL,
-        25 => HEX,
-        26 => BINARY,
-        27 => WITNESS,
-        28 => PARAM,
-        29 => VARIABLE,
-        30 => PARENS,
-        33 => LIST_MACRO | BRACKETS | COMMA,
-        34 => PATH | PARENS | COMMA,
-        35..=36 => MATCH | BRACES,
-        37 => LEFT | RIGHT | NONE | SOME | BOOLEAN | PARENS | COLON | FAT_ARROW | COMMA,
-        38 => PATH | PARENS | COLON | COMMA | FAT_ARROW,
-        39 => CALLED | MACRO | PATH | ANGLES | PARENS | COMMA,
+        kind::FUNCTION => mark::FUNCTION | mark::PARENS | mark::COMMA,
+        kind::NAME => mark::NAMES | mark::JET,
+        kind::PARAMETER => mark::COLON,
+        kind::ALIAS | kind::IDENTIFIER_PATTERN => mark::NAMES,
+        kind::BUILTIN..=kind::UNSIGNED | kind::IGNORE_PATTERN => mark::IDENT,
+        kind::EITHER_TYPE => mark::EITHER | mark::ANGLES | mark::COMMA,
+        kind::OPTION_TYPE => mark::OPTION | mark::ANGLES,
+        kind::TUPLE_TYPE | kind::TUPLE_PATTERN | kind::TUPLE => mark::PARENS | mark::COMMA,
+        kind::ARRAY_TYPE => mark::BRACKETS | mark::SEMI | mark::DECIMAL,
+        kind::LIST_TYPE => mark::LIST | mark::ANGLES | mark::COMMA | mark::DECIMAL,
+        kind::ARRAY_PATTERN | kind::ARRAY => mark::BRACKETS | mark::COMMA,
+        kind::LET => mark::LET | mark::COLON,
+        kind::BLOCK => mark::BRACES | mark::SEMI,
+        kind::LEFT => mark::LEFT | mark::PARENS,
+        kind::RIGHT => mark::RIGHT | mark::PARENS,
+        kind::SOME => mark::SOME | mark::PARENS,
+        kind::NONE => mark::NONE,
+        kind::BOOLEAN => mark::BOOLEAN,
+        kind::DECIMAL | kind::NUMBER => mark::DECIMAL,
+        kind::HEXADECIMAL => mark::HEX,
+        kind::BINARY => mark::BINARY,
+        kind::WITNESS => mark::WITNESS,
+        kind::PARAMETER_VALUE => mark::PARAM,
+        kind::VARIABLE => mark::VARIABLE,
+        kind::PARENTHESISED => mark::PARENS,
+        kind::LIST => mark::LIST_MACRO | mark::BRACKETS | mark::COMMA,
+        kind::ENUM_CONSTRUCTION => mark::PATH | mark::PARENS | mark::COMMA,
+        kind::MATCH..=kind::ENUM_MATCH => mark::MATCH | mark::BRACES,
+        kind::BUILTIN_ARM => mark::LEFT
+            | mark::RIGHT
+            | mark::NONE
+            | mark::SOME
+            | mark::BOOLEAN
+            | mark::PARENS
+            | mark::COLON
+            | mark::FAT_ARROW
+            | mark::COMMA,
+        kind::ENUM_ARM => mark::PATH | mark::PARENS | mark::COLON | mark::COMMA | mark::FAT_ARROW,
+        kind::CALL => mark::CALLED
+            | mark::MACRO
+            | mark::PATH
+            | mark::ANGLES
+            | mark::PARENS
+            | mark::COMMA,
         _ => 0,
     }
 }
@@ -184,16 +108,16 @@ fn category(child: u32) -> u32
     ensures { λ r. ⌜ r ≡ categorySet child ⌝ }
 {
     match child {
-        2 => NAME,
-        3 => PARAMETER,
-        4..=12 => TYPE,
-        13..=16 => PATTERN,
-        17 => LET_STATEMENT,
-        18 => BLOCK,
-        19..=36 | 39 => SINGLE,
-        37 => BUILTIN_ARM,
-        38 => ENUM_ARM,
-        40 => NUMBER,
+        kind::NAME => part::NAME,
+        kind::PARAMETER => part::PARAMETER,
+        kind::ALIAS..=kind::LIST_TYPE => part::TYPE,
+        kind::IDENTIFIER_PATTERN..=kind::ARRAY_PATTERN => part::PATTERN,
+        kind::LET => part::LET_STATEMENT,
+        kind::BLOCK => part::BLOCK,
+        kind::LEFT..=kind::ENUM_MATCH | kind::CALL => part::SINGLE,
+        kind::BUILTIN_ARM => part::BUILTIN_ARM,
+        kind::ENUM_ARM => part::ENUM_ARM,
+        kind::NUMBER => part::NUMBER,
         _ => 0,
     }
 }
@@ -203,18 +127,18 @@ fn parts(kind: u32) -> u32
     ensures { λ r. ⌜ r ≡ partSet kind ⌝ }
 {
     match kind {
-        1 => NAME | PARAMETER | TYPE | BLOCK,
-        3 => NAME | TYPE,
-        8..=12 => TYPE,
-        15..=16 => PATTERN,
-        17 | 37 => PATTERN | TYPE | EXPRESSION,
-        18 => LET_STATEMENT | EXPRESSION,
-        19..=21 | 30..=33 => EXPRESSION,
-        34 => NAME | EXPRESSION,
-        35 => EXPRESSION | BUILTIN_ARM,
-        36 => EXPRESSION | ENUM_ARM,
-        38 => NAME | PATTERN | TYPE | EXPRESSION,
-        39 => NAME | TYPE | NUMBER | EXPRESSION,
+        kind::FUNCTION => part::NAME | part::PARAMETER | part::TYPE | part::BLOCK,
+        kind::PARAMETER => part::NAME | part::TYPE,
+        kind::EITHER_TYPE..=kind::LIST_TYPE => part::TYPE,
+        kind::TUPLE_PATTERN..=kind::ARRAY_PATTERN => part::PATTERN,
+        kind::LET | kind::BUILTIN_ARM => part::PATTERN | part::TYPE | part::EXPRESSION,
+        kind::BLOCK => part::LET_STATEMENT | part::EXPRESSION,
+        kind::LEFT..=kind::SOME | kind::PARENTHESISED..=kind::LIST => part::EXPRESSION,
+        kind::ENUM_CONSTRUCTION => part::NAME | part::EXPRESSION,
+        kind::MATCH => part::EXPRESSION | part::BUILTIN_ARM,
+        kind::ENUM_MATCH => part::EXPRESSION | part::ENUM_ARM,
+        kind::ENUM_ARM => part::NAME | part::PATTERN | part::TYPE | part::EXPRESSION,
+        kind::CALL => part::NAME | part::TYPE | part::NUMBER | part::EXPRESSION,
         _ => 0,
     }
 }

@@ -13,9 +13,12 @@ use lib.Dec.{T, eqb, leb, ltb, leb→le}
 use lib.ListN.{length, getD, drop}
 use lib.Seq.{getD-drop}
 use Rattle.text.specs.Ascii.{ascii, asciiFrom}
+use Rattle.text.specs.Refusals as refusal
 use Rattle.text.specs.Same.{differ}
 use Rattle.text.specs.Table.{first-of, second-of}
 use Rattle.lexer.specs.Bytes.{byteClass, inClasses}
+use Rattle.lexer.specs.Bytes as byte
+use Rattle.lexer.specs.Classes as t
 use Rattle.lexer.specs.Chars.{Range, among, whitespace, plainBytes, binaryDigits, decimalDigits, hexDigits, underscore, nameStarts, is, first, run, begins}
 use Rattle.lexer.specs.Lexemes.{Lexeme, token, trivia, refused, _orElse_, Mark, space, lineComment, blockComment, qualified, macro, digits, hexadecimal, binary, decimal, word, marks, mark, noLexeme, lexeme}
 use Rattle.lexer.specs.Places.{Based, decimalAt}
@@ -33,7 +36,7 @@ runOf base b = among base b || among underscore b
 
 -- Where a digit stands, only the trials on digits are left.
 only-digits : (b : ℕ) (r : List ℕ) → among decimalDigits b ≡ true
-    → lexeme (b ∷ r) ≡ (hexadecimal (b ∷ r) orElse binary (b ∷ r) orElse token 28 (run (runOf decimalDigits) (b ∷ r)))
+    → lexeme (b ∷ r) ≡ (hexadecimal (b ∷ r) orElse binary (b ∷ r) orElse token t.DecLiteral (run (runOf decimalDigits) (b ∷ r)))
 unfolding lexeme space lineComment blockComment qualified macro decimal digits begins ascii asciiFrom
 only-digits b r h =
     let no = each-fails (notDigit b) (digit-apart b h) in
@@ -46,11 +49,11 @@ module _ (s : List ℕ) (i : ℕ) (h : i < length s) (d : among decimalDigits (g
   here : drop i s ≡ getD s i 0 ∷ drop (suc i) s
   here = rest-cons s i (getD s i 0) h refl
 
-  digits-at : lexeme (drop i s) ≡ (hexadecimal (drop i s) orElse binary (drop i s) orElse token 28 (run (runOf decimalDigits) (drop i s)))
+  digits-at : lexeme (drop i s) ≡ (hexadecimal (drop i s) orElse binary (drop i s) orElse token t.DecLiteral (run (runOf decimalDigits) (drop i s)))
   digits-at =
       ap lexeme here
       ∙ only-digits (getD s i 0) (drop (suc i) s) d
-      ∙ sym (ap (λ r. hexadecimal r orElse binary r orElse token 28 (run (runOf decimalDigits) r)) here)
+      ∙ sym (ap (λ r. hexadecimal r orElse binary r orElse token t.DecLiteral (run (runOf decimalDigits) r)) here)
 
   next : first (drop (suc i) s) ≡ getD s (i + 1) 0
   next = rest-first s (suc i) ∙ ap (λ n. getD s n 0) (sym (add-one i))
@@ -60,33 +63,33 @@ module _ (s : List ℕ) (i : ℕ) (h : i < length s) (d : among decimalDigits (g
   unfolding begins
   prefix x = ap (begins (48 ∷ suc x ∷ [])) here ∙ ap (λ t. eqb (getD s i 0) 48 && t) (begins-one x (drop (suc i) s) ∙ ap (λ n. eqb n (suc x)) next)
 
-  decimal-is : stepFrom (token 28 (run (runOf decimalDigits) (drop i s))) i ≡ decimalAt s i
-  decimal-is = ap (λ n. Token 28 (i + n)) (sym (run-same (inClasses 0 2) (runOf decimalDigits) decimal-run (drop i s)))
+  decimal-is : stepFrom (token t.DecLiteral (run (runOf decimalDigits) (drop i s))) i ≡ decimalAt s i
+  decimal-is = ap (λ n. Token t.DecLiteral (i + n)) (sym (run-same (inClasses byte.Underscore byte.Digit) (runOf decimalDigits) decimal-run (drop i s)))
 
   pub at-decimal : (eqb (getD s i 0) 48 && eqb (getD s (i + 1) 0) 120) ≡ false → (eqb (getD s i 0) 48 && eqb (getD s (i + 1) 0) 98) ≡ false → decimalAt s i ≡ lexemeAt s i
   unfolding hexadecimal binary ascii asciiFrom
   at-decimal a b =
-      let l : lexeme (drop i s) ≡ token 28 (run (runOf decimalDigits) (drop i s)) = digits-at ∙ simp (prefix 119, prefix 97, a, b) in
+      let l : lexeme (drop i s) ≡ token t.DecLiteral (run (runOf decimalDigits) (drop i s)) = digits-at ∙ simp (prefix 119, prefix 97, a, b) in
       sym (ap (λ x. stepFrom x i) l ∙ decimal-is)
 
   -- a base by the classes of its digits
-  based-is : (base : List Range) (kind most : ℕ) → ((b : ℕ) → inClasses 1 most b ≡ among base b) → ((b : ℕ) → inClasses 0 most b ≡ runOf base b) → i + 2 ≤ length s → most ≤ 3
-      → lexeme (drop i s) ≡ (digits base kind 2 (drop i s) orElse token 28 (run (runOf decimalDigits) (drop i s))) → Based s i kind most
+  based-is : (base : List Range) (kind most : ℕ) → ((b : ℕ) → inClasses byte.BinaryDigit most b ≡ among base b) → ((b : ℕ) → inClasses byte.Underscore most b ≡ runOf base b) → i + 2 ≤ length s → most ≤ byte.HexLetter
+      → lexeme (drop i s) ≡ (digits base kind 2 (drop i s) orElse token t.DecLiteral (run (runOf decimalDigits) (drop i s))) → Based s i kind most
   unfolding digits
   based-is base kind most one many w m l =
-      let t : first (drop 2 (drop i s)) ≡ getD s (i + 2) 0 = ap first (rest-drop s i 2 (i + 2) refl) ∙ rest-first s (i + 2) in
-      let e : among base (first (drop 2 (drop i s))) ≡ inClasses 1 most (getD s (i + 2) 0) = ap (among base) t ∙ sym (one (getD s (i + 2) 0)) in
-      let n : run (runOf base) (drop 2 (drop i s)) ≡ run (inClasses 0 most) (drop (i + 2) s) =
-      ap (run (runOf base)) (rest-drop s i 2 (i + 2) refl) ∙ sym (run-same (inClasses 0 most) (runOf base) many (drop (i + 2) s)) in
+      let f₂ : first (drop 2 (drop i s)) ≡ getD s (i + 2) 0 = ap first (rest-drop s i 2 (i + 2) refl) ∙ rest-first s (i + 2) in
+      let e : among base (first (drop 2 (drop i s))) ≡ inClasses byte.BinaryDigit most (getD s (i + 2) 0) = ap (among base) f₂ ∙ sym (one (getD s (i + 2) 0)) in
+      let n : run (runOf base) (drop 2 (drop i s)) ≡ run (inClasses byte.Underscore most) (drop (i + 2) s) =
+      ap (run (runOf base)) (rest-drop s i 2 (i + 2) refl) ∙ sym (run-same (inClasses byte.Underscore most) (runOf base) many (drop (i + 2) s)) in
       record {
         within = w;
         small = m;
         digits = λ y.
-            let k : lexeme (drop i s) ≡ token kind (2 + run (inClasses 0 most) (drop (i + 2) s)) = l ∙ simp (e, y, n) in
-            ap (λ x. stepFrom x i) k ∙ ap (Token kind) (let z : i + (2 + run (inClasses 0 most) (drop (i + 2) s)) ≡ i + 2 + run (inClasses 0 most) (drop (i + 2) s) = omega arith in z);
+            let k : lexeme (drop i s) ≡ token kind (2 + run (inClasses byte.Underscore most) (drop (i + 2) s)) = l ∙ simp (e, y, n) in
+            ap (λ x. stepFrom x i) k ∙ ap (Token kind) (let z : i + (2 + run (inClasses byte.Underscore most) (drop (i + 2) s)) ≡ i + 2 + run (inClasses byte.Underscore most) (drop (i + 2) s) = omega arith in z);
         others = λ y.
-            let f : inClasses 1 most (getD s (i + 2) 0) ≡ false = not-true (inClasses 1 most (getD s (i + 2) 0)) y in
-            let k : lexeme (drop i s) ≡ token 28 (run (runOf decimalDigits) (drop i s)) = l ∙ simp (e, f) in
+            let f : inClasses byte.BinaryDigit most (getD s (i + 2) 0) ≡ false = not-true (inClasses byte.BinaryDigit most (getD s (i + 2) 0)) y in
+            let k : lexeme (drop i s) ≡ token t.DecLiteral (run (runOf decimalDigits) (drop i s)) = l ∙ simp (e, f) in
             ap (λ x. stepFrom x i) k ∙ decimal-is;
       }
     where
@@ -94,17 +97,17 @@ module _ (s : List ℕ) (i : ℕ) (h : i < length s) (d : among decimalDigits (g
       not-true true n = absurd (n refl)
       not-true false n = refl
 
-  pub at-hex : getD s i 0 ≡ 48 → getD s (i + 1) 0 ≡ 120 → i + 2 ≤ length s → Based s i 29 3
+  pub at-hex : getD s i 0 ≡ 48 → getD s (i + 1) 0 ≡ 120 → i + 2 ≤ length s → Based s i t.HexLiteral byte.HexLetter
   unfolding hexadecimal binary ascii asciiFrom
   at-hex a x w =
       let n : getD s (i + 1) 0 ≡ 98 → ⊥ = (λ z. absurd (omega arith)) in
-      based-is hexDigits 29 3 hex-classes hex-run w (omega arith) (digits-at ∙ simp (prefix 119, prefix 97, eq-eqb _ _ a, eq-eqb _ _ x, ne-eqb _ _ n))
+      based-is hexDigits t.HexLiteral byte.HexLetter hex-classes hex-run w (omega arith) (digits-at ∙ simp (prefix 119, prefix 97, eq-eqb _ _ a, eq-eqb _ _ x, ne-eqb _ _ n))
 
-  pub at-binary : getD s i 0 ≡ 48 → getD s (i + 1) 0 ≡ 98 → i + 2 ≤ length s → Based s i 30 1
+  pub at-binary : getD s i 0 ≡ 48 → getD s (i + 1) 0 ≡ 98 → i + 2 ≤ length s → Based s i t.BinLiteral byte.BinaryDigit
   unfolding hexadecimal binary ascii asciiFrom
   at-binary a x w =
       let n : getD s (i + 1) 0 ≡ 120 → ⊥ = (λ z. absurd (omega arith)) in
-      based-is binaryDigits 30 1 binary-classes binary-run w (omega arith) (digits-at ∙ simp (prefix 119, prefix 97, eq-eqb _ _ a, eq-eqb _ _ x, ne-eqb _ _ n))
+      based-is binaryDigits t.BinLiteral byte.BinaryDigit binary-classes binary-run w (omega arith) (digits-at ∙ simp (prefix 119, prefix 97, eq-eqb _ _ a, eq-eqb _ _ x, ne-eqb _ _ n))
 
 -- ---- whitespace, and bytes over 127
 
@@ -132,7 +135,7 @@ over-marks (m ∷ ms) t b r o =
     begins-not (ascii (m .text)) b r (leb→le 1 x (first-of (leb 1 x) (leb x 127) f)) (leb→le x 127 (second-of (leb 1 x) (leb x 127) f)) o in
     rw n (over-marks ms (second-of (leb 1 x && leb x 127) (lowMarks ms) t) b r o)
 
-only-over : (b : ℕ) (r : List ℕ) → 127 < b → lexeme (b ∷ r) ≡ refused 2 0
+only-over : (b : ℕ) (r : List ℕ) → 127 < b → lexeme (b ∷ r) ≡ refused refusal.NotAscii 0
 unfolding lexeme space lineComment blockComment qualified macro hexadecimal binary decimal digits word begins ascii asciiFrom noLexeme whitespace decimalDigits nameStarts underscore lowMarks marks
 only-over b r o =
     let w : among whitespace b ≡ false = over-among whitespace tt b o in
@@ -143,16 +146,16 @@ only-over b r o =
     simp (w, d, n, s, z, over-marks marks tt b r o, lt-ltb 127 b o)
 
 module _ (s : List ℕ) (i c : ℕ) (h : i < length s) (q : c ≡ byteClass (getD s i 0)) where
-  pub at-space : 29 ≤ c → c ≤ 30 → (e : ℕ) → e ≡ i + run (inClasses 29 30) (drop i s) → Trivia e ≡ lexemeAt s i
+  pub at-space : byte.Space ≤ c → c ≤ byte.LineEnd → (e : ℕ) → e ≡ i + run (inClasses byte.Space byte.LineEnd) (drop i s) → Trivia e ≡ lexemeAt s i
   at-space a b e f =
       let x = getD s i 0 in
-      let w : among whitespace x ≡ true = sym (space-classes x) ∙ class-in 29 30 x c q a b in
+      let w : among whitespace x ≡ true = sym (space-classes x) ∙ class-in byte.Space byte.LineEnd x c q a b in
       let l : lexeme (drop i s) ≡ trivia (run (among whitespace) (drop i s)) =
       ap lexeme (rest-cons s i x h refl) ∙ only-space x (drop (suc i) s) w ∙ sym (ap (λ r. trivia (run (among whitespace) r)) (rest-cons s i x h refl)) in
-      ap Trivia (f ∙ ap (λ n. i + n) (run-same (inClasses 29 30) (among whitespace) space-classes (drop i s))) ∙ sym (ap (λ t. stepFrom t i) l)
+      ap Trivia (f ∙ ap (λ n. i + n) (run-same (inClasses byte.Space byte.LineEnd) (among whitespace) space-classes (drop i s))) ∙ sym (ap (λ t. stepFrom t i) l)
 
-  -- a byte of class 31 is over 127
-  over : 30 < c → 127 < getD s i 0
+  -- a byte of the last class is over 127
+  over : byte.LineEnd < c → 127 < getD s i 0
   unfolding among plainBytes
   over a = go (leb (getD s i 0) 127) refl
     where
@@ -160,9 +163,9 @@ module _ (s : List ℕ) (i c : ℕ) (h : i < length s) (q : c ≡ byteClass (get
       go false e = leb-false _ _ e
       go true e =
           let p : among plainBytes (getD s i 0) ≡ true = simp (le-leb 0 (getD s i 0) (omega arith), e) in
-          differ (sym (class-above 0 30 (getD s i 0) c q a) ∙ plain-classes (getD s i 0) ∙ p)
+          differ (sym (class-above byte.Underscore byte.LineEnd (getD s i 0) c q a) ∙ plain-classes (getD s i 0) ∙ p)
 
-  pub at-over : 30 < c → Refused 2 i ≡ lexemeAt s i
+  pub at-over : byte.LineEnd < c → Refused refusal.NotAscii i ≡ lexemeAt s i
   at-over a =
-      ap (Refused 2) (let z : i ≡ i + 0 = omega arith in z)
+      ap (Refused refusal.NotAscii) (let z : i ≡ i + 0 = omega arith in z)
       ∙ sym (ap (λ x. stepFrom x i) (ap lexeme (rest-cons s i (getD s i 0) h refl) ∙ only-over (getD s i 0) (drop (suc i) s) (over a)))

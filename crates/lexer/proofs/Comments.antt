@@ -12,9 +12,11 @@ use lib.Dec.{eqb, leb}
 use lib.ListN.{length, getD, take, drop, length-drop, drop-of-length-le}
 use lib.Seq.{drop-cons}
 use Rattle.text.specs.Ascii.{ascii, asciiFrom}
+use Rattle.text.specs.Refusals as refusal
 use Rattle.lexer.specs.Chars.{among, whitespace, lineEnds, plainBytes, decimalDigits, underscore, nameStarts, first, run, begins}
 use Rattle.lexer.specs.Lexemes.{Inside, closed, within, inside, onward, more, closing, block, trivia, refused, comment, space, lineComment, blockComment, qualified, macro, digits, hexadecimal, binary, decimal, word, marks, mark, noLexeme, lexeme}
 use Rattle.lexer.specs.Bytes.{inClasses}
+use Rattle.lexer.specs.Bytes as byte
 use Rattle.lexer.specs.Step.{stepFrom, commentAt, lexemeAt}
 use Rattle.lexer.specs.Trivia.{insideAs, closeOf}
 use Rattle.lexer.specs.declared.Step.{Step}
@@ -102,10 +104,10 @@ module _ (s : List ℕ) (j d p : ℕ) where
 
 -- ---- a comment from i up to e
 
-module _ (s : List ℕ) (i e t : ℕ) (q : t ≡ i + run (inClasses 0 30) (drop i (take e s))) (h : i ≤ e) where
+module _ (s : List ℕ) (i e t : ℕ) (q : t ≡ i + run (inClasses byte.Underscore byte.LineEnd) (drop i (take e s))) (h : i ≤ e) where
   -- its bytes up to the first over 127
   plain : t ≡ i + run (among plainBytes) (take (e - i) (drop i s))
-  plain = q ∙ ap (λ n. i + n) (run-same (inClasses 0 30) (among plainBytes) plain-classes (drop i (take e s)) ∙ ap (run (among plainBytes)) (rest-take s i e))
+  plain = q ∙ ap (λ n. i + n) (run-same (inClasses byte.Underscore byte.LineEnd) (among plainBytes) plain-classes (drop i (take e s)) ∙ ap (run (among plainBytes)) (rest-take s i e))
 
   pub comment-whole : t ≡ e → Trivia e ≡ commentAt s i e
   unfolding comment
@@ -114,11 +116,11 @@ module _ (s : List ℕ) (i e t : ℕ) (q : t ≡ i + run (inClasses 0 30) (drop 
       let z : e ≡ i + (e - i) = omega arith in
       ap Trivia z ∙ simp (eq-eqb _ _ k)
 
-  pub comment-not : (t ≡ e → ⊥) → Refused 2 t ≡ commentAt s i e
+  pub comment-not : (t ≡ e → ⊥) → Refused refusal.NotAscii t ≡ commentAt s i e
   unfolding comment
   comment-not w =
       let k : run (among plainBytes) (take (e - i) (drop i s)) ≡ e - i → ⊥ = (λ z. w (let p = plain in omega arith)) in
-      ap (Refused 2) plain ∙ simp (ne-eqb _ _ k)
+      ap (Refused refusal.NotAscii) plain ∙ simp (ne-eqb _ _ k)
 
 -- ---- the lexeme at a `/`
 
@@ -133,7 +135,7 @@ module _ (r : List ℕ) where
       let n : first r ≡ 47 → ⊥ = (λ z. absurd (omega arith)) in
       simp (begins-one 46 r, begins-one 41 r, ne-eqb _ _ n, eq-eqb _ _ e)
 
-  slash-alone : (first r ≡ 47 → ⊥) → (first r ≡ 42 → ⊥) → lexeme (47 ∷ r) ≡ refused 3 0
+  slash-alone : (first r ≡ 47 → ⊥) → (first r ≡ 42 → ⊥) → lexeme (47 ∷ r) ≡ refused refusal.NoLexeme 0
   unfolding lexeme space among whitespace lineComment blockComment begins ascii asciiFrom qualified nameStarts underscore macro hexadecimal binary decimal digits decimalDigits word mark marks noLexeme
   slash-alone n m = simp (begins-one 46 r, begins-one 41 r, ne-eqb _ _ n, ne-eqb _ _ m)
 
@@ -174,16 +176,16 @@ module _ (s : List ℕ) (i b : ℕ) (h : i < length s) (e : getD s i 0 ≡ 47) (
           let l : k - i ≡ 2 + n = omega arith in
           ap (λ x. stepFrom x i) (ap (λ m. comment m (drop i s)) l ∙ sym (ap (λ x. block x (drop i s)) p) ∙ block-is z)
 
-  pub at-unclosed : b ≡ 42 → closeOf (closing (drop (i + 2) s) 0 0) (i + 2) ≡ Never → Refused 4 i ≡ lexemeAt s i
+  pub at-unclosed : b ≡ 42 → closeOf (closing (drop (i + 2) s) 0 0) (i + 2) ≡ Never → Refused refusal.Unclosed i ≡ lexemeAt s i
   at-unclosed z q = go (closing (drop (i + 2) s) 0 0) refl q
     where
-      go : (x : Option ℕ) → closing (drop (i + 2) s) 0 0 ≡ x → closeOf x (i + 2) ≡ Never → Refused 4 i ≡ lexemeAt s i
-      go none p q = ap (Refused 4) (let z : i ≡ i + 0 = omega arith in z) ∙ ap (λ x. stepFrom x i) (sym (ap (λ x. block x (drop i s)) p) ∙ block-is z)
+      go : (x : Option ℕ) → closing (drop (i + 2) s) 0 0 ≡ x → closeOf x (i + 2) ≡ Never → Refused refusal.Unclosed i ≡ lexemeAt s i
+      go none p q = ap (Refused refusal.Unclosed) (let z : i ≡ i + 0 = omega arith in z) ∙ ap (λ x. stepFrom x i) (sym (ap (λ x. block x (drop i s)) p) ∙ block-is z)
       go (some n) p q = let z : _≡_ {A = ℕ} 0 1 = cc in absurd (omega arith)
 
-  pub at-slash : (b ≡ 47 → ⊥) → (b ≡ 42 → ⊥) → Refused 3 i ≡ lexemeAt s i
+  pub at-slash : (b ≡ 47 → ⊥) → (b ≡ 42 → ⊥) → Refused refusal.NoLexeme i ≡ lexemeAt s i
   at-slash n m =
-      ap (Refused 3) (let z : i ≡ i + 0 = omega arith in z)
+      ap (Refused refusal.NoLexeme) (let z : i ≡ i + 0 = omega arith in z)
       ∙ sym (ap (λ x. stepFrom x i) (ap lexeme here ∙ slash-alone (drop (suc i) s) (λ z. n (sym next ∙ z)) (λ z. m (sym next ∙ z))))
 
 -- ---- comments stay within the draft

@@ -1,7 +1,8 @@
--- What the proofs of the first pass cite: how the buffer is filled with the tokens of a draft.
+-- What the proofs of the lexing loop cite: how the buffer is filled with the tokens of a draft.
 -- Assumes nothing.
 use mathlib.Core.Bool.{Bool, true, false, cond}
 use mathlib.Core.List.{List, [], _∷_, _++_, append-nil, append-assoc}
+use mathlib.Core.Option.{Option, none, some}
 use mathlib.Core.Path.{_≡_, refl, sym, _∙_, ap, ap₂, subst}
 use Prim.Native.Nat.{ℕ, suc, _+_, _-_, _*_, _≤_, _<_}
 use native.Mathlib.Omega.{arith}
@@ -10,14 +11,19 @@ use lib.Dec.{ltb, eqb}
 use lib.ListN.{length, getD, drop, take, set, replicate, length-drop, length-append, length-set, drop-of-length-le, List·getD-append}
 use lib.Seq.{length-take-le, sets-eq, take-at, drop-at, drop-drop, getD-at}
 use borrow.Rule.Slice.PartMut.{putMid, midOf, postOf}
+use Rattle.text.specs.Refusals as refusal
+use Rattle.text.specs.Widths.{tokWide}
 use Rattle.lexer.specs.Lexemes.{Token, Lexemes, tokens, refusedAt, with-token, lexemesFrom, lexemes}
-use Rattle.lexer.specs.Limits.{noToken, tokenWords, tokensOf, content}
-use Rattle.lexer.specs.Buffer.{putAt, counted, Held}
+use Rattle.lexer.specs.Limits.{noToken, tooDeep, deep, judgedIn, tokenWords, tokensOf, content}
+use Rattle.lexer.specs.Buffer.{putAt, Held}
+use Rattle.lexer.specs.Nesting.{isPast, nestAfter, nestOf, outermost, passedAt}
 use Rattle.lexer.specs.Step.{stepOf}
 use Rattle.lexer.specs.declared.Step.{Step}
 use Rattle.lexer.specs.declared.Step.the-variants as S
 use Rattle.lexer.specs.declared.Lexed.{Lexed}
 use Rattle.lexer.specs.declared.Lexed.the-variants as L
+use Rattle.lexer.specs.declared.depth.Nest.{Nest}
+use Rattle.lexer.proofs.Nesting.{nest-snoc, nest-deep}
 use Rattle.lexer.proofs.Steps.{follow, Leads, rest-follows, step-leads}
 
 -- ---- the words of the buffer
@@ -32,7 +38,7 @@ cleared a xs ys h e =
     let p : postOf a (length xs - a) xs ≡ [] = drop-of-length-le (drop a xs) g in
     ap (λ l. take a xs ++ l) (ap₂ (λ y z. y ++ z) (e ∙ ap (λ m. replicate m 0) n) p ∙ append-nil _)
 
-words-length : (ts : List Token) → length (tokenWords ts) ≡ 3 * length ts
+words-length : (ts : List Token) → length (tokenWords ts) ≡ tokWide * length ts
 unfolding tokenWords
 words-length [] = refl
 words-length (t ∷ ts) = let ih = words-length ts in omega arith
@@ -45,16 +51,16 @@ unfolding tokenWords
 words-snoc [] t = refl
 words-snoc (u ∷ ts) t = ap (λ l. u .kind ∷ u .start ∷ u .end ∷ l) (words-snoc ts t)
 
--- three words more, behind those that lie before them
-three : (p o : List ℕ) (k a e m : ℕ) → length p ≡ m → m + 3 ≤ length o
-    → set (set (set (p ++ drop m o) m k) (m + 1) a) (m + 2) e ≡ (p ++ k ∷ a ∷ e ∷ []) ++ drop (m + 3) o
-three p o k a e m l h =
+-- the words of one token more, behind those that lie before them
+token-more : (p o : List ℕ) (k a e m : ℕ) → length p ≡ m → m + tokWide ≤ length o
+    → set (set (set (p ++ drop m o) m k) (m + 1) a) (m + 2) e ≡ (p ++ k ∷ a ∷ e ∷ []) ++ drop (m + tokWide) o
+token-more p o k a e m l h =
     let q = p ++ drop m o in
     let b : suc m ≡ m + 1 = omega arith in
     let d : suc (suc m) ≡ m + 2 = omega arith in
-    let n : m + 3 ≤ length q = omega (arith, length-append p (drop m o), length-drop m o) in
-    let f : drop (m + 3) q ≡ drop (m + 3) o =
-    sym (drop-drop 3 m q) ∙ ap (λ x. drop 3 x) (drop-at p (drop m o) m l) ∙ drop-drop 3 m o in
+    let n : m + tokWide ≤ length q = omega (arith, length-append p (drop m o), length-drop m o) in
+    let f : drop (m + tokWide) q ≡ drop (m + tokWide) o =
+    sym (drop-drop tokWide m q) ∙ ap (λ x. drop tokWide x) (drop-at p (drop m o) m l) ∙ drop-drop tokWide m o in
     sym (ap₂ (λ x y. set (set (set q m k) x a) y e) b d)
     ∙ sets-eq (k ∷ a ∷ e ∷ []) q m n
     ∙ ap₂ (λ x y. x ++ (k ∷ a ∷ e ∷ []) ++ y) (take-at p (drop m o) m l) f
@@ -63,7 +69,7 @@ length-put : (out : List ℕ) (room n k a e : ℕ) → length (putAt out room n 
 unfolding putAt
 length-put out room n k a e = go (ltb n room)
   where
-    go : (b : Bool) → length (cond b (set (set (set out (3 * n) k) (3 * n + 1) a) (3 * n + 2) e) out) ≡ length out
+    go : (b : Bool) → length (cond b (set (set (set out (tokWide * n) k) (tokWide * n + 1) a) (tokWide * n + 2) e) out) ≡ length out
     go true = simp length-set
     go false = refl
 
@@ -86,20 +92,21 @@ before-snoc : (ts : List Token) (t : Token) (x : Lexemes) → before (ts ++ t �
 before-snoc ts t (tokens us) = ap tokens (append-assoc ts (t ∷ []) us)
 before-snoc ts t (refusedAt c p) = refl
 
--- at place i of s, with n tokens found: those below the room stand in the buffer, and w is the start of the first too many
-pub record Filling (s : List ℕ) (room : ℕ) (o : List ℕ) (i n w : ℕ) (out : List ℕ) : Type 0 where
+-- at place i of s, with n tokens found: those below the room stand in the buffer, w is the start of the first too many, x what is counted of them all
+pub record Filling (s : List ℕ) (room : ℕ) (o : List ℕ) (i n w : ℕ) (x : Nest) (out : List ℕ) : Type 0 where
   pub done : List Token
   pub number : length done ≡ n
   pub within : i ≤ length s
   pub few : n ≤ i
   pub rest : before done (lexemesFrom (drop i s) i 0) ≡ lexemes s
   pub long : length out ≡ length o
-  pub written : n ≤ room → out ≡ tokenWords done ++ drop (3 * n) o
+  pub written : n ≤ room → out ≡ tokenWords done ++ drop (tokWide * n) o
   pub over : room < n → w ≡ getD done room noToken .start
+  pub nested : nestOf outermost done ≡ x
 
-pub fill-start : (s : List ℕ) (room : ℕ) (o : List ℕ) → Filling s room o 0 0 0 o
+pub fill-start : (s : List ℕ) (room : ℕ) (o : List ℕ) (x : Nest) → x ≡ outermost → Filling s room o 0 0 0 x o
 unfolding lexemes tokenWords
-fill-start s room o = record {
+fill-start s room o x e = record {
   done = [];
   number = refl;
   within = omega arith;
@@ -108,9 +115,10 @@ fill-start s room o = record {
   long = refl;
   written = λ _. refl;
   over = λ h. absurd (omega arith);
+  nested = sym e;
 }
 
-module _ {s : List ℕ} {room : ℕ} {o : List ℕ} {i n w : ℕ} {out : List ℕ} (v : Filling s room o i n w out) (t : Step) (q : stepOf s i ≡ t) where
+module _ {s : List ℕ} {room : ℕ} {o : List ℕ} {i n w : ℕ} {x : Nest} {out : List ℕ} (v : Filling s room o i n w x out) (t : Step) (q : stepOf s i ≡ t) where
   -- what is left, as the step has it
   left : before (v .done) (follow t i (λ j. lexemesFrom (drop j s) j 0)) ≡ lexemes s
   left = sym (ap (before (v .done)) (rest-follows s i ∙ ap (λ x. follow x i (λ j. lexemesFrom (drop j s) j 0)) q)) ∙ v .rest
@@ -118,8 +126,8 @@ module _ {s : List ℕ} {room : ℕ} {o : List ℕ} {i n w : ℕ} {out : List �
   pub fill-leads : Leads i (length s) t
   fill-leads = subst (Leads i (length s)) q (step-leads s i)
 
-module _ {s : List ℕ} {room : ℕ} {o : List ℕ} {i n w : ℕ} {out : List ℕ} (v : Filling s room o i n w out) where
-  pub fill-trivia : (e : ℕ) → stepOf s i ≡ S.Trivia e → Filling s room o e n w out
+module _ {s : List ℕ} {room : ℕ} {o : List ℕ} {i n w : ℕ} {x : Nest} {out : List ℕ} (v : Filling s room o i n w x out) where
+  pub fill-trivia : (e : ℕ) → stepOf s i ≡ S.Trivia e → Filling s room o e n w x out
   fill-trivia e q =
       let m = fill-leads v (S.Trivia e) q in
       record {
@@ -131,6 +139,7 @@ module _ {s : List ℕ} {room : ℕ} {o : List ℕ} {i n w : ℕ} {out : List �
         long = v .long;
         written = v .written;
         over = v .over;
+        nested = v .nested;
       }
 
   pub fill-refused : (c p : ℕ) → stepOf s i ≡ S.Refused c p → lexemes s ≡ refusedAt c p
@@ -143,15 +152,15 @@ module _ {s : List ℕ} {room : ℕ} {o : List ℕ} {i n w : ℕ} {out : List �
     abbrev this : Token
     this = record { kind = k; start = i; end = e }
 
-    put-written : 3 * room ≤ length o → n + 1 ≤ room → putAt out room n k i e ≡ tokenWords (v .done ++ this ∷ []) ++ drop (3 * (n + 1)) o
+    put-written : tokWide * room ≤ length o → n + 1 ≤ room → putAt out room n k i e ≡ tokenWords (v .done ++ this ∷ []) ++ drop (tokWide * (n + 1)) o
     unfolding putAt
     put-written f h =
-        let l : length (tokenWords (v .done)) ≡ 3 * n = words-length (v .done) ∙ ap (λ x. 3 * x) (v .number) in
-        let a : 3 * n + 3 ≡ 3 * (n + 1) = omega arith in
+        let l : length (tokenWords (v .done)) ≡ tokWide * n = words-length (v .done) ∙ ap (λ x. tokWide * x) (v .number) in
+        let a : tokWide * n + tokWide ≡ tokWide * (n + 1) = omega arith in
         let b : n < room = omega arith in
-        ap (λ x. cond x (set (set (set out (3 * n) k) (3 * n + 1) i) (3 * n + 2) e) out) (lt-ltb n room b)
-        ∙ ap (λ x. set (set (set x (3 * n) k) (3 * n + 1) i) (3 * n + 2) e) (v .written (omega arith))
-        ∙ three (tokenWords (v .done)) o k i e (3 * n) l (omega arith)
+        ap (λ x. cond x (set (set (set out (tokWide * n) k) (tokWide * n + 1) i) (tokWide * n + 2) e) out) (lt-ltb n room b)
+        ∙ ap (λ x. set (set (set x (tokWide * n) k) (tokWide * n + 1) i) (tokWide * n + 2) e) (v .written (omega arith))
+        ∙ token-more (tokenWords (v .done)) o k i e (tokWide * n) l (omega arith)
         ∙ ap₂ (λ x y. x ++ drop y o) (sym (words-snoc (v .done) this)) a
 
     put-over : room < n + 1 → cond (eqb n room) i w ≡ getD (v .done ++ this ∷ []) room noToken .start
@@ -163,7 +172,7 @@ module _ {s : List ℕ} {room : ℕ} {o : List ℕ} {i n w : ℕ} {out : List �
             let g : room < n = omega (arith, eqb-false n room f) in
             v .over g ∙ ap (λ x. x .start) (sym (List·getD-append (v .done) (this ∷ []) noToken room (omega (arith, v .number))))
 
-    pub fill-token : 3 * room ≤ length o → Filling s room o e (n + 1) (cond (eqb n room) i w) (putAt out room n k i e)
+    pub fill-token : tokWide * room ≤ length o → Filling s room o e (n + 1) (cond (eqb n room) i w) (nestAfter x k i) (putAt out room n k i e)
     fill-token f =
         let m = fill-leads v (S.Token k e) q in
         record {
@@ -175,31 +184,47 @@ module _ {s : List ℕ} {room : ℕ} {o : List ℕ} {i n w : ℕ} {out : List �
           long = length-put out room n k i e ∙ v .long;
           written = put-written f;
           over = put-over;
+          nested = nest-snoc outermost (v .done) this ∙ ap (λ (y : Nest). nestAfter y k i) (v .nested);
         }
 
   -- every token is found: the answer and the buffer
-  pub fill-answer : stepOf s i ≡ S.Nothing → cond (ltb room n) (L.Refused 6 w) (L.Tokens n) ≡ counted room (lexemes s)
+  abbrev said : Bool → Bool → Lexed
+  said a b = cond a (L.Refused refusal.TooMany w) (cond b (L.Refused refusal.TooDeep (x .place)) (L.Tokens n))
+
+  abbrev left-in : Bool → Bool → List ℕ
+  left-in a b = cond a out (cond b out (take (tokWide * n) out ++ replicate (length out - tokWide * n) 0))
+
+  deep-is : cond (isPast x) (L.Refused refusal.TooDeep (x .place)) (L.Tokens n) ≡ deep (tooDeep 0 0 (v .done)) n
+  deep-is = go (isPast x) ∙ sym (ap (λ (p : Option ℕ). deep p n) (sym (nest-deep (v .done) 0 0 0 (omega arith)) ∙ ap passedAt (v .nested)))
+    where
+      go : (b : Bool) → cond b (L.Refused refusal.TooDeep (x .place)) (L.Tokens n) ≡ deep (cond b (some (x .place)) none) n
+      go true = refl
+      go false = refl
+
+  pub fill-answer : stepOf s i ≡ S.Nothing → said (ltb room n) (isPast x) ≡ judgedIn room (lexemes s)
   fill-answer q =
       go (ltb room n) refl
-      ∙ sym (ap (λ x. cond (ltb room x) (L.Refused 6 (getD (v .done) room noToken .start)) (L.Tokens x)) (v .number))
-      ∙ sym (ap (counted room) (fill-over q))
+      ∙ sym (ap (λ y. cond (ltb room y) (L.Refused refusal.TooMany first-over) (deep (tooDeep 0 0 (v .done)) y)) (v .number))
+      ∙ sym (ap (judgedIn room) (fill-over q))
     where
-      go : (b : Bool) → ltb room n ≡ b → cond b (L.Refused 6 w) (L.Tokens n) ≡ cond b (L.Refused 6 (getD (v .done) room noToken .start)) (L.Tokens n)
-      go true f = ap (L.Refused 6) (v .over (ltb-true room n f))
-      go false f = refl
+      first-over : ℕ
+      first-over = getD (v .done) room noToken .start
 
-  -- the tokens stand in the buffer unless they are too many
-  pub fill-held : (r : Lexed) (z : List ℕ) → stepOf s i ≡ S.Nothing → r ≡ cond (ltb room n) (L.Refused 6 w) (L.Tokens n)
-      → z ≡ cond (ltb room n) out (take (3 * n) out ++ replicate (length out - 3 * n) 0) → Held r z (tokensOf (lexemes s)) (length o)
-  fill-held r z q e g = record { holds = go (ltb room n) refl e g }
+      go : (b : Bool) → ltb room n ≡ b → said b (isPast x) ≡ cond b (L.Refused refusal.TooMany first-over) (deep (tooDeep 0 0 (v .done)) n)
+      go true f = ap (L.Refused refusal.TooMany) (v .over (ltb-true room n f))
+      go false f = deep-is
+
+  -- the tokens stand in the buffer unless they are refused
+  pub fill-held : (r : Lexed) (z : List ℕ) → stepOf s i ≡ S.Nothing → r ≡ said (ltb room n) (isPast x) → z ≡ left-in (ltb room n) (isPast x)
+      → Held r z (tokensOf (lexemes s)) (length o)
+  fill-held r z q e g = record { holds = go (ltb room n) (isPast x) refl e g }
     where
-      go : (b : Bool) → ltb room n ≡ b → r ≡ cond b (L.Refused 6 w) (L.Tokens n)
-          → z ≡ cond b out (take (3 * n) out ++ replicate (length out - 3 * n) 0)
-          → (m : ℕ) → r ≡ L.Tokens m → z ≡ content r (tokensOf (lexemes s)) (length o)
-      go true f e g m h = let x : _≡_ {A = ℕ} 0 1 = cc in absurd (omega arith)
-      go false f e g m h =
-          let l : length (tokenWords (v .done)) ≡ 3 * n = words-length (v .done) ∙ ap (λ x. 3 * x) (v .number) in
-          let a : take (3 * n) out ≡ tokenWords (v .done) = ap (take (3 * n)) (v .written (ltb-false room n f)) ∙ take-at (tokenWords (v .done)) (drop (3 * n) o) (3 * n) l in
-          let b : length out - 3 * n ≡ length o - 3 * length (v .done) = ap₂ (λ x y. x - 3 * y) (v .long) (sym (v .number)) in
-          g ∙ ap₂ (λ x y. x ++ replicate y 0) a b
-          ∙ sym (ap₂ (λ x y. content x (tokensOf y) (length o)) h (fill-over q))
+      go : (a b : Bool) → ltb room n ≡ a → r ≡ said a b → z ≡ left-in a b → (m : ℕ) → r ≡ L.Tokens m → z ≡ content r (tokensOf (lexemes s)) (length o)
+      go true b f e g m h = let y : _≡_ {A = ℕ} 0 1 = cc in absurd (omega arith)
+      go false true f e g m h = let y : _≡_ {A = ℕ} 0 1 = cc in absurd (omega arith)
+      go false false f e g m h =
+          let l : length (tokenWords (v .done)) ≡ tokWide * n = words-length (v .done) ∙ ap (λ y. tokWide * y) (v .number) in
+          let a : take (tokWide * n) out ≡ tokenWords (v .done) = ap (take (tokWide * n)) (v .written (ltb-false room n f)) ∙ take-at (tokenWords (v .done)) (drop (tokWide * n) o) (tokWide * n) l in
+          let b : length out - tokWide * n ≡ length o - tokWide * length (v .done) = ap₂ (λ y z. y - tokWide * z) (v .long) (sym (v .number)) in
+          g ∙ ap₂ (λ y z. y ++ replicate z 0) a b
+          ∙ sym (ap₂ (λ y z. content y (tokensOf z) (length o)) h (fill-over q))

@@ -7,6 +7,6 @@ pub mod Marks
 pub mod Bytes
 pub mod Order
 pub mod Steps
+pub mod Nesting
 pub mod Filling
-pub mod Deep
 pub mod TokenClass

@@ -12,9 +12,12 @@ use lib.Dec.{T, eqb, leb, ltb, eqb→eq}
 use lib.ListN.{length, getD, take, drop, replicate, length-replicate}
 use lib.Seq.{getD-drop}
 use Rattle.text.specs.Ascii.{ascii, asciiFrom}
+use Rattle.text.specs.Refusals as refusal
 use Rattle.text.specs.Same.{same, differ}
 use Rattle.text.specs.Table.{every, at, all, each, first-of, second-of}
 use Rattle.lexer.specs.Bytes.{markClass, byteClass, inClasses}
+use Rattle.lexer.specs.Bytes as byte
+use Rattle.lexer.specs.Classes as t
 use Rattle.lexer.specs.Chars.{Range, among, whitespace, lineEnds, plainBytes, binaryDigits, decimalDigits, hexDigits, underscore, nameStarts, is, first, run, begins}
 use Rattle.lexer.specs.Lexemes.{Lexeme, token, trivia, refused, _orElse_, Mark, space, lineComment, blockComment, qualified, macro, digits, hexadecimal, binary, decimal, word, marks, mark, noLexeme, lexeme}
 use Rattle.lexer.specs.Places.{Based, decimalAt}
@@ -30,15 +33,15 @@ use Rattle.lexer.proofs.Runs.{run-same}
 -- the mark of a byte b, where `>` follows (g), or `:` (h)
 abbrev chosen : ℕ → Bool → Bool → Lexeme
 chosen b g h =
-    (cond (is "-" b && g) (some (token 13 2)) (cond (is "=" b && g) (some (token 19 2)) (cond (is ":" b && h) (some (token 14 2)) (mark (drop 3 marks) (b ∷ []))))) orElse noLexeme b
+    (cond (is "-" b && g) (some (token t.Arrow 2)) (cond (is "=" b && g) (some (token t.FatArrow 2)) (cond (is ":" b && h) (some (token t.DoubleColon 2)) (mark (drop 3 marks) (b ∷ []))))) orElse noLexeme b
 
 -- the same by the byte's class
 abbrev pub byClass : ℕ → Bool → Bool → Lexeme
 byClass c g h =
-    cond (eqb c 13) (cond g (token 13 2) (refused 3 0))
-    (cond (eqb c 15) (cond h (token 14 2) (token 15 1))
-    (cond (eqb c 18) (cond g (token 19 2) (token 18 1))
-    (cond (eqb c 28) (refused 3 0)
+    cond (eqb c byte.Minus) (cond g (token t.Arrow 2) (refused refusal.NoLexeme 0))
+    (cond (eqb c byte.Colon) (cond h (token t.DoubleColon 2) (token t.Colon 1))
+    (cond (eqb c byte.Eq) (cond g (token t.FatArrow 2) (token t.Eq 1))
+    (cond (eqb c byte.Other) (refused refusal.NoLexeme 0)
     (token c 1))))
 
 -- two lexemes are the same
@@ -65,7 +68,7 @@ same-lexeme (refused c n) (token l m) t = absurd t
 same-lexeme (refused c n) (trivia m) t = absurd t
 same-lexeme (refused c n) (refused d m) t = ap₂ refused (eqb→eq c d (first-of (eqb c d) (eqb n m) t)) (eqb→eq n m (second-of (eqb c d) (eqb n m) t))
 
--- what is tested of each byte up to 127 whose class is from 13 to 28
+-- what is tested of each byte up to 127 that may be a mark
 abbrev mark-tests : ℕ → List Bool
 mark-tests b =
     sameLexeme (chosen b false false) (byClass (byteClass b) false false) ∷
@@ -73,31 +76,31 @@ mark-tests b =
     sameLexeme (chosen b true false) (byClass (byteClass b) true false) ∷
     sameLexeme (chosen b true true) (byClass (byteClass b) true true) ∷ []
 
-marks-pass : T (every {A = ℕ} (λ b x. cond (inClasses 13 28 b) (all (mark-tests b)) true) 0 (replicate 128 0))
+marks-pass : T (every {A = ℕ} (λ b x. cond (inClasses byte.Minus byte.Other b) (all (mark-tests b)) true) 0 (replicate 128 0))
 unfolding sameLexeme mark marks noLexeme inClasses byteClass markClass same ascii asciiFrom begins among whitespace lineEnds plainBytes binaryDigits decimalDigits hexDigits underscore nameStarts
 marks-pass = tt
 
 -- a byte of these classes is not over 127
-not-over : (b : ℕ) → inClasses 13 28 b ≡ true → b ≤ 127
+not-over : (b : ℕ) → inClasses byte.Minus byte.Other b ≡ true → b ≤ 127
 not-over b h = go (leb b 127) refl
   where
     go : (t : Bool) → leb b 127 ≡ t → b ≤ 127
     go true e = leb-true _ _ e
-    go false e = differ (sym (class-above 13 28 b 31 (sym (over-class b (leb-false _ _ e))) (omega arith)) ∙ h)
+    go false e = differ (sym (class-above byte.Minus byte.Other b byte.NotAscii (sym (over-class b (leb-false _ _ e))) (omega arith)) ∙ h)
 
-passes : (b : ℕ) → inClasses 13 28 b ≡ true → T (all (mark-tests b))
+passes : (b : ℕ) → inClasses byte.Minus byte.Other b ≡ true → T (all (mark-tests b))
 passes b h =
     subst (λ t. T (cond t (all (mark-tests b)) true)) h
-    (at {A = ℕ} (λ b x. cond (inClasses 13 28 b) (all (mark-tests b)) true) (replicate 128 0) 0 marks-pass b (let l = not-over b h in omega (arith, length-replicate {A = ℕ} 128 0)))
+    (at {A = ℕ} (λ b x. cond (inClasses byte.Minus byte.Other b) (all (mark-tests b)) true) (replicate 128 0) 0 marks-pass b (let l = not-over b h in omega (arith, length-replicate {A = ℕ} 128 0)))
 
-chosen-is : (b : ℕ) → inClasses 13 28 b ≡ true → (g h : Bool) → chosen b g h ≡ byClass (byteClass b) g h
+chosen-is : (b : ℕ) → inClasses byte.Minus byte.Other b ≡ true → (g h : Bool) → chosen b g h ≡ byClass (byteClass b) g h
 chosen-is b k false false = same-lexeme _ _ (each (mark-tests b) (passes b k) 0)
 chosen-is b k false true = same-lexeme _ _ (each (mark-tests b) (passes b k) 1)
 chosen-is b k true false = same-lexeme _ _ (each (mark-tests b) (passes b k) 2)
 chosen-is b k true true = same-lexeme _ _ (each (mark-tests b) (passes b k) 3)
 
 -- Where a mark may start, only the trial of the marks is left.
-only-marks : (b : ℕ) (r : List ℕ) → inClasses 13 28 b ≡ true → lexeme (b ∷ r) ≡ (mark marks (b ∷ r) orElse noLexeme b)
+only-marks : (b : ℕ) (r : List ℕ) → inClasses byte.Minus byte.Other b ≡ true → lexeme (b ∷ r) ≡ (mark marks (b ∷ r) orElse noLexeme b)
 unfolding lexeme space lineComment blockComment qualified macro hexadecimal binary decimal digits word begins ascii asciiFrom
 only-marks b r h =
     let no = each-fails (notMark b) (mark-apart b h) in
@@ -112,12 +115,12 @@ mark-is : (b : ℕ) (r : List ℕ) → (mark marks (b ∷ r) orElse noLexeme b) 
 unfolding mark marks begins ascii asciiFrom
 mark-is b r = simp (begins-one 61 r, begins-one 57 r)
 
-module _ (s : List ℕ) (i c n : ℕ) (h : i < length s) (q : c ≡ byteClass (getD s i 0)) (f : n ≡ getD s (i + 1) 0) (a : 13 ≤ c) (b : c ≤ 28) where
+module _ (s : List ℕ) (i c n : ℕ) (h : i < length s) (q : c ≡ byteClass (getD s i 0)) (f : n ≡ getD s (i + 1) 0) (a : byte.Minus ≤ c) (b : c ≤ byte.Other) where
   -- the lexeme by the class of its first byte and the byte behind it
   pub at-mark : stepFrom (byClass c (eqb n 62) (eqb n 58)) i ≡ lexemeAt s i
   at-mark =
       let x = getD s i 0 in
-      let k : inClasses 13 28 x ≡ true = class-in 13 28 x c q a b in
+      let k : inClasses byte.Minus byte.Other x ≡ true = class-in byte.Minus byte.Other x c q a b in
       let d : first (drop (suc i) s) ≡ n = rest-first s (suc i) ∙ ap (λ m. getD s m 0) (sym (add-one i)) ∙ sym f in
       let l : lexeme (drop i s) ≡ byClass c (eqb n 62) (eqb n 58) =
       ap lexeme (rest-cons s i x h refl)

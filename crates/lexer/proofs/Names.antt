@@ -11,11 +11,14 @@ use lib.Dec.{eqb, ltb}
 use lib.ListN.{length, getD, take, drop}
 use lib.Seq.{getD-drop}
 use Rattle.text.specs.Ascii.{ascii, asciiFrom}
+use Rattle.text.specs.Refusals as refusal
 use Rattle.text.specs.Part.{partOf}
 use Rattle.words.specs.Words.{KEYWORDS, MACROS, MODULE_RESERVED, wordOf}
 use Rattle.words.specs.declared.Found.{Found}
 use Rattle.words.specs.declared.Found.the-variants.{Word, Plain}
 use Rattle.lexer.specs.Bytes.{inClasses}
+use Rattle.lexer.specs.Bytes as byte
+use Rattle.lexer.specs.Classes as t
 use Rattle.lexer.specs.Chars.{among, whitespace, decimalDigits, nameStarts, nameBytes, is, first, run, begins}
 use Rattle.lexer.specs.Lexemes.{Lexeme, token, refused, _orElse_, space, lineComment, blockComment, nameLength, isName, moduleToken, qualified, macroToken, macro, wordToken, word, digits, hexadecimal, binary, decimal, lexeme}
 use Rattle.lexer.specs.Places.{Named, keywordAt}
@@ -106,51 +109,51 @@ module _ (s : List ℕ) (i e : ℕ) (v : Named s i e) where
   -- ---- the lexeme
 
   pub at-module : (k m : ℕ) → getD s e 0 ≡ 58 → getD s (e + 1) 0 ≡ 58 → among nameStarts (getD s (e + 2) 0) ≡ true
-      → wordOf MODULE_RESERVED (partOf s i e) ≡ Word k → m ≡ e + 2 + run (inClasses 0 4) (drop (e + 2) s) → Token (33 + k) m ≡ lexemeAt s i
+      → wordOf MODULE_RESERVED (partOf s i e) ≡ Word k → m ≡ e + 2 + run (inClasses byte.Underscore byte.Letter) (drop (e + 2) s) → Token (t.Jet + k) m ≡ lexemeAt s i
   unfolding nameLength
   at-module k m a b c d q =
-      let w : qualified (drop i s) ≡ some (token (33 + k) (nameLength (drop i s) + 2 + nameLength (drop (e + 2) s))) =
+      let w : qualified (drop i s) ≡ some (token (t.Jet + k) (nameLength (drop i s) + 2 + nameLength (drop (e + 2) s))) =
       qualified-is ∙ simp (eq-eqb _ _ a, eq-eqb _ _ b, c, d) in
-      let n = run-same (inClasses 0 4) (among nameBytes) name-classes (drop (e + 2) s) in
+      let n = run-same (inClasses byte.Underscore byte.Letter) (among nameBytes) name-classes (drop (e + 2) s) in
       let z : m ≡ i + (nameLength (drop i s) + 2 + nameLength (drop (e + 2) s)) = (let y = v .ends in omega arith) in
-      let l : lexeme (drop i s) ≡ token (33 + k) (nameLength (drop i s) + 2 + nameLength (drop (e + 2) s)) = lexeme-is ∙ simp w in
-      ap (Token (33 + k)) z ∙ sym (ap (λ x. stepFrom x i) l)
+      let l : lexeme (drop i s) ≡ token (t.Jet + k) (nameLength (drop i s) + 2 + nameLength (drop (e + 2) s)) = lexeme-is ∙ simp w in
+      ap (Token (t.Jet + k)) z ∙ sym (ap (λ x. stepFrom x i) l)
 
-  pub at-macro : (k : ℕ) → qualified (drop i s) ≡ none → getD s e 0 ≡ 33 → e + 1 ≤ length s → wordOf MACROS (partOf s i (e + 1)) ≡ Word k → Token 36 (e + 1) ≡ lexemeAt s i
+  pub at-macro : (k : ℕ) → qualified (drop i s) ≡ none → getD s e 0 ≡ 33 → e + 1 ≤ length s → wordOf MACROS (partOf s i (e + 1)) ≡ Word k → Token t.Macro (e + 1) ≡ lexemeAt s i
   at-macro k b a h d =
-      let t : take (nameLength (drop i s) + 1) (drop i s) ≡ partOf s i (e + 1) = sym (part-rest s i (nameLength (drop i s) + 1) (e + 1) (let z = v .ends in omega arith) h) in
-      let w : macro (drop i s) ≡ some (token 36 (nameLength (drop i s) + 1)) = macro-is ∙ simp (eq-eqb _ _ a, t, d) in
+      let x : take (nameLength (drop i s) + 1) (drop i s) ≡ partOf s i (e + 1) = sym (part-rest s i (nameLength (drop i s) + 1) (e + 1) (let z = v .ends in omega arith) h) in
+      let w : macro (drop i s) ≡ some (token t.Macro (nameLength (drop i s) + 1)) = macro-is ∙ simp (eq-eqb _ _ a, x, d) in
       let z : e + 1 ≡ i + (nameLength (drop i s) + 1) = (let y = v .ends in omega arith) in
-      let l : lexeme (drop i s) ≡ token 36 (nameLength (drop i s) + 1) = lexeme-is ∙ simp (b, w) in
-      ap (Token 36) z ∙ sym (ap (λ x. stepFrom x i) l)
+      let l : lexeme (drop i s) ≡ token t.Macro (nameLength (drop i s) + 1) = lexeme-is ∙ simp (b, w) in
+      ap (Token t.Macro) z ∙ sym (ap (λ x. stepFrom x i) l)
 
   word-is : qualified (drop i s) ≡ none → macro (drop i s) ≡ none → lexemeAt s i ≡ stepFrom (wordToken (wordOf KEYWORDS (partOf s i e)) (nameLength (drop i s))) i
   word-is a b =
       let l : lexeme (drop i s) ≡ wordToken (wordOf KEYWORDS (partOf s i e)) (nameLength (drop i s)) = lexeme-is ∙ simp (a, b) in
       ap (λ x. stepFrom x i) l
 
-  pub at-plain : qualified (drop i s) ≡ none → macro (drop i s) ≡ none → wordOf KEYWORDS (partOf s i e) ≡ Plain → Token 32 e ≡ lexemeAt s i
-  at-plain a b d = sym (word-is a b ∙ ap (λ f. stepFrom (wordToken f (nameLength (drop i s))) i) d ∙ ap (Token 32) (sym (v .ends)))
+  pub at-plain : qualified (drop i s) ≡ none → macro (drop i s) ≡ none → wordOf KEYWORDS (partOf s i e) ≡ Plain → Token t.Ident e ≡ lexemeAt s i
+  at-plain a b d = sym (word-is a b ∙ ap (λ f. stepFrom (wordToken f (nameLength (drop i s))) i) d ∙ ap (Token t.Ident) (sym (v .ends)))
 
   pub at-keyword : (k : ℕ) → qualified (drop i s) ≡ none → macro (drop i s) ≡ none → wordOf KEYWORDS (partOf s i e) ≡ Word k → keywordAt k i e ≡ lexemeAt s i
-  at-keyword k a b d = sym (word-is a b ∙ ap (λ f. stepFrom (wordToken f (nameLength (drop i s))) i) d ∙ go (eqb k 11) (ltb 11 k))
+  at-keyword k a b d = sym (word-is a b ∙ ap (λ f. stepFrom (wordToken f (nameLength (drop i s))) i) d ∙ go (eqb (t.Pub + k) t.Simc) (ltb t.Simc (t.Pub + k)))
     where
-      go : (t u : Bool)
-          → stepFrom (cond t (refused 5 0) (cond u (token 31 (nameLength (drop i s))) (token (k + 1) (nameLength (drop i s))))) i
-          ≡ cond t (Refused 5 i) (cond u (Token 31 e) (Token (k + 1) e))
-      go true u = ap (Refused 5) (let z : i + 0 ≡ i = omega arith in z)
-      go false true = ap (Token 31) (sym (v .ends))
-      go false false = ap (Token (k + 1)) (sym (v .ends))
+      go : (a b : Bool)
+          → stepFrom (cond a (refused refusal.Simc 0) (cond b (token t.Bool (nameLength (drop i s))) (token (t.Pub + k) (nameLength (drop i s))))) i
+          ≡ cond a (Refused refusal.Simc i) (cond b (Token t.Bool e) (Token (t.Pub + k) e))
+      go true b = ap (Refused refusal.Simc) (let z : i + 0 ≡ i = omega arith in z)
+      go false true = ap (Token t.Bool) (sym (v .ends))
+      go false false = ap (Token (t.Pub + k)) (sym (v .ends))
 
 -- ---- what is known of a name and of a word found
 
-pub named : (s : List ℕ) (i e : ℕ) → i < length s → among nameStarts (getD s i 0) ≡ true → e ≡ i + run (inClasses 0 4) (drop i s) → Named s i e
+pub named : (s : List ℕ) (i e : ℕ) → i < length s → among nameStarts (getD s i 0) ≡ true → e ≡ i + run (inClasses byte.Underscore byte.Letter) (drop i s) → Named s i e
 unfolding nameLength
 named s i e h n q = record {
   starts = n;
-  ends = q ∙ ap (λ m. i + m) (run-same (inClasses 0 4) (among nameBytes) name-classes (drop i s));
+  ends = q ∙ ap (λ m. i + m) (run-same (inClasses byte.Underscore byte.Letter) (among nameBytes) name-classes (drop i s));
   here = h;
-  within = (let w = run-end-within (inClasses 0 4) s i (omega arith) in omega arith);
+  within = (let w = run-end-within (inClasses byte.Underscore byte.Letter) s i (omega arith) in omega arith);
 }
 
 pub keyword-count : length KEYWORDS ≡ 14

@@ -7,11 +7,12 @@ use lib.Dec.{eqb}
 use Rattle.words.specs.Words.{RULE_WORDS, wordOf}
 use Rattle.words.specs.declared.Found.{Found}
 use Rattle.words.specs.declared.Found.the-variants.{Word, Plain}
+use Rattle.lexer.specs.Classes as t
 
 abbrev pub wordClass : Found → ℕ → ℕ
-wordClass (Word k) kind = 37 + k
+wordClass (Word k) kind = t.words + k
 wordClass Plain kind = kind
 
--- booleans, names and macros (kinds 31, 32 and 36) have a class of their own where the rules tell them apart
+-- booleans, names and macros have a class of their own where the rules tell them apart
 unfoldable pub classOf : ℕ → List ℕ → ℕ
-classOf kind text = cond (eqb kind 31 || eqb kind 32 || eqb kind 36) (wordClass (wordOf RULE_WORDS text) kind) kind
+classOf kind text = cond (eqb kind t.Bool || eqb kind t.Ident || eqb kind t.Macro) (wordClass (wordOf RULE_WORDS text) kind) kind

@@ -1,4 +1,4 @@
--- Document 01, "Lexemes": from the bytes of a draft to its tokens, or the refusal of 2 to 5 with the earliest place.
+-- Document 01, "Lexemes": from the bytes of a draft to its tokens, or the refusal of the bytes' family with the earliest place.
 -- Assumes nothing.
 use mathlib.Core.Bool.{Bool, cond, _&&_, _||_, not}
 use mathlib.Core.List.{List, [], _∷_}
@@ -8,9 +8,11 @@ use Prim.Native.String.{String}
 use lib.Dec.{eqb, ltb, leb}
 use lib.ListN.{length, take, drop}
 use Rattle.text.specs.Ascii.{ascii}
+use Rattle.text.specs.Refusals as refusal
 use Rattle.words.specs.Words.{KEYWORDS, MACROS, MODULE_RESERVED, wordOf}
 use Rattle.words.specs.declared.Found.{Found}
 use Rattle.words.specs.declared.Found.the-variants.{Word, Plain}
+use Rattle.lexer.specs.Classes as t
 use Rattle.lexer.specs.Chars.{Range, among, whitespace, lineEnds, plainBytes, binaryDigits, decimalDigits, hexDigits, underscore, nameStarts, nameBytes, is, first, run, begins}
 
 -- What stands at the front of a text: a token of a kind and so many bytes, so many bytes of trivia, or a refusal behind so many bytes.
@@ -33,7 +35,7 @@ space r = cond (among whitespace (first r)) (some (trivia (run (among whitespace
 
 -- a comment of n bytes; a byte over 127 in it is refused
 unfoldable pub comment : ℕ → List ℕ → Lexeme
-comment n r = cond (eqb (run (among plainBytes) (take n r)) n) (trivia n) (refused 2 (run (among plainBytes) (take n r)))
+comment n r = cond (eqb (run (among plainBytes) (take n r)) n) (trivia n) (refused refusal.NotAscii (run (among plainBytes) (take n r)))
 
 -- "`//` runs to before CR, LF or the end."
 unfoldable pub lineComment : List ℕ → Option Lexeme
@@ -64,7 +66,7 @@ closing [] d p = none
 closing (b ∷ r) d p = onward (inside d p b) (closing r)
 
 abbrev pub block : Option ℕ → List ℕ → Lexeme
-block none r = refused 4 0
+block none r = refused refusal.Unclosed 0
 block (some n) r = comment (2 + n) r
 
 unfoldable pub blockComment : List ℕ → Option Lexeme
@@ -80,10 +82,10 @@ abbrev pub isName : List ℕ → Bool
 isName r = among nameStarts (first r)
 
 abbrev pub moduleToken : Found → ℕ → Option Lexeme
-moduleToken (Word k) n = some (token (33 + k) n)
+moduleToken (Word k) n = some (token (t.Jet + k) n)
 moduleToken Plain n = none
 
--- "`jet::`, `witness::` or `param::` with a name, no gap": kinds 33 to 35
+-- "`jet::`, `witness::` or `param::` with a name, no gap": the kinds from Jet on, in the order of the words
 unfoldable pub qualified : List ℕ → Option Lexeme
 qualified r =
     let n = nameLength r in
@@ -91,19 +93,20 @@ qualified r =
     cond (isName r && begins (ascii "::") (drop n r) && isName name) (moduleToken (wordOf MODULE_RESERVED (take n r)) (n + 2 + nameLength name)) none
 
 abbrev pub macroToken : Found → ℕ → Option Lexeme
-macroToken (Word k) n = some (token 36 n)
+macroToken (Word k) n = some (token t.Macro n)
 macroToken Plain n = none
 
--- "`assert! panic! dbg! list!`": kind 36
+-- "`assert! panic! dbg! list!`"
 unfoldable pub macro : List ℕ → Option Lexeme
 macro r =
     let n = nameLength r + 1 in
     cond (isName r && begins (ascii "!") (drop (nameLength r) r)) (macroToken (wordOf MACROS (take n r)) n) none
 
--- the keywords are kinds 1 to 12, of which the twelfth, `simc`, is refused; `true` and `false` are kind 31; any other name is kind 32
+-- the keywords are the kinds from Pub to Simc in the order of the words, of which the last, `simc`, is refused; the two words behind it are the
+-- booleans; any other name is an identifier
 abbrev pub wordToken : Found → ℕ → Lexeme
-wordToken (Word k) n = cond (eqb k 11) (refused 5 0) (cond (ltb 11 k) (token 31 n) (token (k + 1) n))
-wordToken Plain n = token 32 n
+wordToken (Word k) n = cond (eqb (t.Pub + k) t.Simc) (refused refusal.Simc 0) (cond (ltb t.Simc (t.Pub + k)) (token t.Bool n) (token (t.Pub + k) n))
+wordToken Plain n = token t.Ident n
 
 -- a word
 unfoldable pub word : List ℕ → Option Lexeme
@@ -118,13 +121,13 @@ digits base kind n r =
 
 -- "`0x` digits": kind 29; "`0b` digits": kind 30; decimal: kind 28
 unfoldable pub hexadecimal : List ℕ → Option Lexeme
-hexadecimal r = cond (begins (ascii "0x") r) (digits hexDigits 29 2 r) none
+hexadecimal r = cond (begins (ascii "0x") r) (digits hexDigits t.HexLiteral 2 r) none
 
 unfoldable pub binary : List ℕ → Option Lexeme
-binary r = cond (begins (ascii "0b") r) (digits binaryDigits 30 2 r) none
+binary r = cond (begins (ascii "0b") r) (digits binaryDigits t.BinLiteral 2 r) none
 
 unfoldable pub decimal : List ℕ → Option Lexeme
-decimal r = digits decimalDigits 28 0 r
+decimal r = digits decimalDigits t.DecLiteral 0 r
 
 -- ---- marks
 
@@ -138,8 +141,9 @@ sign t k = record { text = t; kind = k }
 -- "a mark, the longer first"
 unfoldable pub marks : List Mark
 marks =
-    sign "->" 13 ∷ sign "=>" 19 ∷ sign "::" 14 ∷ sign "=" 18 ∷ sign ":" 15 ∷ sign ";" 16 ∷ sign "," 17 ∷
-    sign "(" 20 ∷ sign ")" 21 ∷ sign "[" 22 ∷ sign "]" 23 ∷ sign "{" 24 ∷ sign "}" 25 ∷ sign "<" 26 ∷ sign ">" 27 ∷ []
+    sign "->" t.Arrow ∷ sign "=>" t.FatArrow ∷ sign "::" t.DoubleColon ∷ sign "=" t.Eq ∷ sign ":" t.Colon ∷ sign ";" t.Semi ∷ sign "," t.Comma ∷
+    sign "(" t.LParen ∷ sign ")" t.RParen ∷ sign "[" t.LBracket ∷ sign "]" t.RBracket ∷ sign "{" t.LBrace ∷ sign "}" t.RBrace ∷
+    sign "<" t.LAngle ∷ sign ">" t.RAngle ∷ []
 
 unfoldable pub mark : List Mark → List ℕ → Option Lexeme
 mark [] r = none
@@ -147,9 +151,9 @@ mark (m ∷ ms) r = cond (begins (ascii (m .text)) r) (some (token (m .kind) (le
 
 -- ---- the lexeme at the front of a text, and all of them
 
--- a byte that starts no lexeme: refused with 2 if it is over 127, else with 3
+-- "a byte over 127", and "another byte starts no lexeme"
 unfoldable pub noLexeme : ℕ → Lexeme
-noLexeme b = cond (ltb 127 b) (refused 2 0) (refused 3 0)
+noLexeme b = cond (ltb 127 b) (refused refusal.NotAscii 0) (refused refusal.NoLexeme 0)
 
 unfoldable pub lexeme : List ℕ → Lexeme
 lexeme r =

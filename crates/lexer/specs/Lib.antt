@@ -8,6 +8,7 @@ pub mod Trivia
 pub mod Places
 pub mod Limits
 pub mod Buffer
+pub mod Nesting
 pub mod Class
 pub mod Samples
 pub mod Classes

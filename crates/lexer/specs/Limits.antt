@@ -6,6 +6,9 @@ use mathlib.Core.Option.{Option, none, some}
 use Prim.Native.Nat.{ℕ, _+_, _-_, _*_, _/_, min}
 use lib.Dec.{eqb, ltb}
 use lib.ListN.{length, getD, replicate}
+use Rattle.text.specs.Refusals as refusal
+use Rattle.text.specs.Widths.{tokWide}
+use Rattle.lexer.specs.Classes as t
 use Rattle.lexer.specs.Lexemes.{Token, Lexemes, tokens, refusedAt, lexemes}
 use Rattle.lexer.specs.declared.Lexed.{Lexed}
 use Rattle.lexer.specs.declared.Lexed.the-variants.{Tokens, Refused}
@@ -15,16 +18,36 @@ pub record Limits : Type 0 where
   pub bytes : ℕ
   pub tokens : ℕ
 
+-- "draft over 16,384 bytes"
+abbrev pub draftBytes : ℕ
+draftBytes = 16384
+
+-- "over 2,048 tokens"
+abbrev pub draftTokens : ℕ
+draftTokens = 2048
+
+-- "over 48 brackets open"
+abbrev pub mostOpen : ℕ
+mostOpen = 48
+
+-- "over 8 `match` tokens in a row"
+abbrev pub mostInRow : ℕ
+mostInRow = 8
+
 -- "each of `( [ { <` adds one and each of `) ] } >` takes one off, never below 0"
 unfoldable pub depthAfter : ℕ → ℕ → ℕ
 depthAfter k d =
-    cond (eqb k 20 || eqb k 22 || eqb k 24 || eqb k 26) (d + 1)
-    (cond (eqb k 21 || eqb k 23 || eqb k 25 || eqb k 27) (d - 1)
+    cond (eqb k t.LParen || eqb k t.LBracket || eqb k t.LBrace || eqb k t.LAngle) (d + 1)
+    (cond (eqb k t.RParen || eqb k t.RBracket || eqb k t.RBrace || eqb k t.RAngle) (d - 1)
     d)
 
 -- how many `match` tokens stand in a row
 unfoldable pub rowAfter : ℕ → ℕ → ℕ
-rowAfter k m = cond (eqb k 9) (m + 1) 0
+rowAfter k m = cond (eqb k t.Match) (m + 1) 0
+
+-- so many brackets open, or so many `match` tokens in a row, are too many
+abbrev pub passes : ℕ → ℕ → Bool
+passes d m = ltb mostOpen d || ltb mostInRow m
 
 -- "over 48 brackets open, or over 8 `match` tokens in a row": the token that passes it
 unfoldable pub tooDeep : ℕ → ℕ → List Token → Option ℕ
@@ -32,30 +55,32 @@ tooDeep d m [] = none
 tooDeep d m (t ∷ ts) =
     let d′ = depthAfter (t .kind) d in
     let m′ = rowAfter (t .kind) m in
-    cond (ltb 48 d′ || ltb 8 m′) (some (t .start)) (tooDeep d′ m′ ts)
+    cond (passes d′ m′) (some (t .start)) (tooDeep d′ m′ ts)
 
--- how many tokens fit: the limit, or a third of the buffer's words if that is less
+-- how many tokens fit: the limit, or "a third of the token buffer's words" if that is less
 unfoldable pub room : Limits → ℕ → ℕ
-room l size = min (l .tokens) (size / 3)
+room l size = min (l .tokens) (size / tokWide)
 
 abbrev pub noToken : Token
 noToken = record { kind = 0; start = 0; end = 0 }
 
 abbrev pub deep : Option ℕ → ℕ → Lexed
 deep none n = Tokens n
-deep (some p) n = Refused 7 p
+deep (some p) n = Refused refusal.TooDeep p
 
--- refusals 2 to 5, then 6, then 7
+-- the refusals of the bytes, then too many tokens for the r that fit, then too deep
+abbrev pub judgedIn : ℕ → Lexemes → Lexed
+judgedIn r (refusedAt c p) = Refused c p
+judgedIn r (tokens ts) = cond (ltb r (length ts)) (Refused refusal.TooMany (getD ts r noToken .start)) (deep (tooDeep 0 0 ts) (length ts))
+
 abbrev pub judged : Limits → ℕ → Lexemes → Lexed
-judged l size (refusedAt c p) = Refused c p
-judged l size (tokens ts) =
-    cond (ltb (room l size) (length ts)) (Refused 6 (getD ts (room l size) noToken .start)) (deep (tooDeep 0 0 ts) (length ts))
+judged l size = judgedIn (room l size)
 
 -- the answer for a draft and a token buffer of so many words
 unfoldable pub lexedOf : Limits → List ℕ → ℕ → Lexed
-lexedOf l draft size = cond (ltb (l .bytes) (length draft)) (Refused 1 (l .bytes)) (judged l size (lexemes draft))
+lexedOf l draft size = cond (ltb (l .bytes) (length draft)) (Refused refusal.TooLong (l .bytes)) (judged l size (lexemes draft))
 
--- three words a token
+-- "A token is three u32 words: kind .., start, end"
 unfoldable pub tokenWords : List Token → List ℕ
 tokenWords [] = []
 tokenWords (t ∷ ts) = t .kind ∷ t .start ∷ t .end ∷ tokenWords ts
@@ -66,7 +91,7 @@ tokensOf (refusedAt c p) = []
 
 -- what the buffer holds: the tokens and zeros behind them; on a refusal zeros alone
 abbrev pub content : Lexed → List Token → ℕ → List ℕ
-content (Tokens n) ts size = tokenWords ts ++ replicate (size - 3 * length ts) 0
+content (Tokens n) ts size = tokenWords ts ++ replicate (size - tokWide * length ts) 0
 content (Refused c p) ts size = replicate size 0
 
 unfoldable pub bufferOf : Limits → List ℕ → ℕ → List ℕ
@@ -76,6 +101,6 @@ bufferOf l draft size = content (lexedOf l draft size) (tokensOf (lexemes draft)
 abbrev pub limitsOf : ℕ → ℕ → Limits
 limitsOf b t = record { bytes = b; tokens = t }
 
--- the limits of a draft: "over 16,384 bytes", "over 2,048 tokens"
+-- the limits of a draft
 abbrev pub draftLimits : Limits
-draftLimits = limitsOf 16384 2048
+draftLimits = limitsOf draftBytes draftTokens

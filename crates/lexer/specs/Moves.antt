@@ -1,4 +1,4 @@
--- Each lexeme at a place of a draft has at least one byte and stays inside the draft, or it is refused with 2 to 5 at a byte of it.
+-- Each lexeme at a place of a draft has at least one byte and stays inside the draft, or it is a refusal of the bytes' family at a byte of it.
 -- Assumes nothing.
 use mathlib.Core.Bool.{Bool, true, false, cond, _&&_, _||_, not}
 use mathlib.Core.List.{List, [], _∷_, _++_}
@@ -7,22 +7,25 @@ use mathlib.Core.Path.{_≡_, refl}
 use Prim.Native.Nat.{ℕ, suc, _+_, _-_, _≤_, _<_}
 use native.Mathlib.Omega.{arith}
 use borrow.Author.Tests.{ltb-true, eqb-false}
-use lib.Dec.{eqb, ltb, leb}
+use lib.Dec.{T, eqb, ltb, leb}
 use lib.ListN.{length, take, drop, length-drop}
 use lib.Seq.{length-take-le}
 use Rattle.text.specs.Ascii.{ascii, asciiFrom}
+use Rattle.text.specs.Refusals.{oneOf}
+use Rattle.text.specs.Refusals as refusal
 use Rattle.text.specs.Same.{differ}
 use Rattle.words.specs.Words.{KEYWORDS, MACROS, MODULE_RESERVED, wordOf}
 use Rattle.words.specs.declared.Found.{Found}
 use Rattle.words.specs.declared.Found.the-variants.{Word, Plain}
+use Rattle.lexer.specs.Classes as t
 use Rattle.lexer.specs.Chars.{Range, among, whitespace, lineEnds, plainBytes, binaryDigits, decimalDigits, hexDigits, underscore, nameStarts, nameBytes, first, run, begins}
 use Rattle.lexer.specs.Lexemes.{Lexeme, token, trivia, refused, _orElse_, space, comment, lineComment, Inside, closed, within, inside, more, onward, closing, block, blockComment, nameLength, isName, moduleToken, qualified, macroToken, macro, wordToken, word, digits, hexadecimal, binary, decimal, Mark, marks, mark, noLexeme, lexeme}
 
--- what is found in m bytes goes on, and stays inside; or it is one of refusals 2 to 5 at one of the bytes
+-- what is found in m bytes goes on, and stays inside; or it is a refusal of the bytes' family at one of the bytes
 abbrev pub Moves : ℕ → Lexeme → Type 0
 Moves m (token k n) = (1 ≤ n) × (n ≤ m)
 Moves m (trivia n) = (1 ≤ n) × (n ≤ m)
-Moves m (refused c n) = (2 ≤ c) × (c ≤ 5) × (n < m)
+Moves m (refused c n) = T (oneOf refusal.ofBytes c) × (n < m)
 
 -- the same of a trial, which may find nothing
 abbrev pub Tries : ℕ → Option Lexeme → Type 0
@@ -102,7 +105,7 @@ comment-moves n r h k =
     let l = run-le (among plainBytes) (take n r) in
     let m = length-take-le n r k in
     cond-if (Moves (length r)) (eqb (run (among plainBytes) (take n r)) n) (λ _. (h, k))
-    (λ e. let d = eqb-false (run (among plainBytes) (take n r)) n e in (omega arith, omega arith, omega arith))
+    (λ e. let d = eqb-false (run (among plainBytes) (take n r)) n e in (tt, omega arith))
 
 -- the end of a comment stays inside
 abbrev Ends : ℕ → Option ℕ → Type 0
@@ -131,7 +134,7 @@ module _ (r : List ℕ) where
       comment-moves (2 + run (λ b. not (among lineEnds b)) (drop 2 r)) r (omega arith) (run-behind (λ b. not (among lineEnds b)) 2 r h))
 
   block-moves : (o : Option ℕ) → 2 ≤ length r → Ends (length (drop 2 r)) o → Moves (length r) (block o r)
-  block-moves none h e = (omega arith, omega arith, omega arith)
+  block-moves none h e = (tt, omega arith)
   block-moves (some n) h e = comment-moves (2 + n) r (omega arith) (omega (arith, length-drop 2 r))
 
   blockComment-moves : Tries (length r) (blockComment r)
@@ -170,8 +173,8 @@ module _ (r : List ℕ) where
 
   word-found : (f : Found) (n : ℕ) → 1 ≤ n → n ≤ length r → Moves (length r) (wordToken f n)
   word-found (Word k) n h l =
-      cond-if (Moves (length r)) (eqb k 11) (λ _. (omega arith, omega arith, omega arith))
-      (λ _. cond-if (Moves (length r)) (ltb 11 k) (λ _. (h, l)) (λ _. (h, l)))
+      cond-if (Moves (length r)) (eqb (t.Pub + k) t.Simc) (λ _. (tt, omega arith))
+      (λ _. cond-if (Moves (length r)) (ltb t.Simc (t.Pub + k)) (λ _. (h, l)) (λ _. (h, l)))
   word-found Plain n h l = (h, l)
 
   -- ---- digits
@@ -184,11 +187,11 @@ module _ (r : List ℕ) where
 
   hexadecimal-moves : Tries (length r) (hexadecimal r)
   unfolding hexadecimal ascii asciiFrom
-  hexadecimal-moves = try-if (length r) (begins (ascii "0x") r) _ (λ t. digits-moves hexDigits 29 2 (omega arith) (begins-le (ascii "0x") r t))
+  hexadecimal-moves = try-if (length r) (begins (ascii "0x") r) _ (λ e. digits-moves hexDigits t.HexLiteral 2 (omega arith) (begins-le (ascii "0x") r e))
 
   binary-moves : Tries (length r) (binary r)
   unfolding binary ascii asciiFrom
-  binary-moves = try-if (length r) (begins (ascii "0b") r) _ (λ t. digits-moves binaryDigits 30 2 (omega arith) (begins-le (ascii "0b") r t))
+  binary-moves = try-if (length r) (begins (ascii "0b") r) _ (λ e. digits-moves binaryDigits t.BinLiteral 2 (omega arith) (begins-le (ascii "0b") r e))
 
   -- ---- marks
 
@@ -211,7 +214,7 @@ module _ (r : List ℕ) where
 
   none-moves : (b : ℕ) → 1 ≤ length r → Moves (length r) (noLexeme b)
   unfolding noLexeme
-  none-moves b h = cond-if (Moves (length r)) (ltb 127 b) (λ _. (omega arith, omega arith, h)) (λ _. (omega arith, omega arith, h))
+  none-moves b h = cond-if (Moves (length r)) (ltb 127 b) (λ _. (tt, h)) (λ _. (tt, h))
 
 -- ---- the trials that look at the first byte
 

@@ -1,11 +1,14 @@
--- What holds of the lexemes of every draft: its tokens are in order, none is empty and all lie in the draft; and the numbers of its
--- refusals (document 01, "What the reader hands over", rows 2 to 5).
+-- What holds of the lexemes of every draft: its tokens are in order, none is empty and all lie in the draft; and that its refusals
+-- are those of the bytes (document 01, "What the reader hands over", rows 2 to 5).
 -- Assumes nothing.
 use mathlib.Core.List.{List, [], _∷_}
 use mathlib.Core.Path.{_≡_, subst}
 use Prim.Native.Nat.{ℕ, zero, suc, _+_, _-_, _≤_, _<_}
 use native.Mathlib.Omega.{arith}
+use lib.Dec.{T}
 use lib.ListN.{length}
+use Rattle.text.specs.Refusals.{oneOf}
+use Rattle.text.specs.Refusals as refusal
 use Rattle.lexer.specs.Lexemes.{Lexeme, token, trivia, refused, lexeme, Token, Lexemes, tokens, refusedAt, with-token, add, lexemesFrom, lexemes}
 use Rattle.lexer.specs.Moves.{Moves, lexeme-moves}
 
@@ -22,14 +25,14 @@ between-wider at m at′ m′ (t ∷ ts) h k b =
     let y = b .2 in
     (omega arith, b .1, omega arith, between-wider (t .end) m (t .end) m′ ts (omega arith) k (b .3))
 
--- What lexemes between two places are: tokens in order, or one of refusals 2 to 5 at a byte before the second.
+-- What lexemes between two places are: tokens in order, or a refusal of the bytes' family at a byte before the second.
 abbrev pub Lexed-right : ℕ → ℕ → Lexemes → Type 0
 Lexed-right at m (tokens ts) = Between at m ts
-Lexed-right at m (refusedAt c p) = (2 ≤ c) × (c ≤ 5) × (p < m)
+Lexed-right at m (refusedAt c p) = T (oneOf refusal.ofBytes c) × (p < m)
 
 wider : (at m at′ m′ : ℕ) (x : Lexemes) → at′ ≤ at → m ≤ m′ → Lexed-right at m x → Lexed-right at′ m′ x
 wider at m at′ m′ (tokens ts) h k b = between-wider at m at′ m′ ts h k b
-wider at m at′ m′ (refusedAt c p) h k b = let q = b .2 in (b .0, b .1, omega arith)
+wider at m at′ m′ (refusedAt c p) h k b = let q = b .1 in (b .0, omega arith)
 
 with-right : (t : Token) (at m : ℕ) (x : Lexemes) → at ≤ t .start → t .start < t .end → t .end ≤ m → Lexed-right (t .end) m x
     → Lexed-right at m (with-token t x)
@@ -52,7 +55,7 @@ right-from (b ∷ r) i zero = go (lexeme (b ∷ r)) (lexeme-moves b r) (λ n. ri
         (wider (i + 1 + (n - 1)) (i + 1 + length r) (i + n) (i + suc (length r)) (lexemesFrom r (i + 1) (n - 1)) (omega arith) (omega arith) (h n))
     go (trivia n) v h =
         wider (i + 1 + (n - 1)) (i + 1 + length r) (i + 0) (i + suc (length r)) (lexemesFrom r (i + 1) (n - 1)) (omega arith) (omega arith) (h n)
-    go (refused c n) v h = let q = v .2 in (v .0, v .1, omega arith)
+    go (refused c n) v h = let q = v .1 in (v .0, omega arith)
 
 -- The lexemes of a draft are right.
 pub lexed-right : (draft : List ℕ) → Lexed-right 0 (length draft) (lexemes draft)
@@ -63,6 +66,6 @@ lexed-right draft = wider (0 + 0) (0 + length draft) 0 (length draft) (lexemesFr
 pub tokens-between : (draft : List ℕ) (ts : List Token) → lexemes draft ≡ tokens ts → Between 0 (length draft) ts
 tokens-between draft ts e = subst (Lexed-right 0 (length draft)) e (lexed-right draft)
 
--- A draft that does not lex is refused with one of 2 to 5, at one of its bytes.
-pub lexeme-refused : (draft : List ℕ) (c p : ℕ) → lexemes draft ≡ refusedAt c p → (2 ≤ c) × (c ≤ 5) × (p < length draft)
+-- A draft that does not lex is refused with a number of the bytes' family, at one of its bytes.
+pub lexeme-refused : (draft : List ℕ) (c p : ℕ) → lexemes draft ≡ refusedAt c p → T (oneOf refusal.ofBytes c) × (p < length draft)
 lexeme-refused draft c p e = subst (Lexed-right 0 (length draft)) e (lexed-right draft)

@@ -1,33 +1,64 @@
-// Refusal 7: over 48 brackets open, or over 8 `match` tokens in a row.
-ghost use mathlib.Core.Bool.{_||_};
+// Brackets open and `match` tokens in a row, counted while lexing: refusal 7 is found in the same pass as the tokens.
 ghost use mathlib.Core.Path.{_≡_};
-ghost use Prim.Native.Nat.{_*_, _-_, _≤_};
-ghost use lib.Dec.{ltb};
-ghost use lib.ListN.{length};
-ghost use Rattle.lexer.specs.Limits.{depthAfter, rowAfter, tooDeep};
-ghost use Rattle.lexer.specs.Buffer.{depthOf, tokensIn};
+ghost use Prim.Native.Nat.{_+_, _-_, _≤_};
+ghost use Rattle.lexer.specs.Limits.{mostOpen};
+ghost use Rattle.lexer.specs.Nesting.{within, past, isPast, counted, nestAfter, outermost};
+use crate::classes as class;
 
-// Whether the tokens nest too deeply, and the start of the token that passes the limit.
-pub(crate) enum Depth {
-    Within,
-    TooDeep(usize),
+// How many brackets may be open, and how many `match` tokens may stand in a row.
+const MOST_OPEN: usize = 48;
+
+const MOST_IN_ROW: usize = 8;
+
+// What is known behind some tokens: brackets open and `match` tokens in a row. A depth over MOST_OPEN says that a limit is passed, whichever of
+// the two, by the token that starts at place: a flag of its own would be one value more to hold in the lexing loop.
+pub(crate) struct Nest {
+    pub(crate) depth: usize,
+    pub(crate) row: usize,
+    pub(crate) place: usize,
 }
 
-// How many brackets are open behind a token.
-fn depth_after(kind: u32, depth: usize) -> usize
-    requires { ⌜ depth ≤ 48 ⌝ }
-    ensures { λ r. ⌜ r ≡ depthAfter kind depth ⌝ }
+// Before all tokens.
+pub(crate) fn outside() -> Nest
+    ensures { λ r. ⌜ r ≡ outermost ⌝ }
 {
-    match kind {
-        20 => depth + 1,
-        22 => depth + 1,
-        24 => depth + 1,
-        26 => depth + 1,
-        21 => less_one(depth),
-        23 => less_one(depth),
-        25 => less_one(depth),
-        27 => less_one(depth),
-        _ => depth,
+    Nest {
+        depth: 0,
+        row: 0,
+        place: 0,
+    }
+}
+
+// Whether a limit is passed.
+pub(crate) fn passed(nest: Nest) -> bool
+    ensures { λ r. ⌜ r ≡ isPast nest ⌝ }
+{
+    nest.depth > MOST_OPEN
+}
+
+// A limit is passed by the token at start.
+fn passing(start: usize) -> Nest
+    ensures { λ r. ⌜ r ≡ past start ⌝ }
+{
+    Nest {
+        depth: MOST_OPEN + 1,
+        row: 0,
+        place: start,
+    }
+}
+
+// Behind a bracket that opens.
+fn opened(nest: Nest, start: usize) -> Nest
+    requires { ⌜ nest .depth ≤ mostOpen ⌝ }
+    ensures { λ r. ⌜ r ≡ counted (nest .depth + 1) 0 start (nest .place) ⌝ }
+{
+    if nest.depth == MOST_OPEN {
+        return passing(start);
+    }
+    Nest {
+        depth: nest.depth + 1,
+        row: 0,
+        place: nest.place,
     }
 }
 
@@ -38,45 +69,53 @@ fn less_one(depth: usize) -> usize
     if 0 < depth { depth - 1 } else { 0 }
 }
 
-// How many `match` tokens stand in a row up to a token.
-fn row_after(kind: u32, row: usize) -> usize
-    requires { ⌜ row ≤ 8 ⌝ }
-    ensures { λ r. ⌜ r ≡ rowAfter kind row ⌝ }
+// Behind a bracket that closes.
+fn closed(nest: Nest) -> Nest
+    ensures { λ r. ⌜ r ≡ within (nest .depth - 1) 0 (nest .place) ⌝ }
 {
-    if kind == 9 { row + 1 } else { 0 }
-}
-
-fn over(depth: usize, row: usize) -> bool
-    ensures { λ r. ⌜ r ≡ (ltb 48 depth || ltb 8 row) ⌝ }
-{
-    if depth > 48 {
-        return true;
+    Nest {
+        depth: less_one(nest.depth),
+        row: 0,
+        place: nest.place,
     }
-    row > 8
 }
 
-fn wide(x: u32) -> usize
-    ensures { λ r. ⌜ r ≡ x ⌝ }
+// Behind `match`.
+fn matched(nest: Nest, start: usize) -> Nest
+    requires { ⌜ nest .depth ≤ mostOpen ⌝ }
+    ensures { λ r. ⌜ r ≡ counted (nest .depth) (nest .row + 1) start (nest .place) ⌝ }
 {
-    x as usize
-}
-
-// Looks at the first n tokens of the buffer.
-pub(crate) fn too_deep(words: &[u32], n: usize) -> Depth
-    requires { ⌜ 3 * n ≤ length (now words) ⌝ }
-    ensures { λ r. ⌜ r ≡ depthOf (tooDeep 0 0 (tokensIn n (now (words .entry)))) ⌝ }
-{
-    let mut i: usize = 0;
-    let mut depth: usize = 0;
-    let mut row: usize = 0;
-    while i < n {
-        let kind = words[3 * i];
-        depth = depth_after(kind, depth);
-        row = row_after(kind, row);
-        if over(depth, row) {
-            return Depth::TooDeep(wide(words[3 * i + 1]));
-        }
-        i += 1;
+    if nest.row >= MOST_IN_ROW {
+        return passing(start);
     }
-    Depth::Within
+    Nest {
+        depth: nest.depth,
+        row: nest.row + 1,
+        place: nest.place,
+    }
+}
+
+// Behind one token more. Once a limit is passed, nothing is counted any longer: the first token that did is the refused one.
+pub(crate) fn nest_after(nest: Nest, kind: u32, start: usize) -> Nest
+    ensures { λ r. ⌜ r ≡ nestAfter nest kind start ⌝ }
+{
+    if nest.depth > MOST_OPEN {
+        return nest;
+    }
+    match kind {
+        class::LPAREN => opened(nest, start),
+        class::LBRACKET => opened(nest, start),
+        class::LBRACE => opened(nest, start),
+        class::LANGLE => opened(nest, start),
+        class::RPAREN => closed(nest),
+        class::RBRACKET => closed(nest),
+        class::RBRACE => closed(nest),
+        class::RANGLE => closed(nest),
+        class::MATCH => matched(nest, start),
+        _ => Nest {
+            depth: nest.depth,
+            row: 0,
+            place: nest.place,
+        },
+    }
 }

@@ -4,18 +4,26 @@ ghost use mathlib.Core.Path.{_≡_};
 ghost use lib.Dec.{eqb};
 ghost use lib.ListN.{length};
 ghost use Rattle.text.specs.Part.{partOf};
+ghost use Rattle.lexer.specs.Classes as t;
 ghost use Rattle.lexer.specs.Class.{classOf};
 ghost use Rattle.lexer.specs.Limits.{draftLimits, lexedOf, bufferOf};
 use words::Found;
 use words::Table;
 
 mod buffer;
+mod byte;
 mod chars;
 pub mod classes;
 mod depth;
 mod limits;
 pub mod scan;
+mod table;
 mod trivia;
+
+// How many bytes and how many tokens a draft may have.
+pub const DRAFT_BYTES: usize = 16384;
+
+pub const DRAFT_TOKENS: usize = 2048;
 
 // What stands at a place of a draft.
 pub enum Step {
@@ -35,27 +43,27 @@ pub enum Lexed {
     Refused { number: u32, place: usize },
 }
 
-// Writes the tokens of the draft, three words each, and zeros behind them; on a refusal every word is 0.
+// Writes the tokens of the draft, `TOKEN_WORDS` words each, and zeros behind them; on a refusal every word is 0.
 pub fn lex(draft: &[u8], out: &mut [u32]) -> Lexed
     ensures { λ r. ⌜ r ≡ lexedOf draftLimits (now (draft .entry)) (length (now (out .entry))) ⌝ }
     ensures { λ r. ⌜ now (out .exit) ≡ bufferOf draftLimits (now (draft .entry)) (length (now (out .entry))) ⌝ }
 {
-    limits::lex_within(draft, out, 16384, 2048)
+    limits::lex_within(draft, out, DRAFT_BYTES, DRAFT_TOKENS)
 }
 
 // Whether a token of this kind may be a word that the rules single out.
 fn may_be_word(kind: u32) -> bool
-    ensures { λ r. ⌜ r ≡ (eqb kind 31 || eqb kind 32 || eqb kind 36) ⌝ }
+    ensures { λ r. ⌜ r ≡ (eqb kind t.Bool || eqb kind t.Ident || eqb kind t.Macro) ⌝ }
 {
     match kind {
-        31 => true,
-        32 => true,
-        36 => true,
+        classes::BOOL => true,
+        classes::IDENT => true,
+        classes::MACRO => true,
         _ => false,
     }
 }
 
-// The class of a token for the rules: its kind, or 37 and the place of the word or macro that it is.
+// The class of a token for the rules: its kind, or that of the word or macro that it is.
 pub fn class(draft: &[u8], kind: u32, start: usize, end: usize) -> u32
     ensures { λ r. ⌜ r ≡ classOf kind (partOf (now (draft .entry)) start end) ⌝ }
 {
@@ -64,7 +72,7 @@ pub fn class(draft: &[u8], kind: u32, start: usize, end: usize) -> u32
         let Found::Word(k) = f else {
             return kind;
         };
-        return (37 + k) as u32;
+        return classes::WORDS + k as u32;
     }
     kind
 }

@@ -5,16 +5,21 @@ ghost use mathlib.Core.Path.{_≡_};
 ghost use Prim.Native.Nat.{_+_, _*_, _-_, _≤_, _<_, _^_, min};
 ghost use lib.Dec.{eqb, ltb};
 ghost use lib.ListN.{length, take, replicate};
+ghost use Rattle.text.specs.Refusals as refusal;
+ghost use Rattle.text.specs.Widths.{tokWide};
 ghost use Rattle.lexer.specs.Lexemes.{lexemes};
-ghost use Rattle.lexer.specs.Limits.{limitsOf, lexedOf, bufferOf, tokensOf};
-ghost use Rattle.lexer.specs.Buffer.{counted, Held};
+ghost use Rattle.lexer.specs.Limits.{limitsOf, judgedIn, lexedOf, bufferOf, tokensOf};
+ghost use Rattle.lexer.specs.Buffer.{Held};
+ghost use Rattle.lexer.specs.Nesting.{isPast};
 use crate::Lexed;
 use crate::Step;
 use crate::buffer;
 use crate::chars::class_table;
 use crate::depth;
-use crate::depth::Depth;
+use crate::depth::Nest;
 use crate::scan;
+use text::TOKEN_WORDS;
+use text::refusal;
 
 fn least(a: usize, b: usize) -> usize
     ensures { λ r. ⌜ r ≡ min a b ⌝ }
@@ -29,39 +34,48 @@ fn first_over(n: usize, room: usize, start: usize, over: usize) -> usize
     if n == room { start } else { over }
 }
 
-// Refusal 6 at the first token too many; else zeros behind the n tokens.
-fn count(out: &mut [u32], room: usize, n: usize, over: usize) -> Lexed
-    requires { ⌜ 3 * room ≤ length (now out) ⌝ }
-    ensures { λ r. ⌜ r ≡ cond (ltb room n) (Lexed.Refused 6 over) (Lexed.Tokens n) ⌝ }
-    ensures { λ r. ⌜ now (out .exit)
-        ≡ cond (ltb room n) (now (out .entry)) (take (3 * n) (now (out .entry)) ++ replicate (length (now (out .entry)) - 3 * n) 0) ⌝ }
+// Too many tokens, then too deep; else zeros behind the n tokens.
+fn count(out: &mut [u32], room: usize, n: usize, over: usize, nest: Nest) -> Lexed
+    requires { ⌜ tokWide * room ≤ length (now out) ⌝ }
+    ensures { λ r. ⌜ r ≡ cond (ltb room n) (Lexed.Refused refusal.TooMany over)
+        (cond (isPast nest) (Lexed.Refused refusal.TooDeep (nest .place)) (Lexed.Tokens n)) ⌝ }
+    ensures { λ r. ⌜ now (out .exit) ≡ cond (ltb room n) (now (out .entry)) (cond (isPast nest) (now (out .entry))
+        (take (tokWide * n) (now (out .entry)) ++ replicate (length (now (out .entry)) - tokWide * n) 0)) ⌝ }
 {
     if room < n {
         return Lexed::Refused {
-            number: 6,
+            number: refusal::TOO_MANY,
             place: over,
+        };
+    }
+    if depth::passed(nest) {
+        return Lexed::Refused {
+            number: refusal::TOO_DEEP,
+            place: nest.place,
         };
     }
     buffer::clear_behind(out, n);
     Lexed::Tokens(n)
 }
 
-// Lexes the whole draft: refusals 2 to 5, then 6. Tokens past the room are counted and not written.
+// Lexes the whole draft, in one pass: the refusals of the bytes, then too many tokens, then too deep. Tokens past the room are counted and not written.
 fn fill(draft: &[u8], out: &mut [u32], room: usize) -> Lexed
-    requires { ⌜ (length (now draft) < 2 ^ 32) × (3 * room ≤ length (now out)) ⌝ }
-    ensures { λ r. ⌜ r ≡ counted room (lexemes (now (draft .entry))) ⌝ }
+    requires { ⌜ (length (now draft) < 2 ^ 32) × (tokWide * room ≤ length (now out)) ⌝ }
+    ensures { λ r. ⌜ r ≡ judgedIn room (lexemes (now (draft .entry))) ⌝ }
     ensures { λ r. ⌜ Held r (now (out .exit)) (tokensOf (lexemes (now (draft .entry)))) (length (now (out .entry))) ⌝ }
 {
     let classes = class_table();
     let mut at: usize = 0;
     let mut n: usize = 0;
     let mut over: usize = 0;
+    let mut nest = depth::outside();
     loop {
         let found = scan::step_with(&classes, draft, at);
         match found {
             Step::Token { kind, end } => {
                 buffer::put(out, room, n, kind, at as u32, end as u32);
                 over = first_over(n, room, at, over);
+                nest = depth::nest_after(nest, kind, at);
                 n += 1;
                 at = end;
             }
@@ -72,34 +86,10 @@ fn fill(draft: &[u8], out: &mut [u32], room: usize) -> Lexed
                 return Lexed::Refused { number, place };
             }
             Step::Nothing => {
-                return count(out, room, n, over);
+                return count(out, room, n, over, nest);
             }
         }
     }
-}
-
-// Refusal 1, then 2 to 6, then 7; the buffer is left as it is on a refusal.
-fn judge(draft: &[u8], out: &mut [u32], bytes: usize, tokens: usize) -> Lexed
-    requires { ⌜ bytes < 2 ^ 32 ⌝ }
-    ensures { λ r. ⌜ r ≡ lexedOf (limitsOf bytes tokens) (now (draft .entry)) (length (now (out .entry))) ⌝ }
-    ensures { λ r. ⌜ Held r (now (out .exit)) (tokensOf (lexemes (now (draft .entry)))) (length (now (out .entry))) ⌝ }
-{
-    if draft.len() > bytes {
-        return Lexed::Refused {
-            number: 1,
-            place: bytes,
-        };
-    }
-    let room = least(tokens, out.len() / 3);
-    let r = fill(draft, out, room);
-    let Lexed::Tokens(n) = r else {
-        return r;
-    };
-    let d = depth::too_deep(out, n);
-    let Depth::TooDeep(place) = d else {
-        return r;
-    };
-    Lexed::Refused { number: 7, place }
 }
 
 // Writes the tokens of a draft of so many bytes and tokens at most, zeros behind them; on a refusal every word is 0.
@@ -108,7 +98,15 @@ pub(crate) fn lex_within(draft: &[u8], out: &mut [u32], bytes: usize, tokens: us
     ensures { λ r. ⌜ r ≡ lexedOf (limitsOf bytes tokens) (now (draft .entry)) (length (now (out .entry))) ⌝ }
     ensures { λ r. ⌜ now (out .exit) ≡ bufferOf (limitsOf bytes tokens) (now (draft .entry)) (length (now (out .entry))) ⌝ }
 {
-    let r = judge(draft, out, bytes, tokens);
+    if draft.len() > bytes {
+        text::clear(out);
+        return Lexed::Refused {
+            number: refusal::TOO_LONG,
+            place: bytes,
+        };
+    }
+    let room = least(tokens, out.len() / TOKEN_WORDS);
+    let r = fill(draft, out, room);
     let Lexed::Tokens(n) = r else {
         text::clear(out);
         return r;

@@ -4,17 +4,22 @@ ghost use mathlib.Core.Option.{none};
 ghost use mathlib.Core.Path.{_≡_};
 ghost use Prim.Native.Nat.{_+_, _≤_, _<_};
 ghost use lib.ListN.{length, getD, drop};
+ghost use Rattle.words.specs.Words.{KEYWORDS};
 ghost use Rattle.lexer.specs.Chars.{among, decimalDigits, nameStarts};
 ghost use Rattle.lexer.specs.Lexemes.{macro, qualified};
 ghost use Rattle.lexer.specs.Bytes.{byteClass, ClassTable};
+ghost use Rattle.lexer.specs.Bytes as byte;
 ghost use Rattle.lexer.specs.Step.{lexemeAt, stepOf};
 ghost use Rattle.lexer.specs.Places.{Named, Based, keywordAt, decimalAt};
 use crate::Step;
+use crate::byte;
 use crate::chars::byte_class;
 use crate::chars::class_table;
 use crate::chars::peek;
 use crate::chars::run_end;
+use crate::classes as class;
 use crate::trivia;
+use text::refusal;
 use words::Found;
 use words::Table;
 
@@ -23,33 +28,34 @@ fn starts_name(classes: &[u8; 256], b: u8) -> bool
     ensures { λ r. ⌜ r ≡ among nameStarts b ⌝ }
 {
     let c = byte_class(classes, b);
-    if c == 0 {
+    if c == byte::UNDERSCORE {
         return true;
     }
-    if c < 3 {
+    if c < byte::HEX_LETTER {
         return false;
     }
-    c <= 4
+    c <= byte::LETTER
 }
 
-// The keywords are kinds 1 to 12; the twelfth is refused, and the two behind it are the booleans.
+// Keyword number k. Their kinds are PUB to SIMC in the order of the words; the last is refused, and the two words behind it are the booleans.
 fn keyword(k: usize, i: usize, e: usize) -> Step
-    requires { ⌜ k < 14 ⌝ }
+    requires { ⌜ k < length KEYWORDS ⌝ }
     ensures { λ r. ⌜ r ≡ keywordAt k i e ⌝ }
 {
-    if k == 11 {
+    let kind = class::PUB + k as u32;
+    if kind == class::SIMC {
         return Step::Refused {
-            number: 5,
+            number: refusal::SIMC,
             place: i,
         };
     }
-    if k > 11 {
-        return Step::Token { kind: 31, end: e };
+    if kind > class::SIMC {
+        return Step::Token {
+            kind: class::BOOL,
+            end: e,
+        };
     }
-    Step::Token {
-        kind: k as u32 + 1,
-        end: e,
-    }
+    Step::Token { kind, end: e }
 }
 
 // The name from i up to e, where it is neither qualified nor a macro.
@@ -59,7 +65,10 @@ fn word(s: &[u8], i: usize, e: usize) -> Step
 {
     match words::word(Table::Keywords, s, i, e) {
         Found::Word(k) => keyword(k, i, e),
-        Found::Plain => Step::Token { kind: 32, end: e },
+        Found::Plain => Step::Token {
+            kind: class::IDENT,
+            end: e,
+        },
     }
 }
 
@@ -70,7 +79,7 @@ fn macro_word(s: &[u8], i: usize, e: usize) -> Step
 {
     match words::word(Table::Macros, s, i, e + 1) {
         Found::Word(_) => Step::Token {
-            kind: 36,
+            kind: class::MACRO,
             end: e + 1,
         },
         Found::Plain => word(s, i, e),
@@ -85,8 +94,8 @@ fn module_word(classes: &[u8; 256], s: &[u8], i: usize, e: usize) -> Step
 {
     match words::word(Table::ModuleReserved, s, i, e) {
         Found::Word(k) => Step::Token {
-            kind: 33 + k as u32,
-            end: run_end(classes, s, e + 2, 0, 4),
+            kind: class::JET + k as u32,
+            end: run_end(classes, s, e + 2, byte::UNDERSCORE, byte::LETTER),
         },
         Found::Plain => word(s, i, e),
     }
@@ -113,7 +122,7 @@ fn name(classes: &[u8; 256], s: &[u8], i: usize) -> Step
     requires { ⌜ (i < length (now s)) × (among nameStarts (getD (now s) i 0) ≡ true) ⌝ }
     ensures { λ r. ⌜ r ≡ lexemeAt (now (s .entry)) i ⌝ }
 {
-    let e = run_end(classes, s, i, 0, 4);
+    let e = run_end(classes, s, i, byte::UNDERSCORE, byte::LETTER);
     let b = peek(s, e);
     if b == b':' {
         return colon_word(classes, s, i, e);
@@ -129,8 +138,11 @@ fn decimal(classes: &[u8; 256], s: &[u8], i: usize) -> Step
     requires { ⌜ i ≤ length (now s) ⌝ }
     ensures { λ r. ⌜ r ≡ decimalAt (now (s .entry)) i ⌝ }
 {
-    let e = run_end(classes, s, i, 0, 2);
-    Step::Token { kind: 28, end: e }
+    let e = run_end(classes, s, i, byte::UNDERSCORE, byte::DIGIT);
+    Step::Token {
+        kind: class::DEC_LITERAL,
+        end: e,
+    }
 }
 
 // A token of this kind if a digit of its base stands behind the two bytes of its prefix, else a decimal one.
@@ -140,7 +152,7 @@ fn based(classes: &[u8; 256], s: &[u8], i: usize, kind: u32, most: u8) -> Step
     ensures { λ r. ⌜ r ≡ lexemeAt (now (s .entry)) i ⌝ }
 {
     let c = byte_class(classes, peek(s, i + 2));
-    if c == 0 {
+    if c == byte::UNDERSCORE {
         return decimal(classes, s, i);
     }
     if c > most {
@@ -148,7 +160,7 @@ fn based(classes: &[u8; 256], s: &[u8], i: usize, kind: u32, most: u8) -> Step
     }
     Step::Token {
         kind,
-        end: run_end(classes, s, i + 2, 0, most),
+        end: run_end(classes, s, i + 2, byte::UNDERSCORE, most),
     }
 }
 
@@ -164,59 +176,59 @@ fn number(classes: &[u8; 256], s: &[u8], i: usize) -> Step
     }
     let x = peek(s, i + 1);
     if x == b'x' {
-        return based(classes, s, i, 29, 3);
+        return based(classes, s, i, class::HEX_LITERAL, byte::HEX_LETTER);
     }
     if x == b'b' {
-        return based(classes, s, i, 30, 1);
+        return based(classes, s, i, class::BIN_LITERAL, byte::BINARY_DIGIT);
     }
     decimal(classes, s, i)
 }
 
 // What stands at a mark, or at a byte that starts no lexeme; c is its class.
 fn mark(s: &[u8], i: usize, c: u8) -> Step
-    requires { ⌜ (i < length (now s)) × (c ≡ byteClass (getD (now s) i 0)) × (13 ≤ c) × (c ≤ 28) ⌝ }
+    requires { ⌜ (i < length (now s)) × (c ≡ byteClass (getD (now s) i 0)) × (byte.Minus ≤ c) × (c ≤ byte.Other) ⌝ }
     ensures { λ r. ⌜ r ≡ lexemeAt (now (s .entry)) i ⌝ }
 {
     let next = peek(s, i + 1);
-    if c == 13 {
+    if c == byte::MINUS {
         if next == b'>' {
             return Step::Token {
-                kind: 13,
+                kind: class::ARROW,
                 end: i + 2,
             };
         }
         return Step::Refused {
-            number: 3,
+            number: refusal::NO_LEXEME,
             place: i,
         };
     }
-    if c == 15 {
+    if c == byte::COLON {
         if next == b':' {
             return Step::Token {
-                kind: 14,
+                kind: class::DOUBLE_COLON,
                 end: i + 2,
             };
         }
         return Step::Token {
-            kind: 15,
+            kind: class::COLON,
             end: i + 1,
         };
     }
-    if c == 18 {
+    if c == byte::EQ {
         if next == b'>' {
             return Step::Token {
-                kind: 19,
+                kind: class::FAT_ARROW,
                 end: i + 2,
             };
         }
         return Step::Token {
-            kind: 18,
+            kind: class::EQ,
             end: i + 1,
         };
     }
-    if c == 28 {
+    if c == byte::OTHER {
         return Step::Refused {
-            number: 3,
+            number: refusal::NO_LEXEME,
             place: i,
         };
     }
@@ -229,29 +241,29 @@ fn mark(s: &[u8], i: usize, c: u8) -> Step
 // Whitespace, or a byte over 127; c is the class of the byte at i.
 fn blank(classes: &[u8; 256], s: &[u8], i: usize, c: u8) -> Step
     requires { ⌜ ClassTable (now classes) ⌝ }
-    requires { ⌜ (i < length (now s)) × (c ≡ byteClass (getD (now s) i 0)) × (29 ≤ c) ⌝ }
+    requires { ⌜ (i < length (now s)) × (c ≡ byteClass (getD (now s) i 0)) × (byte.Space ≤ c) ⌝ }
     ensures { λ r. ⌜ r ≡ lexemeAt (now (s .entry)) i ⌝ }
 {
-    if c > 30 {
+    if c > byte::LINE_END {
         return Step::Refused {
-            number: 2,
+            number: refusal::NOT_ASCII,
             place: i,
         };
     }
-    let e = run_end(classes, s, i, 29, 30);
+    let e = run_end(classes, s, i, byte::SPACE, byte::LINE_END);
     Step::Trivia { end: e }
 }
 
 // What stands at a letter, a digit or `_`; c is its class.
 fn name_or_number(classes: &[u8; 256], s: &[u8], i: usize, c: u8) -> Step
     requires { ⌜ ClassTable (now classes) ⌝ }
-    requires { ⌜ (i < length (now s)) × (c ≡ byteClass (getD (now s) i 0)) × (c ≤ 4) ⌝ }
+    requires { ⌜ (i < length (now s)) × (c ≡ byteClass (getD (now s) i 0)) × (c ≤ byte.Letter) ⌝ }
     ensures { λ r. ⌜ r ≡ lexemeAt (now (s .entry)) i ⌝ }
 {
-    if c == 0 {
+    if c == byte::UNDERSCORE {
         return name(classes, s, i);
     }
-    if c < 3 {
+    if c < byte::HEX_LETTER {
         return number(classes, s, i);
     }
     name(classes, s, i)
@@ -266,13 +278,13 @@ pub(crate) fn step_with(classes: &[u8; 256], draft: &[u8], at: usize) -> Step
         return Step::Nothing;
     }
     let c = byte_class(classes, draft[at]);
-    if c <= 4 {
+    if c <= byte::LETTER {
         return name_or_number(classes, draft, at, c);
     }
-    if c == 5 {
+    if c == byte::SLASH {
         return trivia::slash(classes, draft, at);
     }
-    if c >= 29 {
+    if c >= byte::SPACE {
         return blank(classes, draft, at, c);
     }
     mark(draft, at, c)

@@ -9,8 +9,10 @@ ghost use Rattle.lexer.specs.Lexemes.{closing};
 ghost use Rattle.lexer.specs.Step.{commentAt, lexemeAt};
 ghost use Rattle.lexer.specs.Trivia.{insideOf, closeOf};
 use crate::Step;
+use crate::byte;
 use crate::chars::peek;
 use crate::chars::run_end;
+use text::refusal;
 
 // One byte more inside a block comment: it is closed, or so many comments are open within it and this byte is the last (0 after a mark).
 pub(crate) enum Inside {
@@ -97,12 +99,12 @@ fn comment(classes: &[u8; 256], s: &[u8], i: usize, e: usize) -> Step
     requires { ⌜ (i ≤ e) × (e ≤ length (now s)) ⌝ }
     ensures { λ r. ⌜ r ≡ commentAt (now (s .entry)) i e ⌝ }
 {
-    let t = run_end(classes, &s[..e], i, 0, 30);
+    let t = run_end(classes, &s[..e], i, byte::UNDERSCORE, byte::LINE_END);
     if t == e {
         return Step::Trivia { end: e };
     }
     Step::Refused {
-        number: 2,
+        number: refusal::NOT_ASCII,
         place: t,
     }
 }
@@ -115,7 +117,7 @@ fn block(classes: &[u8; 256], s: &[u8], i: usize) -> Step
     let c = block_end(s, i + 2);
     let Close::At(e) = c else {
         return Step::Refused {
-            number: 4,
+            number: refusal::UNCLOSED,
             place: i,
         };
     };
@@ -137,7 +139,7 @@ pub(crate) fn slash(classes: &[u8; 256], s: &[u8], i: usize) -> Step
         return block(classes, s, i);
     }
     Step::Refused {
-        number: 3,
+        number: refusal::NO_LEXEME,
         place: i,
     }
 }

@@ -7,6 +7,7 @@ ghost use lib.ListN.{length};
 use lexer::Lexed;
 use libc::STDIN_FILENO;
 use libc::STDOUT_FILENO;
+use text::TOKEN_WORDS;
 
 mod cases;
 
@@ -49,17 +50,26 @@ fn write_token(draft: &[u8], kind: u32, start: u32, end: u32) {
 fn write_tokens(draft: &[u8], out: &[u32], n: usize) {
     let mut i = 0;
     while i < n {
-        if i >= out.len() / 3 {
+        if i >= out.len() / TOKEN_WORDS {
             return;
         }
-        write_token(draft, out[3 * i], out[3 * i + 1], out[3 * i + 2]);
+        write_token(
+            draft,
+            out[TOKEN_WORDS * i],
+            out[TOKEN_WORDS * i + 1],
+            out[TOKEN_WORDS * i + 2],
+        );
         i += 1;
     }
 }
 
 // Where the words behind n tokens begin.
 fn words_end(out: &[u32], n: usize) -> usize {
-    if n <= out.len() / 3 { 3 * n } else { out.len() }
+    if n <= out.len() / TOKEN_WORDS {
+        TOKEN_WORDS * n
+    } else {
+        out.len()
+    }
 }
 
 // Whether every word from a place on is 0.

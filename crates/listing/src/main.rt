@@ -1,11 +1,14 @@
 // The listing program: a draft from standard input, and its lines to standard output. What fails is said on standard error, and after a read that
 // failed no line is written.
 ghost use mathlib.Core.Path.{_≡_};
-ghost use Prim.Native.Nat.{_≤_};
+ghost use Prim.Native.Nat.{_+_};
 ghost use lib.ListN.{length};
+ghost use Rattle.lexer.specs.Limits.{draftLimits};
+ghost use Rattle.reader.specs.Fits.{enough};
 ghost use Rattle.listing.specs.Within.{Within};
 use libc::STDIN_FILENO;
 use libc::STDOUT_FILENO;
+use reader::entry::LISTING_BYTES;
 
 // What came in: so many bytes at the start of the buffer, or that a read failed.
 enum Input {
@@ -14,17 +17,17 @@ enum Input {
 }
 
 // One byte more than a draft may have: more than that need not be kept, since the length alone refuses it.
-fn draft_buffer() -> [u8; 16385]
-    ensures { λ r. ⌜ 16385 ≡ length r ⌝ }
+fn draft_buffer() -> [u8; lexer::DRAFT_BYTES + 1]
+    ensures { λ r. ⌜ draftLimits .bytes + 1 ≡ length r ⌝ }
 {
-    [0; 16385]
+    [0; lexer::DRAFT_BYTES + 1]
 }
 
-// Room for the lines of every draft, 36 bytes for each of 2,048 records.
-fn line_buffer() -> [u8; 73728]
-    ensures { λ r. ⌜ 73728 ≡ length r ⌝ }
+// Room for the lines of every draft.
+fn line_buffer() -> [u8; LISTING_BYTES]
+    ensures { λ r. ⌜ enough ≡ length r ⌝ }
 {
-    [0; 73728]
+    [0; LISTING_BYTES]
 }
 
 // Reads until the buffer is full or the input ends.

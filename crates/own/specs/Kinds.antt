@@ -127,3 +127,7 @@ Call = 39
 
 abbrev pub Number : ℕ
 Number = 40
+
+-- The kinds are 1 to this.
+abbrev pub Last : ℕ
+Last = Number

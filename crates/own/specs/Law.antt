@@ -10,6 +10,8 @@ use lib.Dec.{eqb}
 use lib.ListN.{length, getD}
 use Rattle.own.specs.Tree.{Tok, Rec}
 use Rattle.own.specs.Flat.{blank, no-token, children, owned, total, Piece, tok, part, merge, Owner}
+use Rattle.own.specs.Kinds as kind
+use Rattle.own.specs.Arms as arm
 
 -- A piece as a rule sees it: a token by its class; a child by its kind, low and high and the class of the token that it begins with.
 pub data Sort : Type 0 where
@@ -36,9 +38,9 @@ Rule = ℕ → ℕ → ℕ → List Sort → Type 0
 
 -- Low of two arms in the canonical order: Left and Right, None and Some, False and True.
 pub data Partners : ℕ → ℕ → Type 0 where
-  left-right : Partners 1 2
-  none-some : Partners 3 4
-  false-true : Partners 5 6
+  left-right : Partners arm.Left arm.Right
+  none-some : Partners arm.None arm.Some
+  false-true : Partners arm.False arm.True
 
 -- Children in order of place between two places: each starts where the one before ends, or later.
 abbrev pub Ordered : ℕ → ℕ → List Rec → Type 0
@@ -52,8 +54,8 @@ pub record Canonical (lo hi : ℕ) (cs : List Rec) : Type 0 where
   pub first : Rec
   pub second : Rec
   pub they-are : cs ≡ matched ∷ first ∷ second ∷ []
-  pub first-arm : first .kind ≡ 37
-  pub second-arm : second .kind ≡ 37
+  pub first-arm : first .kind ≡ kind.BuiltinArm
+  pub second-arm : second .kind ≡ kind.BuiltinArm
   pub partners : Partners (first .low) (second .low)
   pub places : Ordered lo hi (matched ∷ first ∷ second ∷ []) ⊎ Ordered lo hi (matched ∷ second ∷ first ∷ [])
 
@@ -68,6 +70,6 @@ pub record Ownership (R : Rule) (ts : List Tok) (rs : List Rec) : Type 0 where
   -- (d) The number of tokens is the sum of what the records own, and there are no more records than tokens.
   pub sum : total (λ j. length (owned ts rs j)) (length rs) ≡ length ts
   pub few : length rs ≤ length ts
-  -- (e) In each match with built-in arms (kind 35) these are in the canonical order; all other children are in order of place.
-  pub canonical : (j : ℕ) → j < length rs → getD rs j blank .kind ≡ 35 → Canonical (getD rs j blank .start) (getD rs j blank .stop) (children rs j)
-  pub ordered : (j : ℕ) → j < length rs → getD rs j blank .kind ≢ 35 → Ordered (getD rs j blank .start) (getD rs j blank .stop) (children rs j)
+  -- (e) In each match with built-in arms (`kind.Match`) these are in the canonical order; all other children are in order of place.
+  pub canonical : (j : ℕ) → j < length rs → getD rs j blank .kind ≡ kind.Match → Canonical (getD rs j blank .start) (getD rs j blank .stop) (children rs j)
+  pub ordered : (j : ℕ) → j < length rs → getD rs j blank .kind ≢ kind.Match → Ordered (getD rs j blank .start) (getD rs j blank .stop) (children rs j)

@@ -17,6 +17,8 @@ use Rattle.own.specs.Lists.{All, nil, _&_, all-arrange, all-concat, all-
 use Rattle.own.specs.Places.{order-left, order-right, order-le, begin-le, marks-few, or-cases}
 use Rattle.own.specs.Merge.{pieces}
 use Rattle.own.specs.Owners.{no-node, kept}
+use Rattle.own.specs.Kinds as kind
+use Rattle.own.specs.Arms as arm
 
 -- The class of the first token.
 abbrev pub firstClass : List Tok → ℕ
@@ -69,26 +71,26 @@ sorts-pieces ts o (sub k l h js r) a b e m =
 -- two arms in the canonical order
 partners-of : (a b : ℕ) → T (partner a b) → Partners a b
 unfolding partner
-partners-of a b t = go (or-cases (eqb a 1 && eqb b 2) ((eqb a 3 && eqb b 4) || (eqb a 5 && eqb b 6)) t)
+partners-of a b t = go (or-cases (eqb a arm.Left && eqb b arm.Right) ((eqb a arm.None && eqb b arm.Some) || (eqb a arm.False && eqb b arm.True)) t)
   where
     these : (x y : ℕ) → T (eqb a x && eqb b y) → Partners x y → Partners a b
     these x y u p = rw (eqb→eq a x (first-of (eqb a x) (eqb b y) u), eqb→eq b y (second-of (eqb a x) (eqb b y) u)) p
 
-    more : T (eqb a 3 && eqb b 4) ⊎ T (eqb a 5 && eqb b 6) → Partners a b
-    more (inl u) = these 3 4 u none-some
-    more (inr u) = these 5 6 u false-true
+    more : T (eqb a arm.None && eqb b arm.Some) ⊎ T (eqb a arm.False && eqb b arm.True) → Partners a b
+    more (inl u) = these arm.None arm.Some u none-some
+    more (inr u) = these arm.False arm.True u false-true
 
-    go : T (eqb a 1 && eqb b 2) ⊎ T ((eqb a 3 && eqb b 4) || (eqb a 5 && eqb b 6)) → Partners a b
-    go (inl u) = these 1 2 u left-right
-    go (inr u) = more (or-cases (eqb a 3 && eqb b 4) (eqb a 5 && eqb b 6) u)
+    go : T (eqb a arm.Left && eqb b arm.Right) ⊎ T ((eqb a arm.None && eqb b arm.Some) || (eqb a arm.False && eqb b arm.True)) → Partners a b
+    go (inl u) = these arm.Left arm.Right u left-right
+    go (inr u) = more (or-cases (eqb a arm.None && eqb b arm.Some) (eqb a arm.False && eqb b arm.True) u)
 
 module _ (lo hi : ℕ) (e a b : Node) where
   arms : T (canonical a b) → Ordered lo hi (recordOf e ∷ recordOf a ∷ recordOf b ∷ []) ⊎ Ordered lo hi (recordOf e ∷ recordOf b ∷ recordOf a ∷ [])
       → Canonical lo hi (recordOf e ∷ recordOf a ∷ recordOf b ∷ [])
   unfolding canonical
   arms t o =
-      let x = eqb (a .kind) 37 in
-      let y = eqb (b .kind) 37 in
+      let x = eqb (a .kind) kind.BuiltinArm in
+      let y = eqb (b .kind) kind.BuiltinArm in
       let z = partner (a .low) (b .low) in
       let u = second-of x (y && z) t in
       record {
@@ -96,8 +98,8 @@ module _ (lo hi : ℕ) (e a b : Node) where
         first = recordOf a;
         second = recordOf b;
         they-are = refl;
-        first-arm = eqb→eq (a .kind) 37 (first-of x (y && z) t);
-        second-arm = eqb→eq (b .kind) 37 (first-of y z u);
+        first-arm = eqb→eq (a .kind) kind.BuiltinArm (first-of x (y && z) t);
+        second-arm = eqb→eq (b .kind) kind.BuiltinArm (first-of y z u);
         partners = partners-of (a .low) (b .low) (second-of y z u);
         places = o;
       }
@@ -143,18 +145,18 @@ module _ (R : Rule) (ns : List Node) (fine : Fine ns) (keeps : Each (Keeps R) (r
     is-spelled : R (getD (records ns) j blank .kind) (getD (records ns) j blank .low) (getD (records ns) j blank .high) (made (tokens ns) (records ns) j)
     is-spelled = rw (stands, is-made) (has (Keeps R) keeps)
 
-    is-canonical : getD (records ns) j blank .kind ≡ 35 → Canonical (getD (records ns) j blank .start) (getD (records ns) j blank .stop) (children (records ns) j)
+    is-canonical : getD (records ns) j blank .kind ≡ kind.Match → Canonical (getD (records ns) j blank .start) (getD (records ns) j blank .stop) (children (records ns) j)
     unfolding at turned
     is-canonical e =
-        let k : at j .kind ≡ 35 = ap (λ r. r .kind) (sym stands) ∙ e in
+        let k : at j .kind ≡ kind.Match = ap (λ r. r .kind) (sym stands) ∙ e in
         let q : turned (at j .kind) (at j .items) ≡ reversed (kids (at j .items)) = rw k refl in
         rw (kept ns fine .beneath j lt, q) (handed-arms (getD (records ns) j blank .start) (getD (records ns) j blank .stop) (kids (at j .items))
         (has Paired (fine .paired) k) (kept ns fine .ordered j lt))
 
-    is-ordered : getD (records ns) j blank .kind ≢ 35 → Ordered (getD (records ns) j blank .start) (getD (records ns) j blank .stop) (children (records ns) j)
+    is-ordered : getD (records ns) j blank .kind ≢ kind.Match → Ordered (getD (records ns) j blank .start) (getD (records ns) j blank .stop) (children (records ns) j)
     unfolding at turned
     is-ordered ne =
-        let q : turned (at j .kind) (at j .items) ≡ false = rw (ne-eqb (at j .kind) 35 (λ e. ne (ap (λ r. r .kind) stands ∙ e))) refl in
+        let q : turned (at j .kind) (at j .items) ≡ false = rw (ne-eqb (at j .kind) kind.Match (λ e. ne (ap (λ r. r .kind) stands ∙ e))) refl in
         rw (kept ns fine .beneath j lt, q) (kept ns fine .ordered j lt)
 
   -- What is handed over is owned as law 3 says.

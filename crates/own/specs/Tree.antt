@@ -7,6 +7,8 @@ use mathlib.Core.Path.{_≡_}
 use Prim.Native.Nat.{ℕ, _<_, _≤_}
 use lib.Dec.{T, eqb}
 use lib.ListN.{length}
+use Rattle.own.specs.Kinds as kind
+use Rattle.own.specs.Arms as arm
 
 -- A token: its class (the word or the macro itself, otherwise its kind), where it starts, and the byte after its end.
 pub record Tok : Type 0 where
@@ -70,13 +72,13 @@ abbrev pub end : ℕ → List Tok → ℕ
 end at [] = at
 end at (t ∷ ts) = end (t .stop) ts
 
--- Low of a built-in arm and of its partner, in the canonical order: Left 1 and Right 2, None 3 and Some 4, False 5 and True 6.
+-- Low of a built-in arm and of its partner, in the canonical order: Left and Right, None and Some, False and True.
 unfoldable pub partner : ℕ → ℕ → Bool
-partner a b = (eqb a 1 && eqb b 2) || ((eqb a 3 && eqb b 4) || (eqb a 5 && eqb b 6))
+partner a b = (eqb a arm.Left && eqb b arm.Right) || ((eqb a arm.None && eqb b arm.Some) || (eqb a arm.False && eqb b arm.True))
 
--- Two built-in arms (kind 37) in the canonical order.
+-- Two built-in arms in the canonical order.
 unfoldable pub canonical : Node → Node → Bool
-canonical a b = eqb (a .kind) 37 && (eqb (b .kind) 37 && partner (a .low) (b .low))
+canonical a b = eqb (a .kind) kind.BuiltinArm && (eqb (b .kind) kind.BuiltinArm && partner (a .low) (b .low))
 
 -- Of the parts of a match, an expression and two built-in arms: the arms are partners, in either order.
 abbrev pub paired : List Node → Bool
@@ -94,9 +96,9 @@ reversed (e ∷ a ∷ []) = false
 reversed (e ∷ a ∷ b ∷ []) = canonical b a
 reversed (e ∷ a ∷ b ∷ c ∷ l) = false
 
--- A node whose arms are exchanged when it is handed over: a match (kind 35) whose two arms are written the other way round.
+-- A node whose arms are exchanged when it is handed over: a match whose two built-in arms are written the other way round.
 unfoldable pub turned : ℕ → Items → Bool
-turned k is = eqb k 35 && reversed (kids is)
+turned k is = eqb k kind.Match && reversed (kids is)
 
 module _ {A : Type 0} where
   -- Of three, the second and the third exchanged.
@@ -172,7 +174,7 @@ Marked = Each Owning
 
 -- A match has two built-in arms that are partners.
 abbrev pub Paired : Node → Type 0
-Paired n = n .kind ≡ 35 → T (paired (kids (n .items)))
+Paired n = n .kind ≡ kind.Match → T (paired (kids (n .items)))
 
 -- The trees that the laws speak of.
 pub record Fine (ns : List Node) : Type 0 where

@@ -58,21 +58,21 @@ toks-words c k z (_&_ {a = t} {l = ts} e h) = λ i. record { class = e i; start 
 -- the token j of a buffer, word by word
 pub tok-at : (c : ℕ → ℕ → ℕ → ℕ) (n j : ℕ) (w : List ℕ) → j < n
     → getD (toks c n w) j no-token
-    ≡ record { class = c (getD w (3 * j) 0) (getD w (3 * j + 1) 0) (getD w (3 * j + 2) 0); start = getD w (3 * j + 1) 0; stop = getD w (3 * j + 2) 0 }
+    ≡ record { class = c (getD w (tokWide * j) 0) (getD w (tokWide * j + 1) 0) (getD w (tokWide * j + 2) 0); start = getD w (tokWide * j + 1) 0; stop = getD w (tokWide * j + 2) 0 }
 tok-at c zero j w h = absurd (omega arith)
 tok-at c (suc n) zero w h = refl
 tok-at c (suc n) (suc j) w h =
-    tok-at c n j (drop 3 w) (omega arith)
+    tok-at c n j (drop tokWide w) (omega arith)
     ∙ λ i.
     record {
-      class = c (word (3 * j) (3 * suc j) (omega arith) i) (word (3 * j + 1) (3 * suc j + 1) (omega arith) i)
-          (word (3 * j + 2) (3 * suc j + 2) (omega arith) i);
-      start = word (3 * j + 1) (3 * suc j + 1) (omega arith) i;
-      stop = word (3 * j + 2) (3 * suc j + 2) (omega arith) i;
+      class = c (word (tokWide * j) (tokWide * suc j) (omega arith) i) (word (tokWide * j + 1) (tokWide * suc j + 1) (omega arith) i)
+          (word (tokWide * j + 2) (tokWide * suc j + 2) (omega arith) i);
+      start = word (tokWide * j + 1) (tokWide * suc j + 1) (omega arith) i;
+      stop = word (tokWide * j + 2) (tokWide * suc j + 2) (omega arith) i;
     }
   where
-    word : (a e : ℕ) → 3 + a ≡ e → getD (drop 3 w) a 0 ≡ getD w e 0
-    word a e q = getD-drop 3 w a 0 ∙ ap (λ (k : ℕ). getD w k 0) q
+    word : (a e : ℕ) → tokWide + a ≡ e → getD (drop tokWide w) a 0 ≡ getD w e 0
+    word a e q = getD-drop tokWide w a 0 ∙ ap (λ (k : ℕ). getD w k 0) q
 
 -- writing: the words of records, and reading them back
 abbrev pub recWords : List Rec → List ℕ

@@ -13,24 +13,29 @@ use lib.ListN.{length, length-append}
 use Rattle.own.specs.Tree.{Tok, Items, marks, partner}
 use Rattle.own.specs.Law.{Sort, word, child}
 use Rattle.own.specs.Rules.{sorts}
+use Rattle.own.specs.Arms as arm
+use Rattle.own.specs.Kinds as kind
 use Rattle.kinds.specs.Shape.{has}
 use Rattle.kinds.specs.Fields.{counted}
 use Rattle.lexer.specs.Classes as t
 use Rattle.grammar.specs.KeptHeads.{counted-append}
 use Rattle.grammar.specs.Records.{plain, aMatch, headOf, firstTok}
 use Rattle.grammar.specs.Faults.{unless, armLows, mates, armsFault, faultsAt, earlier, earliest}
+use Rattle.grammar.specs.ShapeKind.{MatchShape}
+use Rattle.text.specs.Refusals as refusal
 use Rattle.parse.specs.Contract.{fault}
 use Rattle.parse.specs.Infos.{ArmKind, Armed, pairArm, afterArm, orderFrom, orderKind, orderFault}
+use Rattle.parse.specs.Orders as order
 
 -- How many enum arms there are.
 abbrev pub enumArms : List Sort → ℕ
-enumArms w = counted (38 ∷ []) w
+enumArms w = counted (kind.EnumArm ∷ []) w
 
 pub lows-append : (v w : List Sort) → armLows (v ++ w) ≡ armLows v ++ armLows w
 unfolding armLows
 lows-append [] w = refl
 lows-append (word c ∷ v) w = lows-append v w
-lows-append (child k l h c ∷ v) w = go (eqb k 37) (lows-append v w)
+lows-append (child k l h c ∷ v) w = go (eqb k kind.BuiltinArm) (lows-append v w)
   where
     go : (b : Bool) → armLows (v ++ w) ≡ armLows v ++ armLows w → cond b (l ∷ armLows (v ++ w)) (armLows (v ++ w)) ≡ cond b (l ∷ armLows v) (armLows v) ++ armLows w
     go true e = ap (λ u. l ∷ u) e
@@ -39,78 +44,78 @@ lows-append (child k l h c ∷ v) w = go (eqb k 37) (lows-append v w)
 -- What the order o says of the arms w.
 pub data Means (o : ℕ) (w : List Sort) : Type 0 where
   no-arm : o ≡ 0 → w ≡ [] → Means o w
-  one-arm : (h c : ℕ) → 1 ≤ o → o ≤ 6 → w ≡ child 37 o h c ∷ [] → Means o w
-  enum-arms : o ≡ 7 → 0 < enumArms w → armLows w ≡ [] → Means o w
-  two-arms : (a h c b h′ c′ : ℕ) → a ≤ 6 → b ≤ 6 → o ≡ pairArm a b → w ≡ child 37 a h c ∷ child 37 b h′ c′ ∷ [] → Means o w
-  more-arms : o ≡ 11 → enumArms w ≡ 0 → 3 ≤ length (armLows w) → Means o w
-  both-sorts : o ≡ 12 → 0 < enumArms w → 0 < length (armLows w) → Means o w
+  one-arm : (h c : ℕ) → arm.Left ≤ o → o ≤ arm.True → w ≡ child kind.BuiltinArm o h c ∷ [] → Means o w
+  enum-arms : o ≡ order.Enums → 0 < enumArms w → armLows w ≡ [] → Means o w
+  two-arms : (a h c b h′ c′ : ℕ) → a ≤ arm.True → b ≤ arm.True → o ≡ pairArm a b → w ≡ child kind.BuiltinArm a h c ∷ child kind.BuiltinArm b h′ c′ ∷ [] → Means o w
+  more-arms : o ≡ order.More → enumArms w ≡ 0 → 3 ≤ length (armLows w) → Means o w
+  both-sorts : o ≡ order.Mixed → 0 < enumArms w → 0 < length (armLows w) → Means o w
 
-pub pair-range : (a b : ℕ) → (8 ≤ pairArm a b) × (pairArm a b ≤ 10)
+pub pair-range : (a b : ℕ) → (order.Paired ≤ pairArm a b) × (pairArm a b ≤ order.Unpaired)
 unfolding pairArm
 pair-range a b = go (partner a b) (partner b a)
   where
-    go : (p q : Bool) → (8 ≤ cond p 8 (cond q 9 10)) × (cond p 8 (cond q 9 10) ≤ 10)
+    go : (p q : Bool) → (order.Paired ≤ cond p order.Paired (cond q order.Turned order.Unpaired)) × (cond p order.Paired (cond q order.Turned order.Unpaired) ≤ order.Unpaired)
     go true q = (omega arith, omega arith)
     go false true = (omega arith, omega arith)
     go false false = (omega arith, omega arith)
 
 -- One enum arm more,
-after-enum : (o l : ℕ) → (o ≡ 0) ⊎ (o ≡ 7) → afterArm o 38 l ≡ 7
+after-enum : (o l : ℕ) → (o ≡ 0) ⊎ (o ≡ order.Enums) → afterArm o kind.EnumArm l ≡ order.Enums
 unfolding afterArm
 after-enum o l (inl e) = rw e refl
 after-enum o l (inr e) = rw e refl
 
-after-mixed : (o l : ℕ) → (o ≡ 0 → ⊥) → (o ≡ 7 → ⊥) → afterArm o 38 l ≡ 12
+after-mixed : (o l : ℕ) → (o ≡ 0 → ⊥) → (o ≡ order.Enums → ⊥) → afterArm o kind.EnumArm l ≡ order.Mixed
 unfolding afterArm
-after-mixed o l m n = rw (ne-eqb o 0 m, ne-eqb o 7 n) refl
+after-mixed o l m n = rw (ne-eqb o 0 m, ne-eqb o order.Enums n) refl
 
 -- and one built-in arm more.
-after-none : (l : ℕ) → afterArm 0 37 l ≡ l
+after-none : (l : ℕ) → afterArm 0 kind.BuiltinArm l ≡ l
 unfolding afterArm
 after-none l = refl
 
-after-one : (o l : ℕ) → 1 ≤ o → o ≤ 6 → afterArm o 37 l ≡ pairArm o l
+after-one : (o l : ℕ) → arm.Left ≤ o → o ≤ arm.True → afterArm o kind.BuiltinArm l ≡ pairArm o l
 unfolding afterArm
-after-one o l p q = rw (ne-eqb o 0 (λ e. omega arith), ne-eqb o 7 (λ e. omega arith), ne-eqb o 12 (λ e. omega arith), le-ltb 7 o (omega arith)) refl
+after-one o l p q = rw (ne-eqb o 0 (λ e. omega arith), ne-eqb o order.Enums (λ e. omega arith), ne-eqb o order.Mixed (λ e. omega arith), le-ltb order.Enums o (omega arith)) refl
 
-after-two : (o l : ℕ) → 8 ≤ o → o ≤ 11 → afterArm o 37 l ≡ 11
+after-two : (o l : ℕ) → order.Paired ≤ o → o ≤ order.More → afterArm o kind.BuiltinArm l ≡ order.More
 unfolding afterArm
-after-two o l p q = rw (ne-eqb o 0 (λ e. omega arith), ne-eqb o 7 (λ e. omega arith), ne-eqb o 12 (λ e. omega arith), lt-ltb 7 o (omega arith)) refl
+after-two o l p q = rw (ne-eqb o 0 (λ e. omega arith), ne-eqb o order.Enums (λ e. omega arith), ne-eqb o order.Mixed (λ e. omega arith), lt-ltb order.Enums o (omega arith)) refl
 
-after-both : (o l : ℕ) → (o ≡ 7) ⊎ (o ≡ 12) → afterArm o 37 l ≡ 12
+after-both : (o l : ℕ) → (o ≡ order.Enums) ⊎ (o ≡ order.Mixed) → afterArm o kind.BuiltinArm l ≡ order.Mixed
 unfolding afterArm
 after-both o l (inl e) = rw e refl
 after-both o l (inr e) = rw e refl
 
 module _ (l h c : ℕ) (w : List Sort) where
-  enum-count : enumArms (w ++ (child 38 l h c ∷ [])) ≡ enumArms w + 1
+  enum-count : enumArms (w ++ (child kind.EnumArm l h c ∷ [])) ≡ enumArms w + 1
   unfolding counted has
-  enum-count = counted-append (38 ∷ []) w (child 38 l h c ∷ [])
+  enum-count = counted-append (kind.EnumArm ∷ []) w (child kind.EnumArm l h c ∷ [])
 
-  enum-lows : armLows (w ++ (child 38 l h c ∷ [])) ≡ armLows w
+  enum-lows : armLows (w ++ (child kind.EnumArm l h c ∷ [])) ≡ armLows w
   unfolding armLows
-  enum-lows = lows-append w (child 38 l h c ∷ []) ∙ append-nil (armLows w)
+  enum-lows = lows-append w (child kind.EnumArm l h c ∷ []) ∙ append-nil (armLows w)
 
-  built-count : enumArms (w ++ (child 37 l h c ∷ [])) ≡ enumArms w
+  built-count : enumArms (w ++ (child kind.BuiltinArm l h c ∷ [])) ≡ enumArms w
   unfolding counted has
-  built-count = counted-append (38 ∷ []) w (child 37 l h c ∷ []) ∙ omega arith
+  built-count = counted-append (kind.EnumArm ∷ []) w (child kind.BuiltinArm l h c ∷ []) ∙ omega arith
 
-  built-lows : armLows (w ++ (child 37 l h c ∷ [])) ≡ armLows w ++ (l ∷ [])
+  built-lows : armLows (w ++ (child kind.BuiltinArm l h c ∷ [])) ≡ armLows w ++ (l ∷ [])
   unfolding armLows
-  built-lows = lows-append w (child 37 l h c ∷ [])
+  built-lows = lows-append w (child kind.BuiltinArm l h c ∷ [])
 
-  built-many : length (armLows (w ++ (child 37 l h c ∷ []))) ≡ length (armLows w) + 1
+  built-many : length (armLows (w ++ (child kind.BuiltinArm l h c ∷ []))) ≡ length (armLows w) + 1
   built-many = ap length built-lows ∙ length-append (armLows w) (l ∷ [])
 
 lows-nil : armLows [] ≡ []
 unfolding armLows
 lows-nil = refl
 
-lows-one : (a h c : ℕ) → armLows (child 37 a h c ∷ []) ≡ a ∷ []
+lows-one : (a h c : ℕ) → armLows (child kind.BuiltinArm a h c ∷ []) ≡ a ∷ []
 unfolding armLows
 lows-one a h c = refl
 
-lows-two : (a h c b h′ c′ : ℕ) → armLows (child 37 a h c ∷ child 37 b h′ c′ ∷ []) ≡ a ∷ b ∷ []
+lows-two : (a h c b h′ c′ : ℕ) → armLows (child kind.BuiltinArm a h c ∷ child kind.BuiltinArm b h′ c′ ∷ []) ≡ a ∷ b ∷ []
 unfolding armLows
 lows-two a h c b h′ c′ = refl
 
@@ -118,22 +123,22 @@ none-nil : enumArms [] ≡ 0
 unfolding counted
 none-nil = refl
 
-none-one : (a h c : ℕ) → enumArms (child 37 a h c ∷ []) ≡ 0
+none-one : (a h c : ℕ) → enumArms (child kind.BuiltinArm a h c ∷ []) ≡ 0
 unfolding counted has
 none-one a h c = refl
 
-none-two : (a h c b h′ c′ : ℕ) → enumArms (child 37 a h c ∷ child 37 b h′ c′ ∷ []) ≡ 0
+none-two : (a h c b h′ c′ : ℕ) → enumArms (child kind.BuiltinArm a h c ∷ child kind.BuiltinArm b h′ c′ ∷ []) ≡ 0
 unfolding counted has
 none-two a h c b h′ c′ = refl
 
 -- An enum arm more.
-enum-more : (o : ℕ) (w : List Sort) (l h c : ℕ) → Means o w → Means (afterArm o 38 l) (w ++ (child 38 l h c ∷ []))
+enum-more : (o : ℕ) (w : List Sort) (l h c : ℕ) → Means o w → Means (afterArm o kind.EnumArm l) (w ++ (child kind.EnumArm l h c ∷ []))
 enum-more o w l h c (no-arm e f) =
     let n = enum-count l h c w in
     enum-arms (after-enum o l (inl e)) (omega arith) (enum-lows l h c w ∙ ap armLows f ∙ lows-nil)
 enum-more o w l h c (one-arm h′ c′ p q f) =
     let n = enum-count l h c w in
-    let z : length (armLows (w ++ (child 38 l h c ∷ []))) ≡ 1 = ap length (enum-lows l h c w ∙ ap armLows f ∙ lows-one o h′ c′) in
+    let z : length (armLows (w ++ (child kind.EnumArm l h c ∷ []))) ≡ 1 = ap length (enum-lows l h c w ∙ ap armLows f ∙ lows-one o h′ c′) in
     both-sorts (after-mixed o l (λ e. omega arith) (λ e. omega arith)) (omega arith) (omega arith)
 enum-more o w l h c (enum-arms e f g) =
     let n = enum-count l h c w in
@@ -141,24 +146,24 @@ enum-more o w l h c (enum-arms e f g) =
 enum-more o w l h c (two-arms a i d b i′ d′ p q e f) =
     let n = enum-count l h c w in
     let r = pair-range a b in
-    let z : length (armLows (w ++ (child 38 l h c ∷ []))) ≡ 2 = ap length (enum-lows l h c w ∙ ap armLows f ∙ lows-two a i d b i′ d′) in
+    let z : length (armLows (w ++ (child kind.EnumArm l h c ∷ []))) ≡ 2 = ap length (enum-lows l h c w ∙ ap armLows f ∙ lows-two a i d b i′ d′) in
     both-sorts (after-mixed o l (λ u. omega (arith, r .0)) (λ u. omega (arith, r .0))) (omega arith) (omega arith)
 enum-more o w l h c (more-arms e f g) =
     let n = enum-count l h c w in
-    let z : length (armLows (w ++ (child 38 l h c ∷ []))) ≡ length (armLows w) = ap length (enum-lows l h c w) in
+    let z : length (armLows (w ++ (child kind.EnumArm l h c ∷ []))) ≡ length (armLows w) = ap length (enum-lows l h c w) in
     both-sorts (after-mixed o l (λ u. omega arith) (λ u. omega arith)) (omega arith) (omega arith)
 enum-more o w l h c (both-sorts e f g) =
     let n = enum-count l h c w in
-    let z : length (armLows (w ++ (child 38 l h c ∷ []))) ≡ length (armLows w) = ap length (enum-lows l h c w) in
+    let z : length (armLows (w ++ (child kind.EnumArm l h c ∷ []))) ≡ length (armLows w) = ap length (enum-lows l h c w) in
     both-sorts (after-mixed o l (λ u. omega arith) (λ u. omega arith)) (omega arith) (omega arith)
 
 -- A built-in arm more.
-built-more : (o : ℕ) (w : List Sort) (l h c : ℕ) → 1 ≤ l → l ≤ 6 → Means o w → Means (afterArm o 37 l) (w ++ (child 37 l h c ∷ []))
+built-more : (o : ℕ) (w : List Sort) (l h c : ℕ) → arm.Left ≤ l → l ≤ arm.True → Means o w → Means (afterArm o kind.BuiltinArm l) (w ++ (child kind.BuiltinArm l h c ∷ []))
 built-more o w l h c i j (no-arm e f) =
-    let z : afterArm o 37 l ≡ l = ap (λ (u : ℕ). afterArm u 37 l) e ∙ after-none l in
-    one-arm h c (omega arith) (omega arith) (ap (λ u. u ++ (child 37 l h c ∷ [])) f ∙ ap (λ (u : ℕ). child 37 u h c ∷ []) (sym z))
+    let z : afterArm o kind.BuiltinArm l ≡ l = ap (λ (u : ℕ). afterArm u kind.BuiltinArm l) e ∙ after-none l in
+    one-arm h c (omega arith) (omega arith) (ap (λ u. u ++ (child kind.BuiltinArm l h c ∷ [])) f ∙ ap (λ (u : ℕ). child kind.BuiltinArm u h c ∷ []) (sym z))
 built-more o w l h c i j (one-arm h′ c′ p q f) =
-    two-arms o h′ c′ l h c q j (after-one o l p q) (ap (λ u. u ++ (child 37 l h c ∷ [])) f)
+    two-arms o h′ c′ l h c q j (after-one o l p q) (ap (λ u. u ++ (child kind.BuiltinArm l h c ∷ [])) f)
 built-more o w l h c i j (enum-arms e f g) =
     both-sorts (after-both o l (inl e)) (omega (arith, built-count l h c w)) (omega (arith, built-many l h c w))
 built-more o w l h c i j (two-arms a x y b x′ y′ p q e f) =
@@ -216,35 +221,35 @@ module _ (k l h c : ℕ) (w : List Sort) where
   abbrev pub wholeMatch : List Sort
   wholeMatch = word t.Match ∷ child k l h c ∷ word t.LBrace ∷ (w ++ (word t.RBrace ∷ []))
 
-  pub whole-count : (k ≡ 38 → ⊥) → enumArms wholeMatch ≡ enumArms w
+  pub whole-count : (k ≡ kind.EnumArm → ⊥) → enumArms wholeMatch ≡ enumArms w
   unfolding counted has
-  whole-count n = rw (ne-eqb 38 k (λ e. n (sym e))) (omega (arith, counted-append (38 ∷ []) w (word t.RBrace ∷ [])))
+  whole-count n = rw (ne-eqb kind.EnumArm k (λ e. n (sym e))) (omega (arith, counted-append (kind.EnumArm ∷ []) w (word t.RBrace ∷ [])))
 
-  pub whole-lows : (k ≡ 37 → ⊥) → armLows wholeMatch ≡ armLows w
+  pub whole-lows : (k ≡ kind.BuiltinArm → ⊥) → armLows wholeMatch ≡ armLows w
   unfolding armLows
-  whole-lows n = rw (ne-eqb k 37 n) (lows-append w (word t.RBrace ∷ []) ∙ append-nil (armLows w))
+  whole-lows n = rw (ne-eqb k kind.BuiltinArm n) (lows-append w (word t.RBrace ∷ []) ∙ append-nil (armLows w))
 
-kind-by : (o : ℕ) (w : List Sort) → Means o w → cond (ltb 0 (enumArms w)) (plain 36) (plain 35) ≡ plain (orderKind o)
+kind-by : (o : ℕ) (w : List Sort) → Means o w → cond (ltb 0 (enumArms w)) (plain kind.EnumMatch) (plain kind.Match) ≡ plain (orderKind o)
 unfolding orderKind
 kind-by o w (no-arm e f) = rw (e, f, none-nil) refl
-kind-by o w (one-arm h c p q f) = rw (f, none-one o h c, ne-eqb o 7 (λ e. omega arith), ne-eqb o 12 (λ e. omega arith)) refl
+kind-by o w (one-arm h c p q f) = rw (f, none-one o h c, ne-eqb o order.Enums (λ e. omega arith), ne-eqb o order.Mixed (λ e. omega arith)) refl
 kind-by o w (enum-arms e f g) = rw (e, lt-ltb 0 (enumArms w) f) refl
 kind-by o w (two-arms a i d b i′ d′ p q e f) =
     let r = pair-range a b in
-    rw (f, none-two a i d b i′ d′, ne-eqb o 7 (λ u. omega (arith, r .0)), ne-eqb o 12 (λ u. omega (arith, r .1))) refl
+    rw (f, none-two a i d b i′ d′, ne-eqb o order.Enums (λ u. omega (arith, r .0)), ne-eqb o order.Mixed (λ u. omega (arith, r .1))) refl
 kind-by o w (more-arms e f g) = rw (e, f) refl
 kind-by o w (both-sorts e f g) = rw (e, lt-ltb 0 (enumArms w) f) refl
 
 -- The kind of a match.
-pub match-kind : (text : List ℕ) (n k l h c : ℕ) (w : List Sort) → (k ≡ 38 → ⊥) → Armed w → headOf aMatch text n (wholeMatch k l h c w) ≡ plain (orderKind (orderFrom 0 w))
+pub match-kind : (text : List ℕ) (n k l h c : ℕ) (w : List Sort) → (k ≡ kind.EnumArm → ⊥) → Armed w → headOf aMatch text n (wholeMatch k l h c w) ≡ plain (orderKind (orderFrom 0 w))
 unfolding headOf
-match-kind text n k l h c w q a = ap (λ (u : ℕ). cond (ltb 0 u) (plain 36) (plain 35)) (whole-count k l h c w q) ∙ kind-by (orderFrom 0 w) w (order-means w a)
+match-kind text n k l h c w q a = ap (λ (u : ℕ). cond (ltb 0 u) (plain kind.EnumMatch) (plain kind.Match)) (whole-count k l h c w q) ∙ kind-by (orderFrom 0 w) w (order-means w a)
 
-mates-are : (a b : ℕ) → cond (mates (a ∷ b ∷ [])) 0 14 ≡ orderFault (pairArm a b)
+mates-are : (a b : ℕ) → cond (mates (a ∷ b ∷ [])) 0 refusal.NoPartners ≡ orderFault (pairArm a b)
 unfolding mates orderFault pairArm
 mates-are a b = go (partner a b) (partner b a)
   where
-    go : (p q : Bool) → cond (p || q) 0 14 ≡ orderFault (cond p 8 (cond q 9 10))
+    go : (p q : Bool) → cond (p || q) 0 refusal.NoPartners ≡ orderFault (cond p order.Paired (cond q order.Turned order.Unpaired))
     go true q = refl
     go false true = refl
     go false false = refl
@@ -253,14 +258,14 @@ fault-by : (o : ℕ) (w : List Sort) → Means o w → armsFault (enumArms w) (a
 unfolding armsFault orderFault
 fault-by o w (no-arm e f) = rw (e, f, none-nil, lows-nil) refl
 fault-by o w (one-arm h c p q f) =
-    rw (f, none-one o h c, lows-one o h c, ne-eqb o 0 (λ e. omega arith), ne-eqb o 7 (λ e. omega arith), ne-eqb o 8 (λ e. omega arith), ne-eqb o 9 (λ e. omega arith), ne-eqb o 10 (λ e. omega arith), ne-eqb o 12 (λ e. omega arith)) refl
+    rw (f, none-one o h c, lows-one o h c, ne-eqb o 0 (λ e. omega arith), ne-eqb o order.Enums (λ e. omega arith), ne-eqb o order.Paired (λ e. omega arith), ne-eqb o order.Turned (λ e. omega arith), ne-eqb o order.Unpaired (λ e. omega arith), ne-eqb o order.Mixed (λ e. omega arith)) refl
 fault-by o w (enum-arms e f g) = rw (e, g, ne-eqb (enumArms w) 0 (λ u. omega arith)) refl
 fault-by o w (two-arms a i d b i′ d′ p q e f) = rw (e, f, none-two a i d b i′ d′, lows-two a i d b i′ d′) (mates-are a b)
 fault-by o w (more-arms e f g) = rw (e, f, ne-eqb (length (armLows w)) 0 (λ u. omega arith), ne-eqb (length (armLows w)) 2 (λ u. omega arith)) refl
 fault-by o w (both-sorts e f g) = rw (e, ne-eqb (enumArms w) 0 (λ u. omega arith), ne-eqb (length (armLows w)) 0 (λ u. omega arith)) refl
 
 -- The refusal of a match, by its pieces,
-pub arms-fault : (k l h c : ℕ) (w : List Sort) → (k ≡ 37 → ⊥) → (k ≡ 38 → ⊥) → Armed w → armsFault (enumArms (wholeMatch k l h c w)) (armLows (wholeMatch k l h c w)) ≡ orderFault (orderFrom 0 w)
+pub arms-fault : (k l h c : ℕ) (w : List Sort) → (k ≡ kind.BuiltinArm → ⊥) → (k ≡ kind.EnumArm → ⊥) → Armed w → armsFault (enumArms (wholeMatch k l h c w)) (armLows (wholeMatch k l h c w)) ≡ orderFault (orderFrom 0 w)
 arms-fault k l h c w m n a = ap₂ armsFault (whole-count k l h c w n) (whole-lows k l h c w m) ∙ fault-by (orderFrom 0 w) w (order-means w a)
 
 -- and as it is kept.
@@ -272,8 +277,8 @@ one-fault f y = go (eqb f 0)
     go true = refl
     go false = refl
 
-pub match-fault : (draft : List ℕ) (is : Items) (k l h c : ℕ) (w : List Sort) {y : Tok} {ms : List Tok} → (k ≡ 37 → ⊥) → (k ≡ 38 → ⊥) → Armed w → sorts is ≡ wholeMatch k l h c w → marks is ≡ y ∷ ms
-    → earliest (faultsAt draft 17 is) ≡ fault (orderFault (orderFrom 0 w)) (y .start)
+pub match-fault : (draft : List ℕ) (is : Items) (k l h c : ℕ) (w : List Sort) {y : Tok} {ms : List Tok} → (k ≡ kind.BuiltinArm → ⊥) → (k ≡ kind.EnumArm → ⊥) → Armed w → sorts is ≡ wholeMatch k l h c w → marks is ≡ y ∷ ms
+    → earliest (faultsAt draft MatchShape is) ≡ fault (orderFault (orderFrom 0 w)) (y .start)
 unfolding faultsAt firstTok
 match-fault draft is k l h c w {y} {ms} m n a e f =
     ap₂ (λ (v : List Sort) (u : List Tok). earliest (unless (eqb (armsFault (enumArms v) (armLows v)) 0) (armsFault (enumArms v) (armLows v)) (firstTok u))) e f

@@ -18,9 +18,12 @@ use Rattle.own.specs.Law.{Sort, word, child}
 use Rattle.own.specs.Rules.{sorts}
 use Rattle.text.specs.Widths.{recWide}
 use Rattle.own.specs.Words.{recThen, sizes, wordGroups}
+use Rattle.own.specs.Arms as arm
+use Rattle.own.specs.Kinds as kind
 use Rattle.grammar.specs.Faults.{armLows}
 use Rattle.parse.specs.Contract.{Turned}
 use Rattle.parse.specs.Infos.{Armed, pairArm, orderFrom, orderKind, firstNode, Arranged, exchanged, stayed}
+use Rattle.parse.specs.Orders as order
 use Rattle.parse.proofs.Splice.{sets-append}
 use Rattle.parse.proofs.Lists.{joined, groups-joined, sizes-joined, length-words}
 use Rattle.parse.proofs.ArmLaws.{Means, no-arm, one-arm, enum-arms, two-arms, more-arms, both-sorts, order-means, pair-range}
@@ -104,26 +107,26 @@ two-parts (sub k l h js r) e =
 -- The arms are no partners in both orders.
 partner-one : (a b : ℕ) → T (partner a b) → partner b a ≡ false
 unfolding partner
-partner-one a b y = go (or-cases (eqb a 1 && eqb b 2) ((eqb a 3 && eqb b 4) || (eqb a 5 && eqb b 6)) y)
+partner-one a b y = go (or-cases (eqb a arm.Left && eqb b arm.Right) ((eqb a arm.None && eqb b arm.Some) || (eqb a arm.False && eqb b arm.True)) y)
   where
-    these : (m n : ℕ) → T (eqb a m && eqb b n) → ((eqb n 1 && eqb m 2) || ((eqb n 3 && eqb m 4) || (eqb n 5 && eqb m 6))) ≡ false
-        → ((eqb b 1 && eqb a 2) || ((eqb b 3 && eqb a 4) || (eqb b 5 && eqb a 6))) ≡ false
+    these : (m n : ℕ) → T (eqb a m && eqb b n) → ((eqb n arm.Left && eqb m arm.Right) || ((eqb n arm.None && eqb m arm.Some) || (eqb n arm.False && eqb m arm.True))) ≡ false
+        → ((eqb b arm.Left && eqb a arm.Right) || ((eqb b arm.None && eqb a arm.Some) || (eqb b arm.False && eqb a arm.True))) ≡ false
     these m n u f = rw (eqb→eq a m (first-of (eqb a m) (eqb b n) u), eqb→eq b n (second-of (eqb a m) (eqb b n) u)) f
 
-    more : T (eqb a 3 && eqb b 4) ⊎ T (eqb a 5 && eqb b 6) → ((eqb b 1 && eqb a 2) || ((eqb b 3 && eqb a 4) || (eqb b 5 && eqb a 6))) ≡ false
-    more (inl u) = these 3 4 u refl
-    more (inr u) = these 5 6 u refl
+    more : T (eqb a arm.None && eqb b arm.Some) ⊎ T (eqb a arm.False && eqb b arm.True) → ((eqb b arm.Left && eqb a arm.Right) || ((eqb b arm.None && eqb a arm.Some) || (eqb b arm.False && eqb a arm.True))) ≡ false
+    more (inl u) = these arm.None arm.Some u refl
+    more (inr u) = these arm.False arm.True u refl
 
-    go : T (eqb a 1 && eqb b 2) ⊎ T ((eqb a 3 && eqb b 4) || (eqb a 5 && eqb b 6)) → ((eqb b 1 && eqb a 2) || ((eqb b 3 && eqb a 4) || (eqb b 5 && eqb a 6))) ≡ false
-    go (inl u) = these 1 2 u refl
-    go (inr u) = more (or-cases (eqb a 3 && eqb b 4) (eqb a 5 && eqb b 6) u)
+    go : T (eqb a arm.Left && eqb b arm.Right) ⊎ T ((eqb a arm.None && eqb b arm.Some) || (eqb a arm.False && eqb b arm.True)) → ((eqb b arm.Left && eqb a arm.Right) || ((eqb b arm.None && eqb a arm.Some) || (eqb b arm.False && eqb a arm.True))) ≡ false
+    go (inl u) = these arm.Left arm.Right u refl
+    go (inr u) = more (or-cases (eqb a arm.None && eqb b arm.Some) (eqb a arm.False && eqb b arm.True) u)
 
--- The order of two arms is 9 where they are partners the other way round.
-pair-nine : (a b : ℕ) → partner b a ≡ eqb (pairArm a b) 9
+-- The order of two arms is `Turned` where they are partners the other way round.
+pair-nine : (a b : ℕ) → partner b a ≡ eqb (pairArm a b) order.Turned
 unfolding pairArm
 pair-nine a b = go (partner a b) (partner b a) (partner-one a b)
   where
-    go : (p q : Bool) → (T p → q ≡ false) → q ≡ eqb (cond p 8 (cond q 9 10)) 9
+    go : (p q : Bool) → (T p → q ≡ false) → q ≡ eqb (cond p order.Paired (cond q order.Turned order.Unpaired)) order.Turned
     go true q f = f tt
     go false true f = refl
     go false false f = refl
@@ -139,35 +142,35 @@ lows-kids : (A : Items) → length (armLows (sorts A)) ≤ length (kids A)
 unfolding armLows
 lows-kids own.none = omega arith
 lows-kids (mark t r) = lows-kids r
-lows-kids (sub k l h js r) = go (eqb k 37) (lows-kids r)
+lows-kids (sub k l h js r) = go (eqb k kind.BuiltinArm) (lows-kids r)
   where
     go : (b : Bool) → length (armLows (sorts r)) ≤ length (kids r) → length (cond b (l ∷ armLows (sorts r)) (armLows (sorts r))) ≤ suc (length (kids r))
     go true e = omega arith
     go false e = omega arith
 
-turned-by : (o : ℕ) (e : Node) (A : Items) → Means o (sorts A) → (eqb (orderKind o) 35 && reversed (e ∷ kids A)) ≡ eqb o 9
+turned-by : (o : ℕ) (e : Node) (A : Items) → Means o (sorts A) → (eqb (orderKind o) kind.Match && reversed (e ∷ kids A)) ≡ eqb o order.Turned
 unfolding orderKind canonical
 turned-by o e A (no-arm p q) = rw (p, no-pieces A q) refl
 turned-by o e A (one-arm h c p q f) =
     let z = one-part A f in
-    rw (z .1, ne-eqb o 7 (λ u. omega arith), ne-eqb o 12 (λ u. omega arith), ne-eqb o 9 (λ u. omega arith)) refl
+    rw (z .1, ne-eqb o order.Enums (λ u. omega arith), ne-eqb o order.Mixed (λ u. omega arith), ne-eqb o order.Turned (λ u. omega arith)) refl
 turned-by o e A (enum-arms p q f) = rw p refl
 turned-by o e A (two-arms a h c b h′ c′ p q f g) =
     let z = two-parts A g in
     let r = pair-range a b in
-    rw (z .is, ne-eqb o 7 (λ u. omega (arith, r .0)), ne-eqb o 12 (λ u. omega (arith, r .1))) (rw f (pair-nine a b))
+    rw (z .is, ne-eqb o order.Enums (λ u. omega (arith, r .0)), ne-eqb o order.Mixed (λ u. omega (arith, r .1))) (rw f (pair-nine a b))
 turned-by o e A (more-arms p q f) = rw (p, many-parts e (kids A) (omega (arith, lows-kids A))) refl
 turned-by o e A (both-sorts p q f) = rw p refl
 
--- A match is turned where the order of its arms is 9.
-pub match-turned : (P A : Items) (y : Tok) → Scrutiny P → Armed (sorts A) → turned (orderKind (orderFrom 0 (sorts A))) (joined P (joined A (mark y own.none))) ≡ eqb (orderFrom 0 (sorts A)) 9
+-- A match is turned where the order of its arms is `Turned`.
+pub match-turned : (P A : Items) (y : Tok) → Scrutiny P → Armed (sorts A) → turned (orderKind (orderFrom 0 (sorts A))) (joined P (joined A (mark y own.none))) ≡ eqb (orderFrom 0 (sorts A)) order.Turned
 unfolding turned
 match-turned P A y s a =
-    ap (λ (u : List Node). eqb (orderKind (orderFrom 0 (sorts A))) 35 && reversed u)
+    ap (λ (u : List Node). eqb (orderKind (orderFrom 0 (sorts A))) kind.Match && reversed u)
     (kids-joined P (joined A (mark y own.none)) ∙ ap₂ (λ (u v : List Node). u ++ v) (s .kids-is) (kids-joined A (mark y own.none) ∙ append-nil (kids A)))
     ∙ turned-by (orderFrom 0 (sorts A)) (s .its) A (order-means (sorts A) a)
 
--- The arms of the order 9 are two.
+-- The arms of that order are two.
 pub record Pair (A : Items) : Type 0 where
   pub k₁ : ℕ
   pub l₁ : ℕ
@@ -177,14 +180,14 @@ pub record Pair (A : Items) : Type 0 where
   pub h₂ : ℕ
   pub parts : Two A k₁ l₁ h₁ k₂ l₂ h₂
 
-pub nine-two : (A : Items) → Armed (sorts A) → orderFrom 0 (sorts A) ≡ 9 → Pair A
+pub nine-two : (A : Items) → Armed (sorts A) → orderFrom 0 (sorts A) ≡ order.Turned → Pair A
 nine-two A a e = go (order-means (sorts A) a)
   where
     go : Means (orderFrom 0 (sorts A)) (sorts A) → Pair A
     go (no-arm p q) = absurd (omega arith)
     go (one-arm h c p q f) = absurd (omega arith)
     go (enum-arms p q f) = absurd (omega arith)
-    go (two-arms x h c y h′ c′ p q f g) = record { k₁ = 37; l₁ = x; h₁ = h; k₂ = 37; l₂ = y; h₂ = h′; parts = two-parts A g }
+    go (two-arms x h c y h′ c′ p q f g) = record { k₁ = kind.BuiltinArm; l₁ = x; h₁ = h; k₂ = kind.BuiltinArm; l₂ = y; h₂ = h′; parts = two-parts A g }
     go (more-arms p q f) = absurd (omega arith)
     go (both-sorts p q f) = absurd (omega arith)
 
@@ -225,7 +228,7 @@ module _ (P : Items) (s : Scrutiny P) (k₁ l₁ h₁ k₂ l₂ h₂ : ℕ) (j�
 module _ (P A : Items) (y : Tok) (s : Scrutiny P) (a : Armed (sorts A)) (l : List ℕ) (r : ℕ) {m m′ : List ℕ} {from mid to : ℕ} (n : length m ≡ length l)
     (e : recWide * to ≤ length l → m ≡ sets l (recWide * r) (concat (wordGroups (joined P (joined A (mark y own.none))))))
     (f : from ≡ r + sizes P) (g : mid ≡ from + sizes (firstNode A)) (h : to ≡ r + sizes (joined P (joined A (mark y own.none)))) where
-  arranges-nine : orderFrom 0 (sorts A) ≡ 9 → Turned m from mid to m′ → recWide * to ≤ length l → m′ ≡ sets l (recWide * r) (concat (arrange true (wordGroups (joined P (joined A (mark y own.none))))))
+  arranges-nine : orderFrom 0 (sorts A) ≡ order.Turned → Turned m from mid to m′ → recWide * to ≤ length l → m′ ≡ sets l (recWide * r) (concat (arrange true (wordGroups (joined P (joined A (mark y own.none))))))
   arranges-nine o v q =
       let p = nine-two A a o in
       let t = p .parts in
@@ -247,6 +250,6 @@ module _ (P A : Items) (y : Tok) (s : Scrutiny P) (a : Armed (sorts A)) (l : Lis
   arranges v q =
       go v ∙ ap (λ (b : Bool). sets l (recWide * r) (concat (arrange b (wordGroups (joined P (joined A (mark y own.none))))))) (sym (match-turned P A y s a))
     where
-      go : Arranged (orderFrom 0 (sorts A)) m from mid to m′ → m′ ≡ sets l (recWide * r) (concat (arrange (eqb (orderFrom 0 (sorts A)) 9) (wordGroups (joined P (joined A (mark y own.none))))))
-      go (exchanged o v) = rw (eq-eqb (orderFrom 0 (sorts A)) 9 o) (arranges-nine o v q)
-      go (stayed o p) = rw (ne-eqb (orderFrom 0 (sorts A)) 9 o) (p ∙ e q)
+      go : Arranged (orderFrom 0 (sorts A)) m from mid to m′ → m′ ≡ sets l (recWide * r) (concat (arrange (eqb (orderFrom 0 (sorts A)) order.Turned) (wordGroups (joined P (joined A (mark y own.none))))))
+      go (exchanged o v) = rw (eq-eqb (orderFrom 0 (sorts A)) order.Turned o) (arranges-nine o v q)
+      go (stayed o p) = rw (ne-eqb (orderFrom 0 (sorts A)) order.Turned o) (p ∙ e q)

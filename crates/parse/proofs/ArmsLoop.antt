@@ -23,6 +23,8 @@ use Rattle.own.specs.Rules.{sorts, firstClass}
 use Rattle.own.specs.Words.{sizes}
 use Rattle.grammar.specs.Tables.{means, table}
 use Rattle.grammar.specs.Records.{arranged}
+use Rattle.grammar.specs.TablesIndex.{n-arm, n-many-arm}
+use Rattle.lexer.specs.Classes as t
 use Rattle.parse.proofs.Step.{the-type}
 use Rattle.parse.specs.Contract.{Text, raw, Ready, Info, asItems, Went, Parsed}
 use Rattle.parse.specs.Infos.{ArmKind, Arm, Armed, Arms, afterArm, orderFrom, firstNode}
@@ -39,17 +41,17 @@ use Rattle.parse.proofs.ArmLaws.{order-snoc, order-none, armed-snoc}
 use Rattle.parse.proofs.ArmTurned.{no-pieces}
 
 -- The row of arms.
-flat-arms : sortOf (ex means (nt 25)) ≡ shape.flat
+flat-arms : sortOf (ex means (nt n-many-arm)) ≡ shape.flat
 unfolding sortOf ex means
 flat-arms = refl
 
-no-more : (c : ℕ) → c ≡ 25 → expand table 25 c ≡ some []
+no-more : (c : ℕ) → c ≡ t.RBrace → expand table n-many-arm c ≡ some []
 unfolding choose row table look alt pick
-no-more c h = goes 25 1 c (hit 25 1 [] 2 h) refl
+no-more c h = goes n-many-arm 1 c (hit t.RBrace 1 [] 2 h) refl
 
-one-more : (c : ℕ) → (c ≡ 25 → ⊥) → expand table 25 c ≡ some (nt 39 ∷ nt 25 ∷ [])
+one-more : (c : ℕ) → (c ≡ t.RBrace → ⊥) → expand table n-many-arm c ≡ some (nt n-arm ∷ nt n-many-arm ∷ [])
 unfolding choose row table look alt pick
-one-more c h = goes 25 2 c (miss 25 1 [] 2 h refl) refl
+one-more c h = goes n-many-arm 2 c (miss t.RBrace 1 [] 2 h refl) refl
 
 -- The records of the first arm, with one arm more.
 pub first-sizes : (A : Items) (k l h : ℕ) (js : Items) → Armed (sorts A)
@@ -65,7 +67,7 @@ first-sizes (sub k′ l′ h′ js′ r) k l h js a = rw (ne-eqb (orderFrom 0 (s
 -- The arms up to `here`.
 pub record ArmsInv (x : Text) (st : State) (l : List ℕ) (here : State) (l₁ : List ℕ) (order mid : ℕ) : Type 0 where
   pub w : List Sort
-  pub amid : Amid x 0 AnyN (nt 25 ∷ []) (nt 25 ∷ []) st l w [] 0 here l₁
+  pub amid : Amid x 0 AnyN (nt n-many-arm ∷ []) (nt n-many-arm ∷ []) st l w [] 0 here l₁
   pub armed : Armed w
   pub order-is : order ≡ orderFrom 0 w
   pub mid-is : mid ≡ st .out + sizes (firstNode (amid .L))
@@ -80,11 +82,11 @@ its-sorts : {x : Text} {full left : List Sym} {st : State} {l : List ℕ} {w : L
 its-sorts d = ap sorts (same-items d) ∙ d .sorted
 
 -- What an arm says of itself.
-pub arm-kind : {x : Text} {st : State} {l l₁ : List ℕ} {r : Step} {a : State} {kind low : ℕ} → Parsed x (nt 39 ∷ []) asItems Arm st l l₁ r → r ≡ Next a kind low → ArmKind kind low
+pub arm-kind : {x : Text} {st : State} {l l₁ : List ℕ} {r : Step} {a : State} {kind low : ℕ} → Parsed x (nt n-arm ∷ []) asItems Arm st l l₁ r → r ≡ Next a kind low → ArmKind kind low
 arm-kind p e = went e p .info .its-kind
 
 -- An arm lies ahead.
-pub arm-ahead : {x : Text} {st : State} {l l₁ : List ℕ} {r : Step} {a : State} {kind low : ℕ} → Parsed x (nt 39 ∷ []) asItems Arm st l l₁ r → r ≡ Next a kind low → st .at < a .at
+pub arm-ahead : {x : Text} {st : State} {l l₁ : List ℕ} {r : Step} {a : State} {kind low : ℕ} → Parsed x (nt n-arm ∷ []) asItems Arm st l l₁ r → r ≡ Next a kind low → st .at < a .at
 arm-ahead p e =
     let q = went e p in
     let s = ap sizes (q .info .laid-is) in
@@ -94,7 +96,7 @@ module _ {x : Text} {st : State} {l : List ℕ} (y : Ready x st) where
   pub arms-starts : ArmsInv x st l st l 0 (st .out)
   unfolding orderFrom
   arms-starts =
-      let d = starts 0 AnyN (nt 25 ∷ []) l (y .stands) in
+      let d = starts 0 AnyN (nt n-many-arm ∷ []) l (y .stands) in
       let z : sizes (firstNode (d .L)) ≡ 0 = ap (λ (u : Items). sizes (firstNode u)) (no-pieces (d .L) (its-sorts d)) in
       record { w = []; amid = d; armed = tt; order-is = refl; mid-is = omega arith }
 
@@ -103,9 +105,9 @@ module _ {x : Text} {st : State} {l : List ℕ} (y : Ready x st) where
     arms-ready = onward y (v .amid)
 
     -- The arms end at the brace,
-    pub arms-ends : here .class ≡ 25 → Went x (nt 25 ∷ []) asItems (Arms st) st l here l₁ order mid
+    pub arms-ends : here .class ≡ t.RBrace → Went x (nt n-many-arm ∷ []) asItems (Arms st) st l here l₁ order mid
     arms-ends c =
-        let g = grown-turns [] (v .amid) flat-arms (ap (expand table 25) (sym (v .amid .lays .stands .class-is)) ∙ no-more (here .class) c) in
+        let g = grown-turns [] (v .amid) flat-arms (ap (expand table n-many-arm) (sym (v .amid .lays .stands .class-is)) ∙ no-more (here .class) c) in
         let d = g .amid in
         finish d (record {
           same = same-items d;
@@ -114,24 +116,24 @@ module _ {x : Text} {st : State} {l : List ℕ} (y : Ready x st) where
           mid-is = v .mid-is ∙ ap (λ (u : Items). st .out + sizes (firstNode u)) (sym (g .is) ∙ same-items d);
         })
 
-    module _ (n : here .class ≡ 25 → ⊥) where
-      into : Grown x 0 AnyN (nt 25 ∷ []) (nt 39 ∷ nt 25 ∷ []) st l (v .w) [] 0 here l₁ (v .amid .L)
-      into = grown-turns (nt 39 ∷ nt 25 ∷ []) (v .amid) flat-arms (ap (expand table 25) (sym (v .amid .lays .stands .class-is)) ∙ one-more (here .class) n)
+    module _ (n : here .class ≡ t.RBrace → ⊥) where
+      into : Grown x 0 AnyN (nt n-many-arm ∷ []) (nt n-arm ∷ nt n-many-arm ∷ []) st l (v .w) [] 0 here l₁ (v .amid .L)
+      into = grown-turns (nt n-arm ∷ nt n-many-arm ∷ []) (v .amid) flat-arms (ap (expand table n-many-arm) (sym (v .amid .lays .stands .class-is)) ∙ one-more (here .class) n)
 
       -- or an arm is refused,
-      pub arms-passed : {J : Info} {l₂ l′ : List ℕ} {r : Step} → OneOf (1 ∷ []) (tagOf the-type r) → Parsed x (nt 39 ∷ []) asItems Arm here l₁ l₂ r → Parsed x (nt 25 ∷ []) asItems J st l l′ r
+      pub arms-passed : {J : Info} {l₂ l′ : List ℕ} {r : Step} → OneOf (1 ∷ []) (tagOf the-type r) → Parsed x (nt n-arm ∷ []) asItems Arm here l₁ l₂ r → Parsed x (nt n-many-arm ∷ []) asItems J st l l′ r
       arms-passed k p = then-passed (into .amid) k (λ τ q h. h) p
 
       -- or there is one arm more.
-      pub arms-again : {l₂ : List ℕ} {r : Step} {a : State} {kind low order′ mid′ : ℕ} → Parsed x (nt 39 ∷ []) asItems Arm here l₁ l₂ r → r ≡ Next a kind low
+      pub arms-again : {l₂ : List ℕ} {r : Step} {a : State} {kind low order′ mid′ : ℕ} → Parsed x (nt n-arm ∷ []) asItems Arm here l₁ l₂ r → r ≡ Next a kind low
           → order′ ≡ afterArm order kind low → mid′ ≡ cond (eqb order 0) (a .out) mid → ArmsInv x st l a l₂ order′ mid′
       unfolding arranged
       arms-again {l₂} {r} {a} {kind} {low} {order′} {mid′} p e f g =
           let q = went e p in
           let i = q .info in
           let c : ℕ = firstClass (own.yield (i .js)) in
-          let z : Grown x 0 AnyN (nt 25 ∷ []) (nt 25 ∷ []) st l (v .w ++ (child kind low (i .high) c ∷ [])) [] 0 a l₂ (joined (into .amid .L) (q .L)) =
-          grows (nt 39 ∷ []) (nt 25 ∷ []) (into .amid) q (λ n h. ap (arranged 0 n) (i .raw-is) ∙ sym (i .laid-is)) (ap (λ u. v .w ++ sorts u) (i .raw-is)) (ap marks (i .raw-is)) (ap (λ (u : ℕ). 0 + u) (i .none-left)) in
+          let z : Grown x 0 AnyN (nt n-many-arm ∷ []) (nt n-many-arm ∷ []) st l (v .w ++ (child kind low (i .high) c ∷ [])) [] 0 a l₂ (joined (into .amid .L) (q .L)) =
+          grows (nt n-arm ∷ []) (nt n-many-arm ∷ []) (into .amid) q (λ n h. ap (arranged 0 n) (i .raw-is) ∙ sym (i .laid-is)) (ap (λ u. v .w ++ sorts u) (i .raw-is)) (ap marks (i .raw-is)) (ap (λ (u : ℕ). 0 + u) (i .none-left)) in
           let A : Items = v .amid .L in
           let B : Items = sub kind low (i .high) (i .js) own.none in
           let L-is : z .amid .L ≡ joined A B = z .is ∙ ap₂ joined (into .is) (i .laid-is) in

@@ -25,13 +25,15 @@ use Rattle.own.specs.Flat.{no-token}
 use Rattle.theory.specs.Walk.{n-tok}
 use Rattle.own.specs.Law.{Sort, word}
 use Rattle.own.specs.Rules.{sorts}
+use Rattle.own.specs.Kinds as kind
 use Rattle.kinds.specs.Shape.{has}
+use Rattle.kinds.specs.Families as family
 use Rattle.lexer.specs.Classes as t
 use Rattle.grammar.specs.Tables.{means, table}
 use Rattle.grammar.specs.TablesIndex.{n-arguments, n-path, n-functionName, n-identifier, n-path-many-DoubleColon, n-path-optional}
 use Rattle.grammar.specs.Records.{aMark, asName, roleOf, placed, arranged, sees, nameCount, lone, reads, textOf, firstOf}
 use Rattle.grammar.specs.Faults.{Fault}
-use Rattle.parse.specs.Contract.{Text, classes, tokAt, Read, raw, kept, fault, Stands, Ready, Near, Moved, Put, Turned, Judged, Info, asItems, Went, Parsed, read, reserved, cleaned, Named, Decimal, valueAt, Called, named, marked, Only}
+use Rattle.parse.specs.Contract.{Text, classes, tokAt, Read, raw, kept, fault, Stands, Ready, Near, Moved, Put, Turned, Judged, Info, asItems, Went, Parsed, read, reserved, Named, Decimal, valueAt, Called, named, marked, Only, countable, u32Count}
 use Rattle.parse.specs.Infos.{Args, Path, Begun}
 use Rattle.parse.specs.declared.State.{State}
 use Rattle.parse.specs.declared.Step.{Step}
@@ -90,7 +92,7 @@ pub record Pathed (x : Text) (N : ℕ → Type 0) (full left : List Sym) (st : S
   pub k : ℕ
   pub count-is : nameCount W ≡ a
   pub angles : sees t.LAngle W ≡ false
-  pub amid : Amid x 34 N full left st l (w ++ W) (ms ++ more) (m + k) st₂ l₂
+  pub amid : Amid x kind.EnumConstruction N full left st l (w ++ W) (ms ++ more) (m + k) st₂ l₂
 
 module _ {x : Text} {K : ℕ} {N : ℕ → Type 0} {full left : List Sym} {st : State} {l : List ℕ} {w : List Sort} {ms : List Tok} {m : ℕ} {st₁ : State} {l₁ : List ℕ} where
   pub then-args : {st₂ : State} {l₂ : List ℕ} {a b : ℕ} {r : Step} → Amid x K N full (nt n-arguments ∷ left) st l w ms m st₁ l₁ → Parsed x (nt n-arguments ∷ []) asItems Args st₁ l₁ l₂ r → r ≡ Next st₂ a b
@@ -115,7 +117,7 @@ module _ {x : Text} {K : ℕ} {N : ℕ → Type 0} {full left : List Sym} {st : 
   unfolding arranged placed
   then-mark {s} {c} {st₂} z d e v role =
       let f : getD (classes x) (st₁ .at) 0 ≡ c = sym (d .lays .stands .class-is) ∙ e in
-      let i = within (st₁ .at) c f (z .pos) in
+      let i = inside x (st₁ .at) (z .pos) f in
       let q = word-went (d .lays .stands) i v c l₁ (z .reads x (st₁ .at) f i) in
       let t : tokAt x (st₁ .at) .class ≡ c = sym (class-at (x .ts) (st₁ .at)) ∙ f in
       let g = then-went d q (λ n g. ap (arranged K n) (q .info .raw-is) ∙ ap (λ o. placed o n (tokAt x (st₁ .at)) own.none) (ap (roleOf K) t ∙ role) ∙ sym (q .info .laid-is)) in
@@ -124,13 +126,9 @@ module _ {x : Text} {K : ℕ} {N : ℕ → Type 0} {full left : List Sym} {st : 
       subst (λ b. Amid x K N full left st l (w ++ (word c ∷ [])) b (m + 1) st₂ l₁) (ap (λ b. ms ++ b) e₂)
       (subst (λ a. Amid x K N full left st l a (ms ++ marks (raw x (st₁ .at) (q .items))) (m + 1) st₂ l₁) (ap (λ a. w ++ a) e₁)
       (subst (λ a. Amid x K N full left st l (w ++ sorts (raw x (st₁ .at) (q .items))) (ms ++ marks (raw x (st₁ .at) (q .items))) (m + a) st₂ l₁) (q .info .one) g))
-    where
-      within : (i c : ℕ) → getD (classes x) i 0 ≡ c → 0 < c → i < length (x .ts)
-      within i zero f h = absurd (omega arith)
-      within i (suc k) f h = inside x i k f
 
 module _ {x : Text} {N : ℕ → Type 0} {full left : List Sym} {st : State} {l : List ℕ} {w : List Sort} {ms : List Tok} {m : ℕ} {st₁ : State} {l₁ : List ℕ} where
-  pub then-path : {st₂ : State} {l₂ : List ℕ} {a b : ℕ} {r : Step} → Amid x 34 N full (nt n-path ∷ left) st l w ms m st₁ l₁ → Parsed x (nt n-path ∷ []) asItems Path st₁ l₁ l₂ r → r ≡ Next st₂ a b
+  pub then-path : {st₂ : State} {l₂ : List ℕ} {a b : ℕ} {r : Step} → Amid x kind.EnumConstruction N full (nt n-path ∷ left) st l w ms m st₁ l₁ → Parsed x (nt n-path ∷ []) asItems Path st₁ l₁ l₂ r → r ≡ Next st₂ a b
       → Pathed x N full left st l w ms m a st₂ l₂
   then-path d p e =
       let q = went e p in
@@ -145,7 +143,7 @@ module _ {x : Text} {N : ℕ → Type 0} {full left : List Sym} {st : State} {l 
       }
 
 -- One name more can be counted.
-pub path-few : {x : Text} {σ : List Sym} {st : State} {l l′ : List ℕ} {r : Step} {st₂ : State} {a b : ℕ} → Parsed x σ asItems Path st l l′ r → r ≡ Next st₂ a b → a ≤ 16777216
+pub path-few : {x : Text} {σ : List Sym} {st : State} {l l′ : List ℕ} {r : Step} {st₂ : State} {a b : ℕ} → Parsed x σ asItems Path st l l′ r → r ≡ Next st₂ a b → a ≤ countable
 path-few p e = went e p .info .bounded
 
 -- The state with a record more stands where it stood.
@@ -166,11 +164,11 @@ reserved-moved v =
       start-is = v .start-is;
       stop-is = v .stop-is;
       end-is = v .end-is;
-      out-is = ap (λ (n : ℕ). (n + 1) % 4294967296) (v .out-is);
+      out-is = ap (λ (n : ℕ). (n + 1) % u32Count) (v .out-is);
       kept-is = v .kept-is;
     }
 
-pub names-kind : has (1 ∷ 3 ∷ 34 ∷ 38 ∷ []) 34 ≡ true
+pub names-kind : has family.namesKept kind.EnumConstruction ≡ true
 unfolding has
 names-kind = refl
 
@@ -178,7 +176,7 @@ names-kind = refl
 pub record Begins (x : Text) (N : ℕ → Type 0) (full left : List Sym) (r : State) (l : List ℕ) (c : ℕ) (a b : State) (l′ : List ℕ) : Type 0 where
   pub m : ℕ
   pub class-is : b .class ≡ a .class
-  pub amid : Amid x 39 N full left r l (word c ∷ []) (tokAt x (r .at) ∷ []) m b l′
+  pub amid : Amid x kind.Call N full left r l (word c ∷ []) (tokAt x (r .at) ∷ []) m b l′
   pub ahead : r .at < b .at
 
 module _ {x : Text} {st r : State} {F : Option Fault} (y : Ready x st) (o : Opened x st r F) {s : Sym} (z : For s (st .class)) where
@@ -186,11 +184,7 @@ module _ {x : Text} {st r : State} {F : Option Fault} (y : Ready x st) (o : Open
   class-there = sym (o .stands .class-is) ∙ o .class-is
 
   first-there : r .at < length (x .ts)
-  first-there = go (st .class) class-there (z .pos)
-    where
-      go : (c : ℕ) → getD (classes x) (r .at) 0 ≡ c → 0 < c → r .at < length (x .ts)
-      go zero f h = absurd (omega arith)
-      go (suc k) f h = inside x (r .at) k f
+  first-there = inside x (r .at) (z .pos) class-there
 
   token-class : tokAt x (r .at) .class ≡ st .class
   token-class = sym (class-at (x .ts) (r .at)) ∙ class-there
@@ -206,12 +200,12 @@ module _ {x : Text} {st r : State} {F : Option Fault} (y : Ready x st) (o : Open
   stop-there : st .stop ≡ r .stop
   stop-there = y .stands .stop-is ∙ ap (λ i. tokAt x i .stop) (sym (o .at-is)) ∙ sym (o .stands .stop-is)
 
-  pub first-name : (K : ℕ) (N : ℕ → Type 0) (left : List Sym) {l l′ : List ℕ} {a b : State} → Moved x r a → Put l (a .out) 2 (st .start) (st .stop) 0 0 1 l′ → b ≡ reserved a → roleOf K (st .class) ≡ asName
+  pub first-name : (K : ℕ) (N : ℕ → Type 0) (left : List Sym) {l l′ : List ℕ} {a b : State} → Moved x r a → Put l (a .out) kind.Name (st .start) (st .stop) 0 0 1 l′ → b ≡ reserved a → roleOf K (st .class) ≡ asName
       → Amid x K N (s ∷ left) left r l (word (st .class) ∷ []) (tokAt x (r .at) ∷ []) 0 b l′
   first-name K N left {l} {l′} {a} {b} v put more role =
-      let few : r .out ≤ 16777216 = omega (arith, o .out-is, o .at-is, y .few, y .short, first-there) in
-      let put₁ = subst (λ i. Put l (a .out) 2 i (st .stop) 0 0 1 l′) start-there put in
-      let put₂ = subst (λ i. Put l (a .out) 2 (r .start) i 0 0 1 l′) stop-there put₁ in
+      let few : r .out ≤ countable = omega (arith, o .out-is, o .at-is, y .few, y .short, first-there) in
+      let put₁ = subst (λ i. Put l (a .out) kind.Name i (st .stop) 0 0 1 l′) start-there put in
+      let put₂ = subst (λ i. Put l (a .out) kind.Name (r .start) i 0 0 1 l′) stop-there put₁ in
       let q = child-went (o .stands) first-there v put₂ more few (st .class) (z .reads x (r .at) class-there first-there) in
       subst (λ i. Amid x K N (s ∷ left) left r l (word i ∷ []) (tokAt x (r .at) ∷ []) 0 b l′) token-class
       (then-named (starts K N (s ∷ left) l (o .stands)) (read q) refl (ap (roleOf K) token-class ∙ role))
@@ -222,54 +216,54 @@ module _ {x : Text} {st r : State} {F : Option Fault} (y : Ready x st) (o : Open
   first-called N left {l} {l′} {a} {b} h v (named g put e) =
       let a₁ = v .ahead first-there in
       let a₂ : b .at ≡ a .at = ap (λ (y : State). y .at) e in
-      record { m = 0; class-is = ap (λ (y : State). y .class) e; amid = first-name 39 N left v put e (called-role (st .class) g); ahead = omega arith }
+      record { m = 0; class-is = ap (λ (y : State). y .class) e; amid = first-name kind.Call N left v put e (called-role (st .class) g); ahead = omega arith }
   first-called N left {l} {l′} {a} {b} h v (marked g e₁ e₂) =
       let a₁ = v .ahead first-there in
       let a₂ : b .at ≡ a .at = ap (λ (y : State). y .at) e₂ in
       record {
         m = 1;
         class-is = ap (λ (y : State). y .class) e₂;
-        amid = subst (λ u. Amid x 39 N (s ∷ left) left r l (word (st .class) ∷ []) (tokAt x (r .at) ∷ []) 1 u l′) (sym e₂)
-            (subst (λ u. Amid x 39 N (s ∷ left) left r l (word (st .class) ∷ []) (tokAt x (r .at) ∷ []) 1 a u) (sym e₁) (first-mark 39 N left l v (marked-role (st .class) g (h .decimal))));
+        amid = subst (λ u. Amid x kind.Call N (s ∷ left) left r l (word (st .class) ∷ []) (tokAt x (r .at) ∷ []) 1 u l′) (sym e₂)
+            (subst (λ u. Amid x kind.Call N (s ∷ left) left r l (word (st .class) ∷ []) (tokAt x (r .at) ∷ []) 1 a u) (sym e₁) (first-mark kind.Call N left l v (marked-role (st .class) g (h .decimal))));
         ahead = omega arith;
       }
 
   -- A name whose record is written when `::` has been passed.
-  pub late-name : (N : ℕ → Type 0) {B : ℕ} (rest : List Sym) {l l′ : List ℕ} {a b d : State} → sortOf (ex means (nt B)) ≡ shape.flat → ((i : ℕ) → i ≡ 14 → expand table B i ≡ some (tok 14 ∷ rest)) → has t.identifiers (st .class) ≡ true
-      → Moved x r a → a .class ≡ 14 → Moved x a b → Put l (b .out) 2 (st .start) (st .stop) 0 0 1 l′ → d ≡ reserved b
-      → Amid x 34 N (s ∷ nt B ∷ []) (rest ++ []) r l (word (st .class) ∷ word 14 ∷ []) (tokAt x (r .at) ∷ tokAt x (reserved a .at) ∷ []) 1 d l′
+  pub late-name : (N : ℕ → Type 0) {B : ℕ} (rest : List Sym) {l l′ : List ℕ} {a b d : State} → sortOf (ex means (nt B)) ≡ shape.flat → ((i : ℕ) → i ≡ t.DoubleColon → expand table B i ≡ some (tok t.DoubleColon ∷ rest)) → has t.identifiers (st .class) ≡ true
+      → Moved x r a → a .class ≡ t.DoubleColon → Moved x a b → Put l (b .out) kind.Name (st .start) (st .stop) 0 0 1 l′ → d ≡ reserved b
+      → Amid x kind.EnumConstruction N (s ∷ nt B ∷ []) (rest ++ []) r l (word (st .class) ∷ word t.DoubleColon ∷ []) (tokAt x (r .at) ∷ tokAt x (reserved a .at) ∷ []) 1 d l′
   late-name N {B} rest {l} {l′} {a} {b} {d} f k name v e v₂ put more =
-      let put₁ = subst (λ i. Put l i 2 (st .start) (st .stop) 0 0 1 l′) (v₂ .out-is) put in
-      let d₁ = first-name 34 N (nt B ∷ []) v put₁ refl (name-role 34 (st .class) names-kind name) in
-      let cls : reserved a .class ≡ 14 = reserved-class a (reserved a) refl ∙ e in
-      let d₂ = then-turns (tok 14 ∷ rest) d₁ f (k (getD (classes x) (reserved a .at) 0) (sym (d₁ .lays .stands .class-is) ∙ cls)) in
+      let put₁ = subst (λ i. Put l i kind.Name (st .start) (st .stop) 0 0 1 l′) (v₂ .out-is) put in
+      let d₁ = first-name kind.EnumConstruction N (nt B ∷ []) v put₁ refl (name-role kind.EnumConstruction (st .class) names-kind name) in
+      let cls : reserved a .class ≡ t.DoubleColon = reserved-class a (reserved a) refl ∙ e in
+      let d₂ = then-turns (tok t.DoubleColon ∷ rest) d₁ f (k (getD (classes x) (reserved a .at) 0) (sym (d₁ .lays .stands .class-is) ∙ cls)) in
       let v₃ : Moved x (reserved a) d = subst (λ u. Moved x (reserved a) u) (sym more) (reserved-moved v₂) in
-      advances d₂ cls (omega arith) v₃ (sign-mark 34 14 tt)
+      advances d₂ cls (omega arith) v₃ (sign-mark kind.EnumConstruction t.DoubleColon tt)
 
   -- A name, `::` and `<`, all marks.
-  pub angled : (N : ℕ → Type 0) {B D : ℕ} (rest : List Sym) (l : List ℕ) {b d : State} → sortOf (ex means (nt B)) ≡ shape.flat → ((i : ℕ) → i ≡ 14 → expand table B i ≡ some (tok 14 ∷ nt D ∷ []))
-      → sortOf (ex means (nt D)) ≡ shape.flat → ((i : ℕ) → i ≡ 26 → expand table D i ≡ some (tok 26 ∷ rest)) → roleOf 39 (st .class) ≡ aMark
-      → (g : Begun x r b) → b .class ≡ 26 → Moved x b d
-      → Amid x 39 N (s ∷ nt B ∷ []) (rest ++ []) r l (word (st .class) ∷ word 14 ∷ word 26 ∷ []) (tokAt x (r .at) ∷ tokAt x (g .a .at) ∷ tokAt x (b .at) ∷ []) 3 d l
+  pub angled : (N : ℕ → Type 0) {B D : ℕ} (rest : List Sym) (l : List ℕ) {b d : State} → sortOf (ex means (nt B)) ≡ shape.flat → ((i : ℕ) → i ≡ t.DoubleColon → expand table B i ≡ some (tok t.DoubleColon ∷ nt D ∷ []))
+      → sortOf (ex means (nt D)) ≡ shape.flat → ((i : ℕ) → i ≡ t.LAngle → expand table D i ≡ some (tok t.LAngle ∷ rest)) → roleOf kind.Call (st .class) ≡ aMark
+      → (g : Begun x r b) → b .class ≡ t.LAngle → Moved x b d
+      → Amid x kind.Call N (s ∷ nt B ∷ []) (rest ++ []) r l (word (st .class) ∷ word t.DoubleColon ∷ word t.LAngle ∷ []) (tokAt x (r .at) ∷ tokAt x (g .a .at) ∷ tokAt x (b .at) ∷ []) 3 d l
   angled N {B} {D} rest l {b} f k f₂ k₂ role g e v =
-      let d₁ = first-mark 39 N (nt B ∷ []) l (g .first) role in
-      let d₂ = then-turns (tok 14 ∷ nt D ∷ []) d₁ f (k (getD (classes x) (g .a .at) 0) (sym (d₁ .lays .stands .class-is) ∙ g .colons)) in
-      let d₃ = advances d₂ (g .colons) (omega arith) (g .second) (sign-mark 39 14 tt) in
-      let d₄ = then-turns (tok 26 ∷ rest) d₃ f₂ (k₂ (getD (classes x) (b .at) 0) (sym (d₃ .lays .stands .class-is) ∙ e)) in
-      advances d₄ e (omega arith) v (sign-mark 39 26 tt)
+      let d₁ = first-mark kind.Call N (nt B ∷ []) l (g .first) role in
+      let d₂ = then-turns (tok t.DoubleColon ∷ nt D ∷ []) d₁ f (k (getD (classes x) (g .a .at) 0) (sym (d₁ .lays .stands .class-is) ∙ g .colons)) in
+      let d₃ = advances d₂ (g .colons) (omega arith) (g .second) (sign-mark kind.Call t.DoubleColon tt) in
+      let d₄ = then-turns (tok t.LAngle ∷ rest) d₃ f₂ (k₂ (getD (classes x) (b .at) 0) (sym (d₃ .lays .stands .class-is) ∙ e)) in
+      advances d₄ e (omega arith) v (sign-mark kind.Call t.LAngle tt)
 
 -- The function's name in `< >`.
 pub then-function-name : {x : Text} {N : ℕ → Type 0} {full left : List Sym} {st : State} {l : List ℕ} {w : List Sort} {ms : List Tok} {m : ℕ} {st₁ : State} {l₁ : List ℕ} {st₂ : State} {l₂ : List ℕ} {a b : ℕ} {r : Step}
-    → Amid x 39 N full (nt n-functionName ∷ left) st l w ms m st₁ l₁ → Parsed x (nt n-functionName ∷ []) asItems (Named (tokAt x (st₁ .at)) 2 0 0) st₁ l₁ l₂ r → r ≡ Next st₂ a b
-    → Amid x 39 N full left st l (w ++ (word (tokAt x (st₁ .at) .class) ∷ [])) (ms ++ (tokAt x (st₁ .at) ∷ [])) m st₂ l₂
+    → Amid x kind.Call N full (nt n-functionName ∷ left) st l w ms m st₁ l₁ → Parsed x (nt n-functionName ∷ []) asItems (Named (tokAt x (st₁ .at)) kind.Name 0 0) st₁ l₁ l₂ r → r ≡ Next st₂ a b
+    → Amid x kind.Call N full left st l (w ++ (word (tokAt x (st₁ .at) .class) ∷ [])) (ms ++ (tokAt x (st₁ .at) ∷ [])) m st₂ l₂
 then-function-name {x} {st₁ = st₁} d p e = then-named d p e (call-role (tokAt x (st₁ .at) .class) (function-name-class p e))
 
 -- It is no decimal.
-function-no-decimal : (c : ℕ) → has t.functionNames c ≡ true → eqb c 28 ≡ false
+function-no-decimal : (c : ℕ) → has t.functionNames c ≡ true → eqb c t.DecLiteral ≡ false
 unfolding has
-function-no-decimal c h = ne-eqb c 28 (λ e. differ (sym (ap (has t.functionNames) e) ∙ h))
+function-no-decimal c h = ne-eqb c t.DecLiteral (λ e. differ (sym (ap (has t.functionNames) e) ∙ h))
 
-pub name-no-decimal : {x : Text} {I : Info} {st : State} {l l′ : List ℕ} {r : Step} {st₂ : State} {a b : ℕ} → Parsed x (nt n-functionName ∷ []) asItems I st l l′ r → r ≡ Next st₂ a b → eqb (tokAt x (st .at) .class) 28 ≡ false
+pub name-no-decimal : {x : Text} {I : Info} {st : State} {l l′ : List ℕ} {r : Step} {st₂ : State} {a b : ℕ} → Parsed x (nt n-functionName ∷ []) asItems I st l l′ r → r ≡ Next st₂ a b → eqb (tokAt x (st .at) .class) t.DecLiteral ≡ false
 name-no-decimal {x} {st = st} p e = function-no-decimal (tokAt x (st .at) .class) (function-name-class p e)
 
 -- The number that a decimal's place has.
@@ -281,57 +275,54 @@ read-class : (x : Text) {c : ℕ} {σ : List Sym} {at j : ℕ} {u : shape.Items}
 read-class x (n-tok i e k) = e
 
 pub then-bound : {x : Text} {full left : List Sym} {st : State} {l : List ℕ} {w : List Sort} {ms : List Tok} {m : ℕ} {st₁ : State} {l₁ : List ℕ} {st₂ : State} {l₂ : List ℕ} {a b : ℕ} {r : Step}
-    → Amid x 39 (Valued x (st₁ .at)) full (tok 28 ∷ left) st l w ms m st₁ l₁ → Parsed x (tok 28 ∷ []) asItems (Decimal x (st₁ .at)) st₁ l₁ l₂ r → r ≡ Next st₂ a b
-    → Amid x 39 (Valued x (st₁ .at)) full left st l (w ++ (word 28 ∷ [])) (ms ++ (tokAt x (st₁ .at) ∷ [])) m st₂ l₂
+    → Amid x kind.Call (Valued x (st₁ .at)) full (tok t.DecLiteral ∷ left) st l w ms m st₁ l₁ → Parsed x (tok t.DecLiteral ∷ []) asItems (Decimal x (st₁ .at)) st₁ l₁ l₂ r → r ≡ Next st₂ a b
+    → Amid x kind.Call (Valued x (st₁ .at)) full left st l (w ++ (word t.DecLiteral ∷ [])) (ms ++ (tokAt x (st₁ .at) ∷ [])) m st₂ l₂
 then-bound {x} {full} {left} {st} {l} {w} {ms} {m} {st₁} {st₂ = st₂} {l₂ = l₂} d p e =
-    let c : tokAt x (st₁ .at) .class ≡ 28 = sym (class-at (x .ts) (st₁ .at)) ∙ read-class x (went e p .reads) in
-    subst (λ i. Amid x 39 (Valued x (st₁ .at)) full left st l (w ++ (word i ∷ [])) (ms ++ (tokAt x (st₁ .at) ∷ [])) m st₂ l₂) c
-    (then-decimal d p e (ap (roleOf 39) c ∙ number-role))
+    let c : tokAt x (st₁ .at) .class ≡ t.DecLiteral = sym (class-at (x .ts) (st₁ .at)) ∙ read-class x (went e p .reads) in
+    subst (λ i. Amid x kind.Call (Valued x (st₁ .at)) full left st l (w ++ (word i ∷ [])) (ms ++ (tokAt x (st₁ .at) ∷ [])) m st₂ l₂) c
+    (then-decimal d p e (ap (roleOf kind.Call) c ∙ number-role))
 
 -- Its place among the tokens of a fold.
-fold-place : (c f : ℕ) (v : List ℕ) → eqb c 28 ≡ false → eqb f 28 ≡ false → place 28 (c ∷ 14 ∷ 26 ∷ f ∷ 17 ∷ 28 ∷ v) ≡ 5
+fold-place : (c f : ℕ) (v : List ℕ) → eqb c t.DecLiteral ≡ false → eqb f t.DecLiteral ≡ false → place t.DecLiteral (c ∷ t.DoubleColon ∷ t.LAngle ∷ f ∷ t.Comma ∷ t.DecLiteral ∷ v) ≡ 5
 fold-place c f v p q = λ i. cond (p i) 0 (suc (suc (suc (cond (q i) 0 (suc (suc 0))))))
 
 module _ {x : Text} {K : ℕ} {N : ℕ → Type 0} {full left : List Sym} {st : State} {l : List ℕ} {c f : ℕ} {w : List Sort} {t₀ t₁ t₂ t₃ t₄ t₅ : Tok} {ms : List Tok} {m : ℕ} {st₁ : State} {l₁ : List ℕ}
-    (d : Amid x K N full left st l (word c ∷ word 14 ∷ word 26 ∷ word f ∷ word 17 ∷ word 28 ∷ w) (t₀ ∷ t₁ ∷ t₂ ∷ t₃ ∷ t₄ ∷ t₅ ∷ ms) m st₁ l₁) (p : eqb c 28 ≡ false) (q : eqb f 28 ≡ false) where
+    (d : Amid x K N full left st l (word c ∷ word t.DoubleColon ∷ word t.LAngle ∷ word f ∷ word t.Comma ∷ word t.DecLiteral ∷ w) (t₀ ∷ t₁ ∷ t₂ ∷ t₃ ∷ t₄ ∷ t₅ ∷ ms) m st₁ l₁) (p : eqb c t.DecLiteral ≡ false) (q : eqb f t.DecLiteral ≡ false) where
   pub fold-number : numberIn x (t₀ ∷ t₁ ∷ t₂ ∷ t₃ ∷ t₄ ∷ t₅ ∷ ms) ≡ reads (numberOf (textOf (x .draft) t₅))
   fold-number = number-at d ∙ ap (λ i. reads (numberOf (textOf (x .draft) (getD (t₀ ∷ t₁ ∷ t₂ ∷ t₃ ∷ t₄ ∷ t₅ ∷ ms) i no-token)))) (fold-place c f (wordsIn w) p q)
 
-  pub fold-first : (is : Items) → sorts is ≡ word c ∷ word 14 ∷ word 26 ∷ word f ∷ word 17 ∷ word 28 ∷ w → marks is ≡ t₀ ∷ t₁ ∷ t₂ ∷ t₃ ∷ t₄ ∷ t₅ ∷ ms → firstOf t.DecLiteral (marks is) ≡ t₅
+  pub fold-first : (is : Items) → sorts is ≡ word c ∷ word t.DoubleColon ∷ word t.LAngle ∷ word f ∷ word t.Comma ∷ word t.DecLiteral ∷ w → marks is ≡ t₀ ∷ t₁ ∷ t₂ ∷ t₃ ∷ t₄ ∷ t₅ ∷ ms → firstOf t.DecLiteral (marks is) ≡ t₅
   fold-first is e g = first-is is e g ∙ ap (λ i. getD (t₀ ∷ t₁ ∷ t₂ ∷ t₃ ∷ t₄ ∷ t₅ ∷ ms) i no-token) (fold-place c f (wordsIn w) p q)
 
 -- The state behind a name and `::`, from the reserved one.
 pub moved-from : {x : Text} {r s a : State} → r ≡ s → Moved x r a → Moved x s a
 moved-from {x} {a = a} e v = subst (λ u. Moved x u a) e v
 
-pub begun : {x : Text} {r s a b : State} → r ≡ s → Moved x r a → a .class ≡ 14 → Moved x a b → Begun x s b
+pub begun : {x : Text} {r s a b : State} → r ≡ s → Moved x r a → a .class ≡ t.DoubleColon → Moved x a b → Begun x s b
 begun {a = a} e v c v₂ = record { a = a; first = moved-from e v; colons = c; second = v₂ }
 
-pub begun-clean : {x : Text} (st : State) {c r a b : State} → c ≡ cleaned st → r ≡ reserved c → Moved x r a → a .class ≡ 14 → Moved x a b → Begun x (reserved (cleaned st)) b
-begun-clean st e f v c v₂ = begun (f ∙ ap reserved e) v c v₂
-
 -- A path: its names,
-pub path-starts : {x : Text} {st : State} (l : List ℕ) → Ready x st → Amid x 34 AnyN (nt n-path ∷ []) (nt n-identifier ∷ nt n-path-many-DoubleColon ∷ nt n-path-optional ∷ []) st l [] [] 0 st l
-path-starts {x} {st} l y = then-turns (nt 10 ∷ nt 46 ∷ nt 47 ∷ []) (starts 34 AnyN (nt n-path ∷ []) l (y .stands)) flat-path (path-row (getD (classes x) (st .at) 0))
+pub path-starts : {x : Text} {st : State} (l : List ℕ) → Ready x st → Amid x kind.EnumConstruction AnyN (nt n-path ∷ []) (nt n-identifier ∷ nt n-path-many-DoubleColon ∷ nt n-path-optional ∷ []) st l [] [] 0 st l
+path-starts {x} {st} l y = then-turns (nt n-identifier ∷ nt n-path-many-DoubleColon ∷ nt n-path-optional ∷ []) (starts kind.EnumConstruction AnyN (nt n-path ∷ []) l (y .stands)) flat-path (path-row (getD (classes x) (st .at) 0))
 
-module _ {x : Text} {st : State} {l : List ℕ} {a : ℕ} {st₁ : State} {l₁ : List ℕ} (n : NamesOn x 34 AnyN (nt n-path ∷ []) (nt n-path-optional ∷ []) st l [] [] 0 a st₁ l₁) where
+module _ {x : Text} {st : State} {l : List ℕ} {a : ℕ} {st₁ : State} {l₁ : List ℕ} (n : NamesOn x kind.EnumConstruction AnyN (nt n-path ∷ []) (nt n-path-optional ∷ []) st l [] [] 0 a st₁ l₁) where
   names-angle : sees t.LAngle (n .W) ≡ false
   names-angle = n .others t.LAngle no-angle-name (λ e. omega arith)
 
   -- and nothing more,
-  pub path-ends : (st₁ .class ≡ 20 → ⊥) → Went x (nt n-path ∷ []) asItems Path st l st₁ l₁ a 0
+  pub path-ends : (st₁ .class ≡ t.LParen → ⊥) → Went x (nt n-path ∷ []) asItems Path st l st₁ l₁ a 0
   path-ends h =
       let d = then-turns [] (n .amid) flat-path-args (path-alone (λ e. h (n .amid .lays .stands .class-is ∙ e))) in
       finish d (record { roles = λ i. d .roles i tt; count-is = ap nameCount (d .sorted) ∙ n .count-is; bounded = n .bounded; angles = ap (sees t.LAngle) (d .sorted) ∙ names-angle })
 
   -- or arguments.
-  pub path-into : st₁ .class ≡ 20 → Amid x 34 AnyN (nt n-path ∷ []) (nt n-arguments ∷ []) st l (n .W) (n .own) (n .k) st₁ l₁
-  path-into h = shifted (then-turns (nt 27 ∷ []) (n .amid) flat-path-args (path-args (sym (n .amid .lays .stands .class-is) ∙ h)))
+  pub path-into : st₁ .class ≡ t.LParen → Amid x kind.EnumConstruction AnyN (nt n-path ∷ []) (nt n-arguments ∷ []) st l (n .W) (n .own) (n .k) st₁ l₁
+  path-into h = shifted (then-turns (nt n-arguments ∷ []) (n .amid) flat-path-args (path-args (sym (n .amid .lays .stands .class-is) ∙ h)))
     where
-      shifted : Amid x 34 AnyN (nt n-path ∷ []) (nt n-arguments ∷ []) st l (n .W) (n .own) (0 + n .k) st₁ l₁ → Amid x 34 AnyN (nt n-path ∷ []) (nt n-arguments ∷ []) st l (n .W) (n .own) (n .k) st₁ l₁
-      shifted d = let e : 0 + n .k ≡ n .k = omega arith in subst (λ i. Amid x 34 AnyN (nt n-path ∷ []) (nt n-arguments ∷ []) st l (n .W) (n .own) i st₁ l₁) e d
+      shifted : Amid x kind.EnumConstruction AnyN (nt n-path ∷ []) (nt n-arguments ∷ []) st l (n .W) (n .own) (0 + n .k) st₁ l₁ → Amid x kind.EnumConstruction AnyN (nt n-path ∷ []) (nt n-arguments ∷ []) st l (n .W) (n .own) (n .k) st₁ l₁
+      shifted d = let e : 0 + n .k ≡ n .k = omega arith in subst (λ i. Amid x kind.EnumConstruction AnyN (nt n-path ∷ []) (nt n-arguments ∷ []) st l (n .W) (n .own) i st₁ l₁) e d
 
-  pub path-called : {u : ℕ} {st₂ : State} {l₂ : List ℕ} → Argued x 34 AnyN (nt n-path ∷ []) [] st l (n .W) (n .own) (n .k) u st₂ l₂ → Went x (nt n-path ∷ []) asItems Path st l st₂ l₂ a 0
+  pub path-called : {u : ℕ} {st₂ : State} {l₂ : List ℕ} → Argued x kind.EnumConstruction AnyN (nt n-path ∷ []) [] st l (n .W) (n .own) (n .k) u st₂ l₂ → Went x (nt n-path ∷ []) asItems Path st l st₂ l₂ a 0
   path-called g =
       let d = g .amid in
       finish d (record {
@@ -345,14 +336,14 @@ module _ {x : Text} {st : State} {l : List ℕ} {a : ℕ} {st₁ : State} {l₁ 
       counted = omega (arith, n .count-is, args-count (g .W) (g .commas))
 
 -- Arguments before whose records that of a name is put: as if the name had been there before.
-module _ {x : Text} {a b z : State} {l l₁ l₃ l₄ : List ℕ} {u v s e : ℕ} (y : Near x a) (q : Went x (nt n-arguments ∷ []) asItems Args a l b l₁ u v) (put : Put l₁ (b .out) 2 s e 0 0 1 l₃) (more : z ≡ reserved b) (turn : Turned l₃ (a .out) (b .out) (z .out) l₄) where
+module _ {x : Text} {a b z : State} {l l₁ l₃ l₄ : List ℕ} {u v s e : ℕ} (y : Near x a) (q : Went x (nt n-arguments ∷ []) asItems Args a l b l₁ u v) (put : Put l₁ (b .out) kind.Name s e 0 0 1 l₃) (more : z ≡ reserved b) (turn : Turned l₃ (a .out) (b .out) (z .out) l₄) where
   abbrev pub name : List ℕ
-  name = recThen 2 s e 0 0 1 []
+  name = recThen kind.Name s e 0 0 1 []
 
   abbrev pub before : List ℕ
   before = sets l (recWide * a .out) name
 
-  pub put-before : Put l (a .out) 2 s e 0 0 1 before
+  pub put-before : Put l (a .out) kind.Name s e 0 0 1 before
   put-before = record { long = length-sets l (recWide * a .out) name; put = λ h. refl }
 
   words : List ℕ
@@ -369,11 +360,11 @@ module _ {x : Text} {a b z : State} {l l₁ l₃ l₄ : List ℕ} {u v s e : ℕ
       let within = lay .stands .within in
       let short = y .short in
       let near = y .few in
-      let o : z .out ≡ (b .out + 1) % 4294967296 = ap (λ (w : State). w .out) more in
+      let o : z .out ≡ (b .out + 1) % u32Count = ap (λ (w : State). w .out) more in
       let t : z .at ≡ b .at = ap (λ (w : State). w .at) more in
       let k : kept z ≡ kept b = ap₂ (λ i j. fault i j) (ap (λ (w : State). w .fault) more) (ap (λ (w : State). w .place) more) in
       let o₁ : z .out ≡ b .out + 1 = omega arith in
-      let o₂ : (a .out + 1) % 4294967296 ≡ a .out + 1 = omega arith in
+      let o₂ : (a .out + 1) % u32Count ≡ a .out + 1 = omega arith in
       let n : length before ≡ length l = length-sets l (recWide * a .out) name in
       let size : length words ≡ recWide * sizes (q .L) = length-words (q .L) in
       let n₁ = put .long in
@@ -395,7 +386,7 @@ module _ {x : Text} {a b z : State} {l l₁ l₃ l₄ : List ℕ} {u v s e : ℕ
               let g₁ : length l ≡ length l₃ = sym (put .long ∙ lay .long) in
               let g₂ : recWide * a .out + length words ≡ recWide * b .out = omega arith in
               let g₃ : recWide * b .out + recWide ≡ recWide * z .out = omega arith in
-              let g₄ : recWide * a .out + recWide ≡ recWide * ((a .out + 1) % 4294967296) = omega arith in
+              let g₄ : recWide * a .out + recWide ≡ recWide * ((a .out + 1) % u32Count) = omega arith in
               turn .turn l words name g g₁ both g₂ g₃ ∙ sets-append name words l (recWide * a .out) ∙ ap (λ i. sets before i words) g₄;
           worst = k ∙ lay .worst;
           stands = subst (Stands x) (sym more) (reserved-stands (lay .stands));

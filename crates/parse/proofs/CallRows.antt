@@ -1,4 +1,6 @@
 -- Calls: their rules in grammar's table, the tokens that they begin with, and what may follow those.
+-- An alternative of a type, a pattern, an expression and a head is named (specs/Choice.antt). Elsewhere its number is its place within its
+-- own nonterminal, as the row of the table has it: nothing, then the part; the first of two, then the second. No other nonterminal moves it.
 -- Assumes nothing.
 use mathlib.Core.Bool.{Bool, true, false, cond, _&&_, _||_, not}
 use mathlib.Core.List.{List, [], _∷_, _++_}
@@ -16,6 +18,7 @@ use Rattle.num.specs.Value.{numberOf}
 use Rattle.num.specs.declared.Value.{Value}
 use Rattle.num.specs.Bound.{boundOk, sizeOk}
 use Rattle.kinds.specs.Shape.{has}
+use Rattle.kinds.specs.Rules.{wrappers}
 use Rattle.lexer.specs.Classes as t
 use Rattle.theory.specs.Grammar.{Sym, tok, nt, on, look, row, alt, pick}
 use Rattle.theory.specs.Machine.{choose, expand}
@@ -25,13 +28,39 @@ use Rattle.theory.specs.Same.{ex}
 use Rattle.own.specs.Tree.{Tok, Items, marks}
 use Rattle.own.specs.Rules.{sorts}
 use Rattle.own.specs.Law.{Sort, word, child}
+use Rattle.own.specs.Kinds as kind
 use Rattle.grammar.specs.Shapes.{shapes}
 use Rattle.grammar.specs.Tables.{means, table}
 use Rattle.grammar.specs.Records.{Head, head, plain, Form, aName, forms, formOf, headOf, sees, opening, nameCount, partCount, lone, placeIn, callHead, wrapperHead, calledHead, aloneHead, nameHead, textOf, firstTok, firstOf, decimal, aMark, asName, asNumber, roleOf}
 use Rattle.grammar.specs.Faults.{Fault, unless, faultsAt, earliest, earlier}
+use Rattle.grammar.specs.ShapeKind.{BareShape, CastCallShape, FoldingShape, ForWhileShape, NamedShape, SimpleCallShape, TypedShape}
+use Rattle.grammar.specs.TablesIndex.{
+  n-arguments,
+  n-bare-optional-DoubleColon,
+  n-bare-word,
+  n-folding-optional-DoubleColon,
+  n-folding-optional-DoubleColon-choice,
+  n-folding-word,
+  n-forWhile-optional-DoubleColon,
+  n-forWhile-optional-DoubleColon-choice,
+  n-functionName,
+  n-identifier,
+  n-named-optional,
+  n-named-word,
+  n-path,
+  n-path-many-DoubleColon,
+  n-path-optional,
+  n-simpleCall-word,
+  n-single,
+  n-type,
+  n-typed-optional-DoubleColon,
+  n-typed-optional-DoubleColon-choice,
+  n-typed-word,
+}
 use Rattle.parse.specs.declared.State.{State}
 use Rattle.parse.proofs.Laws.{Amid}
-use Rattle.parse.specs.Contract.{Text, classes, Read, fault, boundFault, sizeFault, ExprKind, Only}
+use Rattle.parse.specs.Contract.{Text, classes, Read, fault, boundFault, sizeFault, ExprKind, Only, callees}
+use Rattle.parse.specs.Choice as choice
 use Rattle.parse.proofs.Chosen.{where-chosen, alone, is-alone, hit, miss, goes}
 use Rattle.parse.proofs.Roles.{keeping, word-mark}
 use Rattle.parse.proofs.Steps.{numberIn, decided, reads-tok, reads-one}
@@ -39,53 +68,53 @@ use Rattle.parse.proofs.Shuts.{Rule}
 
 -- The rules of calls.
 abbrev pub simpleRhs : List Sym
-simpleRhs = nt 26 ∷ nt 27 ∷ []
+simpleRhs = nt n-simpleCall-word ∷ nt n-arguments ∷ []
 
 abbrev pub castRhs : List Sym
-castRhs = tok 26 ∷ nt 8 ∷ tok 27 ∷ tok 14 ∷ tok 53 ∷ nt 27 ∷ []
+castRhs = tok t.LAngle ∷ nt n-type ∷ tok t.RAngle ∷ tok t.DoubleColon ∷ tok t.into ∷ nt n-arguments ∷ []
 
 abbrev pub namedRhs : List Sym
-namedRhs = nt 28 ∷ nt 29 ∷ []
+namedRhs = nt n-named-word ∷ nt n-named-optional ∷ []
 
 abbrev pub bareRhs : List Sym
-bareRhs = nt 30 ∷ nt 31 ∷ []
+bareRhs = nt n-bare-word ∷ nt n-bare-optional-DoubleColon ∷ []
 
 abbrev pub typedRhs : List Sym
-typedRhs = nt 32 ∷ nt 33 ∷ []
+typedRhs = nt n-typed-word ∷ nt n-typed-optional-DoubleColon ∷ []
 
 abbrev pub foldingRhs : List Sym
-foldingRhs = nt 34 ∷ nt 35 ∷ []
+foldingRhs = nt n-folding-word ∷ nt n-folding-optional-DoubleColon ∷ []
 
 abbrev pub whilesRhs : List Sym
-whilesRhs = tok 47 ∷ nt 36 ∷ []
+whilesRhs = tok t.for-while ∷ nt n-forWhile-optional-DoubleColon ∷ []
 
-pub simple-rule : Rule 21 5 18 simpleRhs
+pub simple-rule : Rule n-single choice.SimpleCall SimpleCallShape simpleRhs
 unfolding ex means kindsOf shapes row table alt pick
-simple-rule = record { C = 6; category = refl; kind = refl; rule = refl }
+simple-rule = record { category = refl; from-one = refl; kind = refl; rule = refl }
 
-pub cast-rule : Rule 21 6 19 castRhs
+pub cast-rule : Rule n-single choice.CastCall CastCallShape castRhs
 unfolding ex means kindsOf shapes row table alt pick
-cast-rule = record { C = 6; category = refl; kind = refl; rule = refl }
+cast-rule = record { category = refl; from-one = refl; kind = refl; rule = refl }
 
-pub named-rule : Rule 21 7 20 namedRhs
+pub named-rule : Rule n-single choice.Named NamedShape namedRhs
 unfolding ex means kindsOf shapes row table alt pick
-named-rule = record { C = 6; category = refl; kind = refl; rule = refl }
+named-rule = record { category = refl; from-one = refl; kind = refl; rule = refl }
 
-pub bare-rule : Rule 21 8 21 bareRhs
+pub bare-rule : Rule n-single choice.Bare BareShape bareRhs
 unfolding ex means kindsOf shapes row table alt pick
-bare-rule = record { C = 6; category = refl; kind = refl; rule = refl }
+bare-rule = record { category = refl; from-one = refl; kind = refl; rule = refl }
 
-pub typed-rule : Rule 21 9 22 typedRhs
+pub typed-rule : Rule n-single choice.Typed TypedShape typedRhs
 unfolding ex means kindsOf shapes row table alt pick
-typed-rule = record { C = 6; category = refl; kind = refl; rule = refl }
+typed-rule = record { category = refl; from-one = refl; kind = refl; rule = refl }
 
-pub folding-rule : Rule 21 10 23 foldingRhs
+pub folding-rule : Rule n-single choice.Folding FoldingShape foldingRhs
 unfolding ex means kindsOf shapes row table alt pick
-folding-rule = record { C = 6; category = refl; kind = refl; rule = refl }
+folding-rule = record { category = refl; from-one = refl; kind = refl; rule = refl }
 
-pub whiles-rule : Rule 21 11 24 whilesRhs
+pub whiles-rule : Rule n-single choice.ForWhile ForWhileShape whilesRhs
 unfolding ex means kindsOf shapes row table alt pick
-whiles-rule = record { C = 6; category = refl; kind = refl; rule = refl }
+whiles-rule = record { category = refl; from-one = refl; kind = refl; rule = refl }
 
 -- The symbol s stands for one token, of the class c.
 pub record For (s : Sym) (c : ℕ) : Type 0 where
@@ -108,259 +137,259 @@ is-false false h = refl
 
 -- What the class of a call's first token is not: `<`, `::`, `,`, a decimal.
 abbrev apart : ℕ → Bool
-apart a = not (eqb a 26) && (not (eqb a 14) && (not (eqb a 17) && not (eqb a 28)))
+apart a = not (eqb a t.LAngle) && (not (eqb a t.DoubleColon) && (not (eqb a t.Comma) && not (eqb a t.DecLiteral)))
 
 pub record Apart (c : ℕ) : Type 0 where
-  pub angle : eqb c 26 ≡ false
-  pub colons : eqb c 14 ≡ false
-  pub comma : eqb c 17 ≡ false
-  pub decimal : eqb c 28 ≡ false
+  pub angle : eqb c t.LAngle ≡ false
+  pub colons : eqb c t.DoubleColon ≡ false
+  pub comma : eqb c t.Comma ≡ false
+  pub decimal : eqb c t.DecLiteral ≡ false
 
 is-apart : (c : ℕ) → T (apart c) → Apart c
 is-apart c h =
-    let p = and-both (not (eqb c 26)) (not (eqb c 14) && (not (eqb c 17) && not (eqb c 28))) h in
-    let q = and-both (not (eqb c 14)) (not (eqb c 17) && not (eqb c 28)) (p .1) in
-    let r = and-both (not (eqb c 17)) (not (eqb c 28)) (q .1) in
-    record { angle = is-false (eqb c 26) (p .0); colons = is-false (eqb c 14) (q .0); comma = is-false (eqb c 17) (r .0); decimal = is-false (eqb c 28) (r .1) }
+    let p = and-both (not (eqb c t.LAngle)) (not (eqb c t.DoubleColon) && (not (eqb c t.Comma) && not (eqb c t.DecLiteral))) h in
+    let q = and-both (not (eqb c t.DoubleColon)) (not (eqb c t.Comma) && not (eqb c t.DecLiteral)) (p .1) in
+    let r = and-both (not (eqb c t.Comma)) (not (eqb c t.DecLiteral)) (q .1) in
+    record { angle = is-false (eqb c t.LAngle) (p .0); colons = is-false (eqb c t.DoubleColon) (q .0); comma = is-false (eqb c t.Comma) (r .0); decimal = is-false (eqb c t.DecLiteral) (r .1) }
 
 -- The tokens that calls begin with.
 module _ (c : ℕ) where
-  pub for-simple : choose table 21 c ≡ 6 → For (nt 26) c
+  pub for-simple : choose table n-single c ≡ choice.SimpleCall → For (nt n-simpleCall-word) c
   unfolding sortOf ex means choose row table look alt pick
-  for-simple e = for-nt 26 c (ltb→lt 0 c (where-chosen 21 6 (λ a. ltb 0 a) tt tt c e)) refl (is-alone (expand table 26 c) c (where-chosen 21 6 (λ a. alone (expand table 26 a) a) tt tt c e))
+  for-simple e = for-nt n-simpleCall-word c (ltb→lt 0 c (where-chosen n-single choice.SimpleCall (λ a. ltb 0 a) tt tt c e)) refl (is-alone (expand table n-simpleCall-word c) c (where-chosen n-single choice.SimpleCall (λ a. alone (expand table n-simpleCall-word a) a) tt tt c e))
 
-  pub at-cast : choose table 21 c ≡ 7 → c ≡ 26
+  pub at-cast : choose table n-single c ≡ choice.CastCall → c ≡ t.LAngle
   unfolding choose row table look
-  at-cast e = eqb→eq c 26 (where-chosen 21 7 (λ a. eqb a 26) tt tt c e)
+  at-cast e = eqb→eq c t.LAngle (where-chosen n-single choice.CastCall (λ a. eqb a t.LAngle) tt tt c e)
 
-  pub for-named : choose table 21 c ≡ 8 → For (nt 28) c
+  pub for-named : choose table n-single c ≡ choice.Named → For (nt n-named-word) c
   unfolding sortOf ex means choose row table look alt pick
-  for-named e = for-nt 28 c (ltb→lt 0 c (where-chosen 21 8 (λ a. ltb 0 a) tt tt c e)) refl (is-alone (expand table 28 c) c (where-chosen 21 8 (λ a. alone (expand table 28 a) a) tt tt c e))
+  for-named e = for-nt n-named-word c (ltb→lt 0 c (where-chosen n-single choice.Named (λ a. ltb 0 a) tt tt c e)) refl (is-alone (expand table n-named-word c) c (where-chosen n-single choice.Named (λ a. alone (expand table n-named-word a) a) tt tt c e))
 
-  pub for-bare : choose table 21 c ≡ 9 → For (nt 30) c
+  pub for-bare : choose table n-single c ≡ choice.Bare → For (nt n-bare-word) c
   unfolding sortOf ex means choose row table look alt pick
-  for-bare e = for-nt 30 c (ltb→lt 0 c (where-chosen 21 9 (λ a. ltb 0 a) tt tt c e)) refl (is-alone (expand table 30 c) c (where-chosen 21 9 (λ a. alone (expand table 30 a) a) tt tt c e))
+  for-bare e = for-nt n-bare-word c (ltb→lt 0 c (where-chosen n-single choice.Bare (λ a. ltb 0 a) tt tt c e)) refl (is-alone (expand table n-bare-word c) c (where-chosen n-single choice.Bare (λ a. alone (expand table n-bare-word a) a) tt tt c e))
 
-  pub for-typed : choose table 21 c ≡ 10 → For (nt 32) c
+  pub for-typed : choose table n-single c ≡ choice.Typed → For (nt n-typed-word) c
   unfolding sortOf ex means choose row table look alt pick
-  for-typed e = for-nt 32 c (ltb→lt 0 c (where-chosen 21 10 (λ a. ltb 0 a) tt tt c e)) refl (is-alone (expand table 32 c) c (where-chosen 21 10 (λ a. alone (expand table 32 a) a) tt tt c e))
+  for-typed e = for-nt n-typed-word c (ltb→lt 0 c (where-chosen n-single choice.Typed (λ a. ltb 0 a) tt tt c e)) refl (is-alone (expand table n-typed-word c) c (where-chosen n-single choice.Typed (λ a. alone (expand table n-typed-word a) a) tt tt c e))
 
-  pub for-folding : choose table 21 c ≡ 11 → For (nt 34) c
+  pub for-folding : choose table n-single c ≡ choice.Folding → For (nt n-folding-word) c
   unfolding sortOf ex means choose row table look alt pick
-  for-folding e = for-nt 34 c (ltb→lt 0 c (where-chosen 21 11 (λ a. ltb 0 a) tt tt c e)) refl (is-alone (expand table 34 c) c (where-chosen 21 11 (λ a. alone (expand table 34 a) a) tt tt c e))
+  for-folding e = for-nt n-folding-word c (ltb→lt 0 c (where-chosen n-single choice.Folding (λ a. ltb 0 a) tt tt c e)) refl (is-alone (expand table n-folding-word c) c (where-chosen n-single choice.Folding (λ a. alone (expand table n-folding-word a) a) tt tt c e))
 
-  pub at-whiles : choose table 21 c ≡ 12 → c ≡ 47
+  pub at-whiles : choose table n-single c ≡ choice.ForWhile → c ≡ t.for-while
   unfolding choose row table look
-  at-whiles e = eqb→eq c 47 (where-chosen 21 12 (λ a. eqb a 47) tt tt c e)
+  at-whiles e = eqb→eq c t.for-while (where-chosen n-single choice.ForWhile (λ a. eqb a t.for-while) tt tt c e)
 
-  pub for-whiles : choose table 21 c ≡ 12 → For (tok 47) c
-  for-whiles e = subst (λ a. For (tok 47) a) (sym (at-whiles e)) (for-tok 47 (omega arith))
+  pub for-whiles : choose table n-single c ≡ choice.ForWhile → For (tok t.for-while) c
+  for-whiles e = subst (λ a. For (tok t.for-while) a) (sym (at-whiles e)) (for-tok t.for-while (omega arith))
 
   -- What they are not,
-  pub simple-apart : choose table 21 c ≡ 6 → Apart c
+  pub simple-apart : choose table n-single c ≡ choice.SimpleCall → Apart c
   unfolding choose row table look
-  simple-apart e = is-apart c (where-chosen 21 6 apart tt tt c e)
+  simple-apart e = is-apart c (where-chosen n-single choice.SimpleCall apart tt tt c e)
 
-  pub named-apart : choose table 21 c ≡ 8 → Apart c
+  pub named-apart : choose table n-single c ≡ choice.Named → Apart c
   unfolding choose row table look
-  named-apart e = is-apart c (where-chosen 21 8 apart tt tt c e)
+  named-apart e = is-apart c (where-chosen n-single choice.Named apart tt tt c e)
 
-  pub folding-apart : choose table 21 c ≡ 11 → Apart c
+  pub folding-apart : choose table n-single c ≡ choice.Folding → Apart c
   unfolding choose row table look
-  folding-apart e = is-apart c (where-chosen 21 11 apart tt tt c e)
+  folding-apart e = is-apart c (where-chosen n-single choice.Folding apart tt tt c e)
 
   -- no wrappers,
-  pub simple-unwrapped : choose table 21 c ≡ 6 → has (t.Left ∷ t.Right ∷ t.Some ∷ []) c ≡ false
+  pub simple-unwrapped : choose table n-single c ≡ choice.SimpleCall → has wrappers c ≡ false
   unfolding choose row table look has
-  simple-unwrapped e = is-false (has (t.Left ∷ t.Right ∷ t.Some ∷ []) c) (where-chosen 21 6 (λ a. not (has (t.Left ∷ t.Right ∷ t.Some ∷ []) a)) tt tt c e)
+  simple-unwrapped e = is-false (has wrappers c) (where-chosen n-single choice.SimpleCall (λ a. not (has wrappers a)) tt tt c e)
 
   -- names,
-  pub named-name : choose table 21 c ≡ 8 → has t.identifiers c ≡ true
+  pub named-name : choose table n-single c ≡ choice.Named → has t.identifiers c ≡ true
   unfolding choose row table look has
-  named-name e = is-true (has t.identifiers c) (where-chosen 21 8 (λ a. has t.identifiers a) tt tt c e)
+  named-name e = is-true (has t.identifiers c) (where-chosen n-single choice.Named (λ a. has t.identifiers a) tt tt c e)
 
-  pub bare-name : choose table 21 c ≡ 9 → has t.identifiers c ≡ true
+  pub bare-name : choose table n-single c ≡ choice.Bare → has t.identifiers c ≡ true
   unfolding choose row table look has
-  bare-name e = is-true (has t.identifiers c) (where-chosen 21 9 (λ a. has t.identifiers a) tt tt c e)
+  bare-name e = is-true (has t.identifiers c) (where-chosen n-single choice.Bare (λ a. has t.identifiers a) tt tt c e)
 
-  pub typed-name : choose table 21 c ≡ 10 → has t.identifiers c ≡ true
+  pub typed-name : choose table n-single c ≡ choice.Typed → has t.identifiers c ≡ true
   unfolding choose row table look has
-  typed-name e = is-true (has t.identifiers c) (where-chosen 21 10 (λ a. has t.identifiers a) tt tt c e)
+  typed-name e = is-true (has t.identifiers c) (where-chosen n-single choice.Typed (λ a. has t.identifiers a) tt tt c e)
 
-  pub folding-name : choose table 21 c ≡ 11 → has t.identifiers c ≡ true
+  pub folding-name : choose table n-single c ≡ choice.Folding → has t.identifiers c ≡ true
   unfolding choose row table look has
-  folding-name e = is-true (has t.identifiers c) (where-chosen 21 11 (λ a. has t.identifiers a) tt tt c e)
+  folding-name e = is-true (has t.identifiers c) (where-chosen n-single choice.Folding (λ a. has t.identifiers a) tt tt c e)
 
-  pub whiles-name : choose table 21 c ≡ 12 → has t.identifiers c ≡ true
+  pub whiles-name : choose table n-single c ≡ choice.ForWhile → has t.identifiers c ≡ true
   unfolding choose row table look has
-  whiles-name e = is-true (has t.identifiers c) (where-chosen 21 12 (λ a. has t.identifiers a) tt tt c e)
+  whiles-name e = is-true (has t.identifiers c) (where-chosen n-single choice.ForWhile (λ a. has t.identifiers a) tt tt c e)
 
   -- other than `None`,
-  pub named-variable : choose table 21 c ≡ 8 → eqb c t.None ≡ false
+  pub named-variable : choose table n-single c ≡ choice.Named → eqb c t.None ≡ false
   unfolding choose row table look
-  named-variable e = is-false (eqb c t.None) (where-chosen 21 8 (λ a. not (eqb a t.None)) tt tt c e)
+  named-variable e = is-false (eqb c t.None) (where-chosen n-single choice.Named (λ a. not (eqb a t.None)) tt tt c e)
 
-  pub typed-variable : choose table 21 c ≡ 10 → eqb c t.None ≡ false
+  pub typed-variable : choose table n-single c ≡ choice.Typed → eqb c t.None ≡ false
   unfolding choose row table look
-  typed-variable e = is-false (eqb c t.None) (where-chosen 21 10 (λ a. not (eqb a t.None)) tt tt c e)
+  typed-variable e = is-false (eqb c t.None) (where-chosen n-single choice.Typed (λ a. not (eqb a t.None)) tt tt c e)
 
-  pub folding-variable : choose table 21 c ≡ 11 → eqb c t.None ≡ false
+  pub folding-variable : choose table n-single c ≡ choice.Folding → eqb c t.None ≡ false
   unfolding choose row table look
-  folding-variable e = is-false (eqb c t.None) (where-chosen 21 11 (λ a. not (eqb a t.None)) tt tt c e)
+  folding-variable e = is-false (eqb c t.None) (where-chosen n-single choice.Folding (λ a. not (eqb a t.None)) tt tt c e)
 
-  pub whiles-variable : choose table 21 c ≡ 12 → eqb c t.None ≡ false
+  pub whiles-variable : choose table n-single c ≡ choice.ForWhile → eqb c t.None ≡ false
   unfolding choose row table look
-  whiles-variable e = is-false (eqb c t.None) (where-chosen 21 12 (λ a. not (eqb a t.None)) tt tt c e)
+  whiles-variable e = is-false (eqb c t.None) (where-chosen n-single choice.ForWhile (λ a. not (eqb a t.None)) tt tt c e)
 
   -- and marks of a call.
-  pub typed-mark : choose table 21 c ≡ 10 → roleOf 39 c ≡ aMark
+  pub typed-mark : choose table n-single c ≡ choice.Typed → roleOf kind.Call c ≡ aMark
   unfolding choose row table look
-  typed-mark e = word-mark c (where-chosen 21 10 (λ a. ltb 43 a) tt tt c e)
+  typed-mark e = word-mark c (where-chosen n-single choice.Typed (λ a. ltb t.List a) tt tt c e)
 
-  pub folding-mark : choose table 21 c ≡ 11 → roleOf 39 c ≡ aMark
+  pub folding-mark : choose table n-single c ≡ choice.Folding → roleOf kind.Call c ≡ aMark
   unfolding choose row table look
-  folding-mark e = word-mark c (where-chosen 21 11 (λ a. ltb 43 a) tt tt c e)
+  folding-mark e = word-mark c (where-chosen n-single choice.Folding (λ a. ltb t.List a) tt tt c e)
 
-  pub whiles-mark : choose table 21 c ≡ 12 → roleOf 39 c ≡ aMark
+  pub whiles-mark : choose table n-single c ≡ choice.ForWhile → roleOf kind.Call c ≡ aMark
   unfolding choose row table look
-  whiles-mark e = word-mark c (where-chosen 21 12 (λ a. ltb 43 a) tt tt c e)
+  whiles-mark e = word-mark c (where-chosen n-single choice.ForWhile (λ a. ltb t.List a) tt tt c e)
 
 -- The token that a call begins with is a name of its own or a mark.
-pub called-role : (c : ℕ) → has (t.Jet ∷ t.functionNames) c ≡ true → roleOf 39 c ≡ asName
+pub called-role : (c : ℕ) → has callees c ≡ true → roleOf kind.Call c ≡ asName
 unfolding roleOf has
 called-role c h = ap (λ (b : Bool). cond b asName (cond (eqb c t.DecLiteral) asNumber aMark)) h
 
-pub marked-role : (c : ℕ) → has (t.Jet ∷ t.functionNames) c ≡ false → eqb c t.DecLiteral ≡ false → roleOf 39 c ≡ aMark
+pub marked-role : (c : ℕ) → has callees c ≡ false → eqb c t.DecLiteral ≡ false → roleOf kind.Call c ≡ aMark
 unfolding roleOf has
 marked-role c h g = ap₂ (λ (a b : Bool). cond a asName (cond b asNumber aMark)) h g
 
-pub number-role : roleOf 39 t.DecLiteral ≡ asNumber
+pub number-role : roleOf kind.Call t.DecLiteral ≡ asNumber
 unfolding roleOf has
 number-role = refl
 
 -- What may follow a name: nothing,
 module _ {a : ℕ} where
-  pub named-alone : (a ≡ 14 → ⊥) → (a ≡ 20 → ⊥) → expand table 29 a ≡ some []
+  pub named-alone : (a ≡ t.DoubleColon → ⊥) → (a ≡ t.LParen → ⊥) → expand table n-named-optional a ≡ some []
   unfolding choose row table look alt pick
-  named-alone h g = goes 29 1 a (miss 14 3 (on 20 2 ∷ []) 1 h (miss 20 2 [] 1 g refl)) refl
+  named-alone h g = goes n-named-optional 1 a (miss t.DoubleColon 3 (on t.LParen 2 ∷ []) 1 h (miss t.LParen 2 [] 1 g refl)) refl
 
-  pub bare-alone : (a ≡ 14 → ⊥) → expand table 31 a ≡ some []
+  pub bare-alone : (a ≡ t.DoubleColon → ⊥) → expand table n-bare-optional-DoubleColon a ≡ some []
   unfolding choose row table look alt pick
-  bare-alone h = goes 31 1 a (miss 14 2 [] 1 h refl) refl
+  bare-alone h = goes n-bare-optional-DoubleColon 1 a (miss t.DoubleColon 2 [] 1 h refl) refl
 
-  pub typed-alone : (a ≡ 14 → ⊥) → expand table 33 a ≡ some []
+  pub typed-alone : (a ≡ t.DoubleColon → ⊥) → expand table n-typed-optional-DoubleColon a ≡ some []
   unfolding choose row table look alt pick
-  typed-alone h = goes 33 1 a (miss 14 2 [] 1 h refl) refl
+  typed-alone h = goes n-typed-optional-DoubleColon 1 a (miss t.DoubleColon 2 [] 1 h refl) refl
 
-  pub folding-alone : (a ≡ 14 → ⊥) → expand table 35 a ≡ some []
+  pub folding-alone : (a ≡ t.DoubleColon → ⊥) → expand table n-folding-optional-DoubleColon a ≡ some []
   unfolding choose row table look alt pick
-  folding-alone h = goes 35 1 a (miss 14 2 [] 1 h refl) refl
+  folding-alone h = goes n-folding-optional-DoubleColon 1 a (miss t.DoubleColon 2 [] 1 h refl) refl
 
-  pub whiles-alone : (a ≡ 14 → ⊥) → expand table 36 a ≡ some []
+  pub whiles-alone : (a ≡ t.DoubleColon → ⊥) → expand table n-forWhile-optional-DoubleColon a ≡ some []
   unfolding choose row table look alt pick
-  whiles-alone h = goes 36 1 a (miss 14 2 [] 1 h refl) refl
+  whiles-alone h = goes n-forWhile-optional-DoubleColon 1 a (miss t.DoubleColon 2 [] 1 h refl) refl
 
-  pub path-alone : (a ≡ 20 → ⊥) → expand table 47 a ≡ some []
+  pub path-alone : (a ≡ t.LParen → ⊥) → expand table n-path-optional a ≡ some []
   unfolding choose row table look alt pick
-  path-alone h = goes 47 1 a (miss 20 2 [] 1 h refl) refl
+  path-alone h = goes n-path-optional 1 a (miss t.LParen 2 [] 1 h refl) refl
 
   -- arguments,
-  pub named-args : a ≡ 20 → expand table 29 a ≡ some (nt 27 ∷ [])
+  pub named-args : a ≡ t.LParen → expand table n-named-optional a ≡ some (nt n-arguments ∷ [])
   unfolding choose row table look alt pick
-  named-args h = goes 29 2 a (miss 14 3 (on 20 2 ∷ []) 1 (λ (e : a ≡ 14). omega (arith, h, e)) (hit 20 2 [] 1 h)) refl
+  named-args h = goes n-named-optional 2 a (miss t.DoubleColon 3 (on t.LParen 2 ∷ []) 1 (λ (e : a ≡ t.DoubleColon). omega (arith, h, e)) (hit t.LParen 2 [] 1 h)) refl
 
-  pub path-args : a ≡ 20 → expand table 47 a ≡ some (nt 27 ∷ [])
+  pub path-args : a ≡ t.LParen → expand table n-path-optional a ≡ some (nt n-arguments ∷ [])
   unfolding choose row table look alt pick
-  path-args h = goes 47 2 a (hit 20 2 [] 1 h) refl
+  path-args h = goes n-path-optional 2 a (hit t.LParen 2 [] 1 h) refl
 
   -- `::`,
-  pub named-colons : a ≡ 14 → expand table 29 a ≡ some (tok 14 ∷ nt 40 ∷ [])
+  pub named-colons : a ≡ t.DoubleColon → expand table n-named-optional a ≡ some (tok t.DoubleColon ∷ nt n-path ∷ [])
   unfolding choose row table look alt pick
-  named-colons h = goes 29 3 a (hit 14 3 (on 20 2 ∷ []) 1 h) refl
+  named-colons h = goes n-named-optional 3 a (hit t.DoubleColon 3 (on t.LParen 2 ∷ []) 1 h) refl
 
-  pub bare-colons : a ≡ 14 → expand table 31 a ≡ some (tok 14 ∷ nt 40 ∷ [])
+  pub bare-colons : a ≡ t.DoubleColon → expand table n-bare-optional-DoubleColon a ≡ some (tok t.DoubleColon ∷ nt n-path ∷ [])
   unfolding choose row table look alt pick
-  bare-colons h = goes 31 2 a (hit 14 2 [] 1 h) refl
+  bare-colons h = goes n-bare-optional-DoubleColon 2 a (hit t.DoubleColon 2 [] 1 h) refl
 
-  pub typed-colons : a ≡ 14 → expand table 33 a ≡ some (tok 14 ∷ nt 41 ∷ [])
+  pub typed-colons : a ≡ t.DoubleColon → expand table n-typed-optional-DoubleColon a ≡ some (tok t.DoubleColon ∷ nt n-typed-optional-DoubleColon-choice ∷ [])
   unfolding choose row table look alt pick
-  typed-colons h = goes 33 2 a (hit 14 2 [] 1 h) refl
+  typed-colons h = goes n-typed-optional-DoubleColon 2 a (hit t.DoubleColon 2 [] 1 h) refl
 
-  pub folding-colons : a ≡ 14 → expand table 35 a ≡ some (tok 14 ∷ nt 42 ∷ [])
+  pub folding-colons : a ≡ t.DoubleColon → expand table n-folding-optional-DoubleColon a ≡ some (tok t.DoubleColon ∷ nt n-folding-optional-DoubleColon-choice ∷ [])
   unfolding choose row table look alt pick
-  folding-colons h = goes 35 2 a (hit 14 2 [] 1 h) refl
+  folding-colons h = goes n-folding-optional-DoubleColon 2 a (hit t.DoubleColon 2 [] 1 h) refl
 
-  pub whiles-colons : a ≡ 14 → expand table 36 a ≡ some (tok 14 ∷ nt 43 ∷ [])
+  pub whiles-colons : a ≡ t.DoubleColon → expand table n-forWhile-optional-DoubleColon a ≡ some (tok t.DoubleColon ∷ nt n-forWhile-optional-DoubleColon-choice ∷ [])
   unfolding choose row table look alt pick
-  whiles-colons h = goes 36 2 a (hit 14 2 [] 1 h) refl
+  whiles-colons h = goes n-forWhile-optional-DoubleColon 2 a (hit t.DoubleColon 2 [] 1 h) refl
 
   -- and then `<`
-  pub typed-angle : a ≡ 26 → expand table 41 a ≡ some (tok 26 ∷ nt 8 ∷ tok 27 ∷ nt 27 ∷ [])
+  pub typed-angle : a ≡ t.LAngle → expand table n-typed-optional-DoubleColon-choice a ≡ some (tok t.LAngle ∷ nt n-type ∷ tok t.RAngle ∷ nt n-arguments ∷ [])
   unfolding choose row table look alt pick
-  typed-angle h = goes 41 1 a (hit 26 1 [] 2 h) refl
+  typed-angle h = goes n-typed-optional-DoubleColon-choice 1 a (hit t.LAngle 1 [] 2 h) refl
 
-  pub folding-angle : a ≡ 26 → expand table 42 a ≡ some (tok 26 ∷ nt 2 ∷ tok 17 ∷ tok 28 ∷ tok 27 ∷ nt 27 ∷ [])
+  pub folding-angle : a ≡ t.LAngle → expand table n-folding-optional-DoubleColon-choice a ≡ some (tok t.LAngle ∷ nt n-functionName ∷ tok t.Comma ∷ tok t.DecLiteral ∷ tok t.RAngle ∷ nt n-arguments ∷ [])
   unfolding choose row table look alt pick
-  folding-angle h = goes 42 1 a (hit 26 1 [] 2 h) refl
+  folding-angle h = goes n-folding-optional-DoubleColon-choice 1 a (hit t.LAngle 1 [] 2 h) refl
 
-  pub whiles-angle : a ≡ 26 → expand table 43 a ≡ some (tok 26 ∷ nt 2 ∷ tok 27 ∷ nt 27 ∷ [])
+  pub whiles-angle : a ≡ t.LAngle → expand table n-forWhile-optional-DoubleColon-choice a ≡ some (tok t.LAngle ∷ nt n-functionName ∷ tok t.RAngle ∷ nt n-arguments ∷ [])
   unfolding choose row table look alt pick
-  whiles-angle h = goes 43 1 a (hit 26 1 [] 2 h) refl
+  whiles-angle h = goes n-forWhile-optional-DoubleColon-choice 1 a (hit t.LAngle 1 [] 2 h) refl
 
   -- or a path.
-  pub typed-path : (a ≡ 26 → ⊥) → expand table 41 a ≡ some (nt 40 ∷ [])
+  pub typed-path : (a ≡ t.LAngle → ⊥) → expand table n-typed-optional-DoubleColon-choice a ≡ some (nt n-path ∷ [])
   unfolding choose row table look alt pick
-  typed-path h = goes 41 2 a (miss 26 1 [] 2 h refl) refl
+  typed-path h = goes n-typed-optional-DoubleColon-choice 2 a (miss t.LAngle 1 [] 2 h refl) refl
 
-  pub folding-path : (a ≡ 26 → ⊥) → expand table 42 a ≡ some (nt 40 ∷ [])
+  pub folding-path : (a ≡ t.LAngle → ⊥) → expand table n-folding-optional-DoubleColon-choice a ≡ some (nt n-path ∷ [])
   unfolding choose row table look alt pick
-  folding-path h = goes 42 2 a (miss 26 1 [] 2 h refl) refl
+  folding-path h = goes n-folding-optional-DoubleColon-choice 2 a (miss t.LAngle 1 [] 2 h refl) refl
 
-  pub whiles-path : (a ≡ 26 → ⊥) → expand table 43 a ≡ some (nt 40 ∷ [])
+  pub whiles-path : (a ≡ t.LAngle → ⊥) → expand table n-forWhile-optional-DoubleColon-choice a ≡ some (nt n-path ∷ [])
   unfolding choose row table look alt pick
-  whiles-path h = goes 43 2 a (miss 26 1 [] 2 h refl) refl
+  whiles-path h = goes n-forWhile-optional-DoubleColon-choice 2 a (miss t.LAngle 1 [] 2 h refl) refl
 
-pub path-row : (a : ℕ) → expand table 40 a ≡ some (nt 10 ∷ nt 46 ∷ nt 47 ∷ [])
+pub path-row : (a : ℕ) → expand table n-path a ≡ some (nt n-identifier ∷ nt n-path-many-DoubleColon ∷ nt n-path-optional ∷ [])
 unfolding choose row table look alt pick
-path-row a = goes 40 1 a refl refl
+path-row a = goes n-path 1 a refl refl
 
 -- None of these is a node.
-pub flat-named : sortOf (ex means (nt 29)) ≡ shape.flat
+pub flat-named : sortOf (ex means (nt n-named-optional)) ≡ shape.flat
 unfolding sortOf ex means
 flat-named = refl
 
-pub flat-bare : sortOf (ex means (nt 31)) ≡ shape.flat
+pub flat-bare : sortOf (ex means (nt n-bare-optional-DoubleColon)) ≡ shape.flat
 unfolding sortOf ex means
 flat-bare = refl
 
-pub flat-typed : sortOf (ex means (nt 33)) ≡ shape.flat
+pub flat-typed : sortOf (ex means (nt n-typed-optional-DoubleColon)) ≡ shape.flat
 unfolding sortOf ex means
 flat-typed = refl
 
-pub flat-folding : sortOf (ex means (nt 35)) ≡ shape.flat
+pub flat-folding : sortOf (ex means (nt n-folding-optional-DoubleColon)) ≡ shape.flat
 unfolding sortOf ex means
 flat-folding = refl
 
-pub flat-whiles : sortOf (ex means (nt 36)) ≡ shape.flat
+pub flat-whiles : sortOf (ex means (nt n-forWhile-optional-DoubleColon)) ≡ shape.flat
 unfolding sortOf ex means
 flat-whiles = refl
 
-pub flat-of-type : sortOf (ex means (nt 41)) ≡ shape.flat
+pub flat-of-type : sortOf (ex means (nt n-typed-optional-DoubleColon-choice)) ≡ shape.flat
 unfolding sortOf ex means
 flat-of-type = refl
 
-pub flat-bounded : sortOf (ex means (nt 42)) ≡ shape.flat
+pub flat-bounded : sortOf (ex means (nt n-folding-optional-DoubleColon-choice)) ≡ shape.flat
 unfolding sortOf ex means
 flat-bounded = refl
 
-pub flat-looped : sortOf (ex means (nt 43)) ≡ shape.flat
+pub flat-looped : sortOf (ex means (nt n-forWhile-optional-DoubleColon-choice)) ≡ shape.flat
 unfolding sortOf ex means
 flat-looped = refl
 
-pub flat-path : sortOf (ex means (nt 40)) ≡ shape.flat
+pub flat-path : sortOf (ex means (nt n-path)) ≡ shape.flat
 unfolding sortOf ex means
 flat-path = refl
 
-pub flat-path-args : sortOf (ex means (nt 47)) ≡ shape.flat
+pub flat-path-args : sortOf (ex means (nt n-path-optional)) ≡ shape.flat
 unfolding sortOf ex means
 flat-path-args = refl

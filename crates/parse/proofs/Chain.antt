@@ -81,8 +81,7 @@ module _ {x : Text} {K : ℕ} {N : ℕ → Type 0} {full left : List Sym} {st : 
   class-here d e = sym (d .lays .stands .class-is) ∙ e
 
   in-there : {s : Sym} {c : ℕ} → Amid x K N full (s ∷ left) st l w ms m st₁ l₁ → st₁ .class ≡ c → 0 < c → st₁ .at < length (x .ts)
-  in-there {c = zero} d e h = absurd (omega arith)
-  in-there {c = suc k} d e h = inside x (st₁ .at) k (class-here d e)
+  in-there d e h = inside x (st₁ .at) h (class-here d e)
 
   -- the law of a token, from the symbol that stands for it
   eats-as : {s : Sym} {c : ℕ} {st₂ : State} → Amid x K N full (s ∷ left) st l w ms m st₁ l₁ → st₁ .class ≡ c → 0 < c → Moved x st₁ st₂ → roleOf K c ≡ aMark

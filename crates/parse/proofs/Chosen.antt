@@ -12,7 +12,7 @@ use lib.ListN.{getElem?}
 use Rattle.theory.specs.Grammar.{Sym, tok, nt, Case, on, look, Row, row, alt, pick, blank}
 use Rattle.theory.specs.Machine.{choose, expand}
 use Rattle.grammar.specs.Tables.{table}
-use Rattle.parse.proofs.Sweep.{run, sweep, beyond}
+use Rattle.parse.proofs.Sweep.{pastClasses, run, sweep, beyond}
 
 or-not : (a b : Bool) → T (not a || b) → T a → T b
 or-not true b t u = t
@@ -22,16 +22,16 @@ same-number : (a b : ℕ) → a ≡ b → T (eqb a b)
 same-number a b e = rw (eq-eqb a b e) tt
 
 -- Where the table chooses the alternative i of A, the test f passes: one computation.
-pub where-chosen : (A i : ℕ) (f : ℕ → Bool) → T (not (eqb (row table A .other) i)) → T (run (λ c. not (eqb (choose table A c) i) || f c) 63 0) → (c : ℕ) → choose table A c ≡ i → T (f c)
-where-chosen A i f o t c e = go (ltb c 63) refl
+pub where-chosen : (A i : ℕ) (f : ℕ → Bool) → T (not (eqb (row table A .other) i)) → T (run (λ c. not (eqb (choose table A c) i) || f c) pastClasses 0) → (c : ℕ) → choose table A c ≡ i → T (f c)
+where-chosen A i f o t c e = go (ltb c pastClasses) refl
   where
     no : (b : Bool) → T (not b) → T b → T (f c)
     no true u v = absurd u
     no false u v = absurd v
 
-    go : (b : Bool) → ltb c 63 ≡ b → T (f c)
-    go true h = or-not (eqb (choose table A c) i) (f c) (sweep (λ c. not (eqb (choose table A c) i) || f c) t c (ltb-true c 63 h)) (same-number (choose table A c) i e)
-    go false h = no (eqb (row table A .other) i) o (same-number (row table A .other) i (sym (beyond A c (ltb-false c 63 h)) ∙ e))
+    go : (b : Bool) → ltb c pastClasses ≡ b → T (f c)
+    go true h = or-not (eqb (choose table A c) i) (f c) (sweep (λ c. not (eqb (choose table A c) i) || f c) t c (ltb-true c pastClasses h)) (same-number (choose table A c) i e)
+    go false h = no (eqb (row table A .other) i) o (same-number (row table A .other) i (sym (beyond A c (ltb-false c pastClasses h)) ∙ e))
 
 -- The alternative is this one class.
 abbrev pub alone : Option (List Sym) → ℕ → Bool

@@ -22,6 +22,7 @@ use Rattle.own.specs.Rules.{sorts}
 use Rattle.lexer.specs.Classes as t
 use Rattle.grammar.specs.Tables.{means, table}
 use Rattle.grammar.specs.Records.{sees, partCount, lone, unended}
+use Rattle.grammar.specs.TablesIndex.{n-assignment, n-elements, n-elements-optional-Semi, n-expression}
 use Rattle.parse.proofs.Step.{the-type}
 use Rattle.parse.specs.Contract.{Text, classes, tokAt, raw, Stands, Ready, Moved, Eaten, ate, Info, asItems, Went, Parsed, read, stuck, Node, ExprKind, Only}
 use Rattle.parse.specs.Infos.{LetKind, Elements, Lone}
@@ -35,36 +36,36 @@ use Rattle.parse.proofs.Chain.{Noded, then-node, advances, then-eats, t
 use Rattle.parse.proofs.Lined.{AnyN, arranged-zero, arranged-only, comma-mark, semi-mark, only-append, finish, went-ahead}
 use Rattle.parse.proofs.Pieces.{seen-first, seen-second}
 
-flat-elements : sortOf (ex means (nt 9)) ≡ shape.flat
+flat-elements : sortOf (ex means (nt n-elements)) ≡ shape.flat
 unfolding sortOf ex means
 flat-elements = refl
 
-flat-semi : sortOf (ex means (nt 18)) ≡ shape.flat
+flat-semi : sortOf (ex means (nt n-elements-optional-Semi)) ≡ shape.flat
 unfolding sortOf ex means
 flat-semi = refl
 
 module _ {a : ℕ} where
-  no-more : a ≡ 25 → expand table 9 a ≡ some []
+  no-more : a ≡ t.RBrace → expand table n-elements a ≡ some []
   unfolding choose row table look alt pick
-  no-more h = goes 9 1 a (miss 5 2 (on 25 1 ∷ []) 3 (λ e. let g : 25 ≡ 5 = sym h ∙ e in omega arith) (hit 25 1 [] 3 h)) refl
+  no-more h = goes n-elements 1 a (miss t.Let 2 (on t.RBrace 1 ∷ []) 3 (λ e. let g : t.RBrace ≡ t.Let = sym h ∙ e in omega arith) (hit t.RBrace 1 [] 3 h)) refl
 
-  a-let : a ≡ 5 → expand table 9 a ≡ some (nt 16 ∷ tok 16 ∷ nt 9 ∷ [])
+  a-let : a ≡ t.Let → expand table n-elements a ≡ some (nt n-assignment ∷ tok t.Semi ∷ nt n-elements ∷ [])
   unfolding choose row table look alt pick
-  a-let h = goes 9 2 a (hit 5 2 (on 25 1 ∷ []) 3 h) refl
+  a-let h = goes n-elements 2 a (hit t.Let 2 (on t.RBrace 1 ∷ []) 3 h) refl
 
-  an-expression : (a ≡ 5 → ⊥) → (a ≡ 25 → ⊥) → expand table 9 a ≡ some (nt 17 ∷ nt 18 ∷ [])
+  an-expression : (a ≡ t.Let → ⊥) → (a ≡ t.RBrace → ⊥) → expand table n-elements a ≡ some (nt n-expression ∷ nt n-elements-optional-Semi ∷ [])
   unfolding choose row table look alt pick
-  an-expression h g = goes 9 3 a (miss 5 2 (on 25 1 ∷ []) 3 h (miss 25 1 [] 3 g refl)) refl
+  an-expression h g = goes n-elements 3 a (miss t.Let 2 (on t.RBrace 1 ∷ []) 3 h (miss t.RBrace 1 [] 3 g refl)) refl
 
-  the-last : (a ≡ 16 → ⊥) → expand table 18 a ≡ some []
+  the-last : (a ≡ t.Semi → ⊥) → expand table n-elements-optional-Semi a ≡ some []
   unfolding choose row table look alt pick
-  the-last h = goes 18 1 a (miss 16 2 [] 1 h refl) refl
+  the-last h = goes n-elements-optional-Semi 1 a (miss t.Semi 2 [] 1 h refl) refl
 
-  one-more : a ≡ 16 → expand table 18 a ≡ some (tok 16 ∷ nt 9 ∷ [])
+  one-more : a ≡ t.Semi → expand table n-elements-optional-Semi a ≡ some (tok t.Semi ∷ nt n-elements ∷ [])
   unfolding choose row table look alt pick
-  one-more h = goes 18 2 a (hit 16 2 [] 1 h) refl
+  one-more h = goes n-elements-optional-Semi 2 a (hit t.Semi 2 [] 1 h) refl
 
-ends-semi : (b : Bool) (w : List Sort) → unended b (w ++ (word 16 ∷ [])) ≡ false
+ends-semi : (b : Bool) (w : List Sort) → unended b (w ++ (word t.Semi ∷ [])) ≡ false
 unfolding unended
 ends-semi true [] = refl
 ends-semi false [] = refl
@@ -82,21 +83,21 @@ is-eaten : {x : Text} {st : State} {c : ℕ} {st′ : State} {a b : ℕ} → Eat
 is-eaten (ate e v) = (e, v)
 
 pub eaten-ahead : {x : Text} {st st′ : State} {k a b : ℕ} {s : Step} → Stands x st → Eaten x st (suc k) s → s ≡ Next st′ a b → st .at < st′ .at
-eaten-ahead {x} {st} {k = k} h q e = let v = is-eaten (subst (λ s. Eaten x st (suc k) s) e q) in omega (arith, v .1 .ahead (inside x (st .at) k (sym (h .class-is) ∙ v .0)))
+eaten-ahead {x} {st} {k = k} h q e = let v = is-eaten (subst (λ s. Eaten x st (suc k) s) e q) in omega (arith, v .1 .ahead (inside x (st .at) (omega arith) (sym (h .class-is) ∙ v .0)))
 
 -- The elements up to `here`, each with its `;`.
 pub record Elemed (x : Text) (st : State) (l : List ℕ) (here : State) (l₁ : List ℕ) : Type 0 where
   pub w : List Sort
   pub ms : List Tok
   pub m : ℕ
-  pub amid : Amid x 0 AnyN (nt 9 ∷ []) (nt 9 ∷ []) st l w ms m here l₁
+  pub amid : Amid x 0 AnyN (nt n-elements ∷ []) (nt n-elements ∷ []) st l w ms m here l₁
   pub semis : Only t.Semi w
   pub ended : unended false w ≡ false
 
 module _ {x : Text} {st : State} {l : List ℕ} (y : Ready x st) where
   pub elems-start : Elemed x st l st l
   unfolding unended
-  elems-start = record { w = []; ms = []; m = 0; amid = starts 0 AnyN (nt 9 ∷ []) l (y .stands); semis = tt; ended = refl }
+  elems-start = record { w = []; ms = []; m = 0; amid = starts 0 AnyN (nt n-elements ∷ []) l (y .stands); semis = tt; ended = refl }
 
   module _ {here : State} {l₁ : List ℕ} (v : Elemed x st l here l₁) where
     here-is : here .class ≡ getD (classes x) (here .at) 0
@@ -105,7 +106,7 @@ module _ {x : Text} {st : State} {l : List ℕ} (y : Ready x st) where
     pub elems-ready : Ready x here
     elems-ready = onward y (v .amid)
 
-    pub elems-end : here .class ≡ 25 → Went x (nt 9 ∷ []) asItems Elements st l here l₁ 0 0
+    pub elems-end : here .class ≡ t.RBrace → Went x (nt n-elements ∷ []) asItems Elements st l here l₁ 0 0
     elems-end c =
         let d = then-turns [] (v .amid) flat-elements (no-more (sym here-is ∙ c)) in
         finish d (record {
@@ -116,54 +117,54 @@ module _ {x : Text} {st : State} {l : List ℕ} (y : Ready x st) where
 
     -- one that is ended
     closed : {ms′ : List Tok} {next : State} {l₂ : List ℕ} (k i h c m′ : ℕ)
-        → Amid x 0 AnyN (nt 9 ∷ []) (nt 9 ∷ []) st l ((v .w ++ (child k i h c ∷ [])) ++ (word 16 ∷ [])) ms′ m′ next l₂ → Elemed x st l next l₂
+        → Amid x 0 AnyN (nt n-elements ∷ []) (nt n-elements ∷ []) st l ((v .w ++ (child k i h c ∷ [])) ++ (word t.Semi ∷ [])) ms′ m′ next l₂ → Elemed x st l next l₂
     closed {ms′ = ms′} k i h c m′ d = record {
-      w = (v .w ++ (child k i h c ∷ [])) ++ (word 16 ∷ []);
+      w = (v .w ++ (child k i h c ∷ [])) ++ (word t.Semi ∷ []);
       ms = ms′;
       m = m′;
       amid = d;
-      semis = only-append t.Semi (v .w ++ (child k i h c ∷ [])) (word 16 ∷ []) (only-append t.Semi (v .w) (child k i h c ∷ []) (v .semis) tt) (refl, tt);
+      semis = only-append t.Semi (v .w ++ (child k i h c ∷ [])) (word t.Semi ∷ []) (only-append t.Semi (v .w) (child k i h c ∷ []) (v .semis) tt) (refl, tt);
       ended = ends-semi false (v .w ++ (child k i h c ∷ []));
     }
 
     -- A `let`,
-    module _ (c : here .class ≡ 5) where
-      into-let : Amid x 0 AnyN (nt 9 ∷ []) (nt 16 ∷ tok 16 ∷ nt 9 ∷ []) st l (v .w) (v .ms) (v .m) here l₁
-      into-let = then-turns (nt 16 ∷ tok 16 ∷ nt 9 ∷ []) (v .amid) flat-elements (a-let (sym here-is ∙ c))
+    module _ (c : here .class ≡ t.Let) where
+      into-let : Amid x 0 AnyN (nt n-elements ∷ []) (nt n-assignment ∷ tok t.Semi ∷ nt n-elements ∷ []) st l (v .w) (v .ms) (v .m) here l₁
+      into-let = then-turns (nt n-assignment ∷ tok t.Semi ∷ nt n-elements ∷ []) (v .amid) flat-elements (a-let (sym here-is ∙ c))
 
-      pub let-passed : {J : Info} {l₂ l′ : List ℕ} {r : Step} → OneOf (1 ∷ []) (tagOf the-type r) → Parsed x (nt 16 ∷ []) asItems (Node LetKind) here l₁ l₂ r → Parsed x (nt 9 ∷ []) asItems J st l l′ r
+      pub let-passed : {J : Info} {l₂ l′ : List ℕ} {r : Step} → OneOf (1 ∷ []) (tagOf the-type r) → Parsed x (nt n-assignment ∷ []) asItems (Node LetKind) here l₁ l₂ r → Parsed x (nt n-elements ∷ []) asItems J st l l′ r
       let-passed k p = then-passed into-let k (λ τ q h. h) p
 
-      module _ {l₂ : List ℕ} {r : Step} {st₂ : State} {a b : ℕ} (p : Parsed x (nt 16 ∷ []) asItems (Node LetKind) here l₁ l₂ r) (e : r ≡ Next st₂ a b) where
-        the-let : Noded x 0 AnyN (nt 9 ∷ []) (tok 16 ∷ nt 9 ∷ []) st l (v .w) (v .ms) (v .m) LetKind st₂ l₂
+      module _ {l₂ : List ℕ} {r : Step} {st₂ : State} {a b : ℕ} (p : Parsed x (nt n-assignment ∷ []) asItems (Node LetKind) here l₁ l₂ r) (e : r ≡ Next st₂ a b) where
+        the-let : Noded x 0 AnyN (nt n-elements ∷ []) (tok t.Semi ∷ nt n-elements ∷ []) st l (v .w) (v .ms) (v .m) LetKind st₂ l₂
         the-let = then-node into-let p e
 
-        pub let-lacks : {J : Info} {l′ : List ℕ} {s : Step} → OneOf (1 ∷ []) (tagOf the-type s) → Eaten x st₂ 16 s → Parsed x (nt 9 ∷ []) asItems J st l l′ s
+        pub let-lacks : {J : Info} {l′ : List ℕ} {s : Step} → OneOf (1 ∷ []) (tagOf the-type s) → Eaten x st₂ t.Semi s → Parsed x (nt n-elements ∷ []) asItems J st l l′ s
         let-lacks k q = then-lacks (the-let .amid) k (λ τ i h. h) q
 
-        module _ {s : Step} {st₃ : State} {a′ b′ : ℕ} (q : Eaten x st₂ 16 s) (f : s ≡ Next st₃ a′ b′) where
+        module _ {s : Step} {st₃ : State} {a′ b′ : ℕ} (q : Eaten x st₂ t.Semi s) (f : s ≡ Next st₃ a′ b′) where
           pub let-again : Elemed x st l st₃ l₂
-          let-again = closed (the-let .kind) (the-let .low) (the-let .high) (the-let .first) (v .m + 1) (then-eats (the-let .amid) (omega arith) q f (sign-mark 0 16 tt))
+          let-again = closed (the-let .kind) (the-let .low) (the-let .high) (the-let .first) (v .m + 1) (then-eats (the-let .amid) (omega arith) q f (sign-mark 0 t.Semi tt))
 
           pub let-less : here .at < st₃ .at
-          let-less = let d = then-eats (the-let .amid) (omega arith) q f (sign-mark 0 16 tt) in omega (arith, d .lays .few, d .lays .sized, v .amid .lays .ends, moved-on, went-ahead p e)
+          let-less = let d = then-eats (the-let .amid) (omega arith) q f (sign-mark 0 t.Semi tt) in omega (arith, d .lays .few, d .lays .sized, v .amid .lays .ends, moved-on, went-ahead p e)
             where
               moved-on : st₂ .at < st₃ .at
               moved-on = eaten-ahead (the-let .amid .lays .stands) q f
 
     -- or an expression.
-    module _ (n : here .class ≡ 25 → ⊥) (c : here .class ≡ 5 → ⊥) where
-      into-expr : Amid x 0 AnyN (nt 9 ∷ []) (nt 17 ∷ nt 18 ∷ []) st l (v .w) (v .ms) (v .m) here l₁
-      into-expr = then-turns (nt 17 ∷ nt 18 ∷ []) (v .amid) flat-elements (an-expression (λ h. c (here-is ∙ h)) (λ h. n (here-is ∙ h)))
+    module _ (n : here .class ≡ t.RBrace → ⊥) (c : here .class ≡ t.Let → ⊥) where
+      into-expr : Amid x 0 AnyN (nt n-elements ∷ []) (nt n-expression ∷ nt n-elements-optional-Semi ∷ []) st l (v .w) (v .ms) (v .m) here l₁
+      into-expr = then-turns (nt n-expression ∷ nt n-elements-optional-Semi ∷ []) (v .amid) flat-elements (an-expression (λ h. c (here-is ∙ h)) (λ h. n (here-is ∙ h)))
 
-      pub expr-passed : {J : Info} {l₂ l′ : List ℕ} {r : Step} → OneOf (1 ∷ []) (tagOf the-type r) → Parsed x (nt 17 ∷ []) asItems (Node ExprKind) here l₁ l₂ r → Parsed x (nt 9 ∷ []) asItems J st l l′ r
+      pub expr-passed : {J : Info} {l₂ l′ : List ℕ} {r : Step} → OneOf (1 ∷ []) (tagOf the-type r) → Parsed x (nt n-expression ∷ []) asItems (Node ExprKind) here l₁ l₂ r → Parsed x (nt n-elements ∷ []) asItems J st l l′ r
       expr-passed k p = then-passed into-expr k (λ τ q h. h) p
 
-      module _ {l₂ : List ℕ} {r : Step} {st₂ : State} {a b : ℕ} (p : Parsed x (nt 17 ∷ []) asItems (Node ExprKind) here l₁ l₂ r) (e : r ≡ Next st₂ a b) where
-        the-expr : Noded x 0 AnyN (nt 9 ∷ []) (nt 18 ∷ []) st l (v .w) (v .ms) (v .m) ExprKind st₂ l₂
+      module _ {l₂ : List ℕ} {r : Step} {st₂ : State} {a b : ℕ} (p : Parsed x (nt n-expression ∷ []) asItems (Node ExprKind) here l₁ l₂ r) (e : r ≡ Next st₂ a b) where
+        the-expr : Noded x 0 AnyN (nt n-elements ∷ []) (nt n-elements-optional-Semi ∷ []) st l (v .w) (v .ms) (v .m) ExprKind st₂ l₂
         the-expr = then-node into-expr p e
 
-        pub expr-last : (st₂ .class ≡ 16 → ⊥) → Went x (nt 9 ∷ []) asItems Elements st l st₂ l₂ 1 0
+        pub expr-last : (st₂ .class ≡ t.Semi → ⊥) → Went x (nt n-elements ∷ []) asItems Elements st l st₂ l₂ 1 0
         expr-last h =
             let d = then-turns [] (the-expr .amid) flat-semi (the-last (λ g. h (the-expr .amid .lays .stands .class-is ∙ g))) in
             let i = the-expr in
@@ -173,15 +174,15 @@ module _ {x : Text} {st : State} {l : List ℕ} (y : Ready x st) where
               last-is = ap (λ (b : Bool). cond b 1 0) (sym (ap (unended false) (d .sorted) ∙ ends-part false (v .w) (i .kind) (i .low) (i .high) (i .first)));
             })
 
-        module _ {next : State} (h : st₂ .class ≡ 16) (mv : Moved x st₂ next) where
-          with-semi : Amid x 0 AnyN (nt 9 ∷ []) (nt 9 ∷ []) st l ((v .w ++ (child (the-expr .kind) (the-expr .low) (the-expr .high) (the-expr .first) ∷ [])) ++ (word 16 ∷ [])) (v .ms ++ (tokAt x (st₂ .at) ∷ [])) (v .m + 1) next l₂
-          with-semi = advances (then-turns (tok 16 ∷ nt 9 ∷ []) (the-expr .amid) flat-semi (one-more (sym (the-expr .amid .lays .stands .class-is) ∙ h))) h (omega arith) mv (sign-mark 0 16 tt)
+        module _ {next : State} (h : st₂ .class ≡ t.Semi) (mv : Moved x st₂ next) where
+          with-semi : Amid x 0 AnyN (nt n-elements ∷ []) (nt n-elements ∷ []) st l ((v .w ++ (child (the-expr .kind) (the-expr .low) (the-expr .high) (the-expr .first) ∷ [])) ++ (word t.Semi ∷ [])) (v .ms ++ (tokAt x (st₂ .at) ∷ [])) (v .m + 1) next l₂
+          with-semi = advances (then-turns (tok t.Semi ∷ nt n-elements ∷ []) (the-expr .amid) flat-semi (one-more (sym (the-expr .amid .lays .stands .class-is) ∙ h))) h (omega arith) mv (sign-mark 0 t.Semi tt)
 
           pub expr-again : Elemed x st l next l₂
           expr-again = closed (the-expr .kind) (the-expr .low) (the-expr .high) (the-expr .first) (v .m + 1) with-semi
 
           pub expr-less : here .at < next .at
-          expr-less = omega (arith, went-ahead p e, mv .ahead (inside x (st₂ .at) 15 (sym (the-expr .amid .lays .stands .class-is) ∙ h)))
+          expr-less = omega (arith, went-ahead p e, mv .ahead (inside x (st₂ .at) (omega arith) (sym (the-expr .amid .lays .stands .class-is) ∙ h)))
 
 -- A list of expressions: nothing, or some and a comma.
 pub data Counted : ℕ → List Sort → Type 0 where

@@ -21,18 +21,21 @@ use Rattle.theory.specs.Ebnf as shape
 use Rattle.theory.specs.Parse.{Found, found, stuck}
 use Rattle.own.specs.Tree.{Tok, Items, Node, Rec, roots, records, concat}
 use Rattle.own.specs.Flat.{no-token}
-use Rattle.text.specs.Widths.{recWide}
+use Rattle.text.specs.Widths.{tokWide, recWide}
+use Rattle.text.specs.Refusals as refusal
 use Rattle.own.specs.Words.{toks, wordGroups, recWords, words-are}
 use Rattle.kinds.specs.Words.{classOf}
+use Rattle.grammar.specs.TablesIndex.{n-function}
+use Rattle.grammar.specs.Entry.{Entry, oneFunction}
 use Rattle.grammar.specs.WellShaped.{shapeOf, reads-shape, reads-too-few, sticks-shape}
-use Rattle.grammar.specs.KeptTokens.{classesOf, length-classes, one-tree, is-shape}
+use Rattle.grammar.specs.KeptTokens.{classesOf, length-classes, whole-trees, is-shape}
 use Rattle.grammar.specs.Records.{recordItems}
 use Rattle.grammar.specs.Faults.{Fault, faults, earliest, faultOf}
 use Rattle.grammar.specs.Answer as reader
-use Rattle.grammar.specs.Answer.{toksOf, startOf, treesOf, Reading, refusal, read, faulty, shaped, fitted, content, treesRead}
+use Rattle.grammar.specs.Answer.{toksOf, startOf, treesOf, Reading, unread, read, faulty, shaped, fitted, content, recordsIn}
 use Rattle.parse.proofs.Answer.{the-type}
 use Rattle.parse.specs.Contract as contract
-use Rattle.parse.specs.Contract.{Text, text, classes, tokAt, Read, Stuck, raw, faultIn, sooner, kept, fault, Ready, asItems, Went, Parsed, Gives}
+use Rattle.parse.specs.Contract.{Text, text, countable, classes, tokAt, Read, Stuck, raw, faultIn, sooner, kept, fault, Ready, asItems, Went, Parsed, Gives}
 use Rattle.parse.specs.Infos.{FunctionKind}
 use Rattle.parse.specs.Entry.{tooMany, readingOf, answered, answerOf, treeOf, Starts, ended, judged}
 use Rattle.parse.specs.declared.State.{State}
@@ -48,12 +51,12 @@ pub toks-of : (draft : List ℕ) (n : ℕ) (w : List ℕ) → toksOf draft (toke
 unfolding toksOf tokensIn
 toks-of draft zero w = refl
 toks-of draft (suc n) w =
-    ap (λ (l : List Tok). record { class = classOf draft (getD w 0 0) (getD w 1 0) (getD w 2 0); start = getD w 1 0; stop = getD w 2 0 } ∷ l) (toks-of draft n (drop 3 w))
+    ap (λ (l : List Tok). record { class = classOf draft (getD w 0 0) (getD w 1 0) (getD w 2 0); start = getD w 1 0; stop = getD w 2 0 } ∷ l) (toks-of draft n (drop tokWide w))
 
 length-in : (n : ℕ) (w : List ℕ) → length (tokensIn n w) ≡ n
 unfolding tokensIn
 length-in zero w = refl
-length-in (suc n) w = ap suc (length-in n (drop 3 w))
+length-in (suc n) w = ap suc (length-in n (drop tokWide w))
 
 start-toks : (draft : List ℕ) (ts : List Token) (i : ℕ) → getD ts i noToken .start ≡ getD (toksOf draft ts) i no-token .start
 unfolding toksOf
@@ -73,41 +76,41 @@ drop-zeros (suc k) (suc n) x = let e : n - k ≡ suc n - suc k = omega arith in 
 -- Too many tokens, or not.
 pub many-yes : {most n : ℕ} (tw : ℕ) → most < n → true ≡ tooMany most n tw
 unfolding tooMany
-many-yes {most} {n} tw h = sym (ap (λ (b : Bool). b || ltb tw (3 * n)) (lt-ltb most n h))
+many-yes {most} {n} tw h = sym (ap (λ (b : Bool). b || ltb tw (tokWide * n)) (lt-ltb most n h))
 
-third : (tw n : ℕ) → ltb (tw / 3) n ≡ ltb tw (3 * n)
-third tw n = go (ltb tw (3 * n)) refl
+third : (tw n : ℕ) → ltb (tw / tokWide) n ≡ ltb tw (tokWide * n)
+third tw n = go (ltb tw (tokWide * n)) refl
   where
-    go : (b : Bool) → ltb tw (3 * n) ≡ b → ltb (tw / 3) n ≡ ltb tw (3 * n)
-    go true e = lt-ltb (tw / 3) n (omega (arith, ltb-true tw (3 * n) e)) ∙ sym e
-    go false e = le-ltb (tw / 3) n (omega (arith, ltb-false tw (3 * n) e)) ∙ sym e
+    go : (b : Bool) → ltb tw (tokWide * n) ≡ b → ltb (tw / tokWide) n ≡ ltb tw (tokWide * n)
+    go true e = lt-ltb (tw / tokWide) n (omega (arith, ltb-true tw (tokWide * n) e)) ∙ sym e
+    go false e = le-ltb (tw / tokWide) n (omega (arith, ltb-false tw (tokWide * n) e)) ∙ sym e
 
-pub many-no : {most n : ℕ} (tw : ℕ) → n ≤ most → ltb (tw / 3) n ≡ tooMany most n tw
+pub many-no : {most n : ℕ} (tw : ℕ) → n ≤ most → ltb (tw / tokWide) n ≡ tooMany most n tw
 unfolding tooMany
-many-no {most} {n} tw h = third tw n ∙ sym (ap (λ (b : Bool). b || ltb tw (3 * n)) (le-ltb most n h))
+many-no {most} {n} tw h = third tw n ∙ sym (ap (λ (b : Bool). b || ltb tw (tokWide * n)) (le-ltb most n h))
 
 or-false : (a b : Bool) → (a || b) ≡ false → (a ≡ false) × (b ≡ false)
 or-false true b e = absurd (differ (sym e))
 or-false false b e = (refl, e)
 
-pub few-tokens : (most n tw : ℕ) → tooMany most n tw ≡ false → (n ≤ most) × (3 * n ≤ tw)
+pub few-tokens : (most n tw : ℕ) → tooMany most n tw ≡ false → (n ≤ most) × (tokWide * n ≤ tw)
 unfolding tooMany
-few-tokens most n tw e = let h = or-false (ltb most n) (ltb tw (3 * n)) e in (ltb-false most n (h .0), ltb-false tw (3 * n) (h .1))
+few-tokens most n tw e = let h = or-false (ltb most n) (ltb tw (tokWide * n)) e in (ltb-false most n (h .0), ltb-false tw (tokWide * n) (h .1))
 
 -- What the last state says.
 module _ (draft words′ : List ℕ) (n rw′ : ℕ) (z : State) where
   abbrev late : Answer
-  late = cond (ltb rw′ (recWide * z .out)) (Refused 15 0) (Records (z .out))
+  late = cond (ltb rw′ (recWide * z .out)) (Refused refusal.NoRoom 0) (Records (z .out))
 
-  pub end-left : {p : ℕ} → z .at < n → p ≡ startOf draft (tokensIn n words′) (z .at) → Refused 8 p ≡ ended draft words′ n rw′ z
+  pub end-left : {p : ℕ} → z .at < n → p ≡ startOf draft (tokensIn n words′) (z .at) → Refused refusal.Misshapen p ≡ ended draft words′ n rw′ z
   unfolding ended
   end-left h e =
-      ap (Refused 8) e
-      ∙ sym (ap (λ (b : Bool). cond b (Refused 8 (startOf draft (tokensIn n words′) (z .at))) (cond (eqb (z .fault) 0) late (Refused (z .fault) (z .place)))) (lt-ltb (z .at) n h))
+      ap (Refused refusal.Misshapen) e
+      ∙ sym (ap (λ (b : Bool). cond b (Refused refusal.Misshapen (startOf draft (tokensIn n words′) (z .at))) (cond (eqb (z .fault) 0) late (Refused (z .fault) (z .place)))) (lt-ltb (z .at) n h))
 
   end-there : n ≤ z .at → cond (eqb (z .fault) 0) late (Refused (z .fault) (z .place)) ≡ ended draft words′ n rw′ z
   unfolding ended
-  end-there h = sym (ap (λ (b : Bool). cond b (Refused 8 (startOf draft (tokensIn n words′) (z .at))) (cond (eqb (z .fault) 0) late (Refused (z .fault) (z .place)))) (le-ltb (z .at) n h))
+  end-there h = sym (ap (λ (b : Bool). cond b (Refused refusal.Misshapen (startOf draft (tokensIn n words′) (z .at))) (cond (eqb (z .fault) 0) late (Refused (z .fault) (z .place)))) (le-ltb (z .at) n h))
 
   pub end-fault : n ≤ z .at → (z .fault ≡ 0 → ⊥) → Refused (z .fault) (z .place) ≡ ended draft words′ n rw′ z
   end-fault h e = sym (ap (λ (b : Bool). cond b late (Refused (z .fault) (z .place))) (ne-eqb (z .fault) 0 e)) ∙ end-there h
@@ -115,11 +118,11 @@ module _ (draft words′ : List ℕ) (n rw′ : ℕ) (z : State) where
   end-fine : n ≤ z .at → z .fault ≡ 0 → late ≡ ended draft words′ n rw′ z
   end-fine h e = sym (ap (λ (b : Bool). cond b late (Refused (z .fault) (z .place))) (eq-eqb (z .fault) 0 e)) ∙ end-there h
 
-  pub end-small : n ≤ z .at → z .fault ≡ 0 → rw′ < recWide * z .out → Refused 15 0 ≡ ended draft words′ n rw′ z
-  end-small h e g = sym (ap (λ (b : Bool). cond b (Refused 15 0) (Records (z .out))) (lt-ltb rw′ (recWide * z .out) g)) ∙ end-fine h e
+  pub end-small : n ≤ z .at → z .fault ≡ 0 → rw′ < recWide * z .out → Refused refusal.NoRoom 0 ≡ ended draft words′ n rw′ z
+  end-small h e g = sym (ap (λ (b : Bool). cond b (Refused refusal.NoRoom 0) (Records (z .out))) (lt-ltb rw′ (recWide * z .out) g)) ∙ end-fine h e
 
   pub end-all : n ≤ z .at → z .fault ≡ 0 → recWide * z .out ≤ rw′ → Records (z .out) ≡ ended draft words′ n rw′ z
-  end-all h e g = sym (ap (λ (b : Bool). cond b (Refused 15 0) (Records (z .out))) (le-ltb rw′ (recWide * z .out) g)) ∙ end-fine h e
+  end-all h e g = sym (ap (λ (b : Bool). cond b (Refused refusal.NoRoom 0) (Records (z .out))) (le-ltb rw′ (recWide * z .out) g)) ∙ end-fine h e
 
 -- The first state.
 pub starts-at : (x : Text) {c b s : ℕ} → Gives (record { class = c; start = b; stop = s }) (tokAt x 0)
@@ -138,23 +141,28 @@ starts-at x g = record {
   kept-is = refl;
 }
 
-pub starts-ready : {x : Text} {st : State} → Starts x st → length (x .ts) ≤ 16777216 → Ready x st
+pub starts-ready : {x : Text} {st : State} → Starts x st → length (x .ts) ≤ countable → Ready x st
 starts-ready s h = record { stands = s .stands; short = h; few = omega (arith, s .out-is) }
 
-module _ (draft words′ : List ℕ) (n : ℕ) (h : 3 * n ≤ length words′) where
+abbrev taken : Answer → Bool
+taken (Records m) = true
+taken (Refused c p) = false
+taken TooMany = false
+
+module _ (draft words′ : List ℕ) (n : ℕ) (h : tokWide * n ≤ length words′) where
   abbrev x : Text
   x = text draft words′ n
 
   abbrev ts : List Token
   ts = tokensIn n words′
 
-  all-held : (b : Bool) → ltb n (length words′ / 3) ≡ b → cond b n (length words′ / 3) ≡ n
+  all-held : (b : Bool) → ltb n (length words′ / tokWide) ≡ b → cond b n (length words′ / tokWide) ≡ n
   all-held true e = refl
-  all-held false e = omega (arith, ltb-false n (length words′ / 3) e)
+  all-held false e = omega (arith, ltb-false n (length words′ / tokWide) e)
 
   text-is : x .ts ≡ toksOf draft ts
   unfolding text
-  text-is = ap (λ k. toks (classOf draft) k words′) (all-held (ltb n (length words′ / 3)) refl) ∙ sym (toks-of draft n words′)
+  text-is = ap (λ k. toks (classOf draft) k words′) (all-held (ltb n (length words′ / tokWide)) refl) ∙ sym (toks-of draft n words′)
 
   pub length-is : length (x .ts) ≡ n
   length-is = ap length (text-is ∙ toks-of draft n words′) ∙ length-toks (classOf draft) n words′
@@ -170,46 +178,48 @@ module _ (draft words′ : List ℕ) (n : ℕ) (h : 3 * n ≤ length words′) w
   unfolding startOf
   place-out at i = sym (ap (λ (b : Bool). cond b (getD ts at noToken .start) (length draft)) (le-ltb at (length ts) (omega (arith, length-in n words′))))
 
-  abbrev R : Reading
-  R = readingOf draft ts
+  -- What is read of the draft, at any entry.
+  module _ (en : Entry) where
+    abbrev R : Reading
+    R = readingOf en draft ts
 
-  reading-is : (f : Found) → shapeOf (classes x) ≡ f → R ≡ shaped draft ts f
-  unfolding readingOf
-  reading-is f e = ap (shaped draft ts) (ap (λ (u : List Tok). shapeOf (classesOf u)) (sym text-is) ∙ e)
+    reading-is : (f : Found) → shapeOf en (classes x) ≡ f → R ≡ shaped en draft ts f
+    unfolding readingOf
+    reading-is f e = ap (shaped en draft ts) (ap (λ (u : List Tok). shapeOf en (classesOf u)) (sym text-is) ∙ e)
 
+    module _ (k : ℕ) where
+      -- What a step says, of the buffer that it leaves.
+      abbrev Says : List ℕ → Answer → Type 0
+      Says l a = (answered (fitted k R) ≡ a) × ((m : ℕ) → a ≡ Records m → l ≡ content (fitted k R) (recWords (recordsIn R)) k)
+
+      refuses : {l : List ℕ} (c p : ℕ) → R ≡ unread c p → Says l (Refused c p)
+      refuses c p e = (ap (λ r. answered (fitted k r)) e, λ m q. absurd (differ (ap taken q)))
+
+      sticks : {l : List ℕ} (p : ℕ) → shapeOf en (classes x) ≡ stuck p → Says l (Refused refusal.Misshapen (startOf draft ts p))
+      sticks p e = refuses refusal.Misshapen (startOf draft ts p) (reading-is (stuck p) e)
+
+  -- What is read as one function, from the first state on.
   module _ {st : State} (s : Starts x st) (k : ℕ) where
-    -- What a step says, of the buffer that it leaves.
-    abbrev Says : List ℕ → Answer → Type 0
-    Says l a = (answered (fitted k R) ≡ a) × ((m : ℕ) → a ≡ Records m → l ≡ content (fitted k R) (recWords (records (treesRead R))) k)
+    abbrev its : Reading
+    its = R oneFunction
 
-    abbrev taken : Answer → Bool
-    taken (Records m) = true
-    taken (Refused c p) = false
-    taken TooMany = false
-
-    refuses : {l : List ℕ} (c p : ℕ) → R ≡ refusal c p → Says l (Refused c p)
-    refuses c p e = (ap (λ r. answered (fitted k r)) e, λ m q. absurd (differ (ap taken q)))
-
-    sticks : {l : List ℕ} (p : ℕ) → shapeOf (classes x) ≡ stuck p → Says l (Refused 8 (startOf draft ts p))
-    sticks p e = refuses 8 (startOf draft ts p) (reading-is (stuck p) e)
-
-    module _ {l l′ : List ℕ} (zeros : l ≡ replicate k 0) {z : State} {a b : ℕ} (w : Went x (nt 0 ∷ []) asItems (contract.Node FunctionKind) st l z l′ a b) where
+    module _ {l l′ : List ℕ} (zeros : l ≡ replicate k 0) {z : State} {a b : ℕ} (w : Went x (nt n-function ∷ []) asItems (contract.Node FunctionKind) st l z l′ a b) where
       abbrev r : shape.Items
       r = w .items
 
-      its-read : Read x (nt 0 ∷ []) 0 r (z .at)
-      its-read = subst (λ i. Read x (nt 0 ∷ []) i r (z .at)) (s .at-is) (w .reads)
+      its-read : Read x (nt n-function ∷ []) 0 r (z .at)
+      its-read = subst (λ i. Read x (nt n-function ∷ []) i r (z .at)) (s .at-is) (w .reads)
 
       its-length : length (classes x) ≡ n
       its-length = length-classes (x .ts) ∙ length-is
 
       -- Read to the end: the shape tree, its refusal and its records.
       module _ (e : z .at ≡ n) where
-        its-shape : shapeOf (classes x) ≡ found r
-        its-shape = reads-shape (classes x) r (subst (λ j. Read x (nt 0 ∷ []) 0 r j) (e ∙ sym its-length) its-read)
+        its-shape : shapeOf oneFunction (classes x) ≡ found r
+        its-shape = reads-shape oneFunction (classes x) r (subst (λ j. Read x (nt n-function ∷ []) 0 r j) (e ∙ sym its-length) its-read)
 
-        shape-of : shapeOf (classesOf (toksOf draft ts)) ≡ found r
-        shape-of = ap (λ (u : List Tok). shapeOf (classesOf u)) (sym text-is) ∙ its-shape
+        shape-of : shapeOf oneFunction (classesOf (toksOf draft ts)) ≡ found r
+        shape-of = ap (λ (u : List Tok). shapeOf oneFunction (classesOf u)) (sym text-is) ∙ its-shape
 
         fault-is : faultOf draft (toksOf draft ts) r ≡ kept z
         unfolding faultOf faultIn text
@@ -224,7 +234,7 @@ module _ (draft words′ : List ℕ) (n : ℕ) (h : 3 * n ≤ length words′) w
         unfolding raw text
         laid-is =
             w .info .laid-is ∙ sym (w .info .raw-is) ∙ ap (λ (i : ℕ). raw x i r) (s .at-is) ∙ ap (λ (u : List Tok). recordItems draft r u) text-is
-            ∙ sym (one-tree draft (toksOf draft ts) (is-shape draft (toksOf draft ts) r shape-of))
+            ∙ sym (whole-trees oneFunction draft (toksOf draft ts) (is-shape oneFunction draft (toksOf draft ts) r shape-of))
 
         its-words : concat (wordGroups (w .L)) ≡ recWords (records ns)
         its-words = ap (λ (u : Items). concat (wordGroups u)) laid-is ∙ sym (words-are ns)
@@ -246,52 +256,52 @@ module _ (draft words′ : List ℕ) (n : ℕ) (h : 3 * n ≤ length words′) w
         unfolding fault
         its-kept d f = ap (λ (b : Bool). cond b none (some (record { number = z .fault; place = z .place }))) f
 
-        reading-faulty : (o : Option Fault) → kept z ≡ o → R ≡ faulty o ts ns
-        reading-faulty o f = reading-is (found r) its-shape ∙ ap (λ (p : Option Fault). faulty p ts ns) (fault-is ∙ f)
+        reading-faulty : (o : Option Fault) → kept z ≡ o → its ≡ faulty o ts (records ns)
+        reading-faulty o f = reading-is oneFunction (found r) its-shape ∙ ap (λ (p : Option Fault). faulty p ts (records ns)) (fault-is ∙ f)
 
         module _ (f : eqb (z .fault) 0 ≡ true) where
-          all-read : R ≡ read ts ns
+          all-read : its ≡ read ts (records ns)
           all-read = reading-faulty none (its-kept true f)
 
-          fitted-is : (b : Bool) → ltb k (recWide * z .out) ≡ b → fitted k R ≡ cond b (reader.refused 15 0) (reader.accepted (length ts) (z .out))
+          fitted-is : (b : Bool) → ltb k (recWide * z .out) ≡ b → fitted k its ≡ cond b (reader.refused refusal.NoRoom 0) (reader.accepted (length ts) (z .out))
           fitted-is b g =
-              ap (fitted k) all-read ∙ ap (λ (m : ℕ). cond (ltb k (recWide * m)) (reader.refused 15 0) (reader.accepted (length ts) m)) its-count
-              ∙ ap (λ (b : Bool). cond b (reader.refused 15 0) (reader.accepted (length ts) (z .out))) g
+              ap (fitted k) all-read ∙ ap (λ (m : ℕ). cond (ltb k (recWide * m)) (reader.refused refusal.NoRoom 0) (reader.accepted (length ts) m)) its-count
+              ∙ ap (λ (b : Bool). cond b (reader.refused refusal.NoRoom 0) (reader.accepted (length ts) (z .out))) g
 
-          says-read : (b : Bool) → ltb k (recWide * z .out) ≡ b → Says l′ (cond b (Refused 15 0) (Records (z .out)))
+          says-read : (b : Bool) → ltb k (recWide * z .out) ≡ b → Says oneFunction k l′ (cond b (Refused refusal.NoRoom 0) (Records (z .out)))
           says-read true g = (ap answered (fitted-is true g), λ m q. absurd (differ (ap taken q)))
           says-read false g = (
             ap answered (fitted-is false g),
             λ m q. its-fit (ltb-false k (recWide * z .out) g)
-                ∙ sym (ap₂ (λ (c : reader.Answer) (q : Reading). content c (recWords (records (treesRead q))) k) (fitted-is false g) all-read),
+                ∙ sym (ap₂ (λ (c : reader.Answer) (q : Reading). content c (recWords (recordsIn q)) k) (fitted-is false g) all-read),
           )
 
       its-end : ltb (z .at) n ≡ false → z .at ≡ n
       its-end e = omega (arith, ltb-false (z .at) n e, w .lays .stands .within, length-is)
 
       says-ended : (b : Bool) → ltb (z .at) n ≡ b → (d : Bool) → eqb (z .fault) 0 ≡ d
-          → Says l′ (cond b (Refused 8 (startOf draft ts (z .at))) (cond d (cond (ltb k (recWide * z .out)) (Refused 15 0) (Records (z .out))) (Refused (z .fault) (z .place))))
-      says-ended true e d f = sticks (z .at) (reads-too-few (classes x) r (z .at) its-read (omega (arith, ltb-true (z .at) n e, its-length)))
+          → Says oneFunction k l′ (cond b (Refused refusal.Misshapen (startOf draft ts (z .at))) (cond d (cond (ltb k (recWide * z .out)) (Refused refusal.NoRoom 0) (Records (z .out))) (Refused (z .fault) (z .place))))
+      says-ended true e d f = sticks oneFunction k (z .at) (reads-too-few oneFunction (classes x) r (z .at) its-read (omega (arith, ltb-true (z .at) n e, its-length)))
       says-ended false e true f = says-read (its-end e) f (ltb k (recWide * z .out)) refl
-      says-ended false e false f = refuses (z .fault) (z .place) (reading-faulty (its-end e) (some (record { number = z .fault; place = z .place })) (its-kept (its-end e) false f))
+      says-ended false e false f = refuses oneFunction k (z .fault) (z .place) (reading-faulty (its-end e) (some (record { number = z .fault; place = z .place })) (its-kept (its-end e) false f))
 
     -- What the whole function says is the reader's answer, and the buffer holds what the reader says.
-    says : {l l′ : List ℕ} {p : Step} → l ≡ replicate k 0 → Parsed x (nt 0 ∷ []) asItems (contract.Node FunctionKind) st l l′ p → Says l′ (judged draft words′ n k p)
+    says : {l l′ : List ℕ} {p : Step} → l ≡ replicate k 0 → Parsed x (nt n-function ∷ []) asItems (contract.Node FunctionKind) st l l′ p → Says oneFunction k l′ (judged draft words′ n k p)
     unfolding ended
     says zeros (contract.read {st′ = z} w) = says-ended zeros w (ltb (z .at) n) refl (eqb (z .fault) 0) refl
-    says zeros (contract.stuck {p = p} h g) = sticks p (sticks-shape (classes x) p (subst (λ i. Stuck x (nt 0 ∷ []) i p) (s .at-is) (g [])))
+    says zeros (contract.stuck {p = p} h g) = sticks oneFunction k p (sticks-shape oneFunction (classes x) p (subst (λ i. Stuck x (nt n-function ∷ []) i p) (s .at-is) (g [])))
 
-    module _ (most : ℕ) (few : tooMany most n (length words′) ≡ false) {l l′ : List ℕ} {p : Step} (zeros : l ≡ replicate k 0) (v : Parsed x (nt 0 ∷ []) asItems (contract.Node FunctionKind) st l l′ p) {a : Answer}
+    module _ (most : ℕ) (few : tooMany most n (length words′) ≡ false) {l l′ : List ℕ} {p : Step} (zeros : l ≡ replicate k 0) (v : Parsed x (nt n-function ∷ []) asItems (contract.Node FunctionKind) st l l′ p) {a : Answer}
         (e : a ≡ judged draft words′ n k p) where
-      pub said-answer : a ≡ answerOf most draft words′ n k
+      pub said-answer : a ≡ answerOf oneFunction most draft words′ n k
       unfolding answerOf
-      said-answer = e ∙ sym (says zeros v .0) ∙ sym (ap (λ (b : Bool). cond b TooMany (answered (fitted k R))) few)
+      said-answer = e ∙ sym (says zeros v .0) ∙ sym (ap (λ (b : Bool). cond b TooMany (answered (fitted k its))) few)
 
-      tree-is : content (fitted k R) (recWords (records (treesRead R))) k ≡ treeOf most draft words′ n k
+      tree-is : content (fitted k its) (recWords (recordsIn its)) k ≡ treeOf oneFunction most draft words′ n k
       unfolding treeOf
-      tree-is = sym (ap (λ (b : Bool). cond b (replicate k 0) (content (fitted k R) (recWords (records (treesRead R))) k)) few)
+      tree-is = sym (ap (λ (b : Bool). cond b (replicate k 0) (content (fitted k its) (recWords (recordsIn its)) k)) few)
 
-      pub said-tree : {m : ℕ} → a ≡ Records m → l′ ≡ treeOf most draft words′ n k
+      pub said-tree : {m : ℕ} → a ≡ Records m → l′ ≡ treeOf oneFunction most draft words′ n k
       said-tree {m} q = says zeros v .1 m (sym e ∙ q) ∙ tree-is
 
       no-records : (c : reader.Answer) (ws : List ℕ) → answered c ≡ a → OneOf (1 ∷ 2 ∷ []) (tagOf the-type a) → content c ws k ≡ replicate k 0
@@ -301,16 +311,16 @@ module _ (draft words′ : List ℕ) (n : ℕ) (h : 3 * n ≤ length words′) w
           outside o = miss (1 ∷ 2 ∷ []) (tagOf the-type (Records m)) tt o
       no-records (reader.refused i m) ws q o = refl
 
-      pub said-zeros : OneOf (1 ∷ 2 ∷ []) (tagOf the-type a) → replicate k 0 ≡ treeOf most draft words′ n k
-      said-zeros o = sym (no-records (fitted k R) (recWords (records (treesRead R))) (says zeros v .0 ∙ sym e) o) ∙ tree-is
+      pub said-zeros : OneOf (1 ∷ 2 ∷ []) (tagOf the-type a) → replicate k 0 ≡ treeOf oneFunction most draft words′ n k
+      said-zeros o = sym (no-records (fitted k its) (recWords (recordsIn its)) (says zeros v .0 ∙ sym e) o) ∙ tree-is
 
 -- Too many tokens.
-pub too-many-answer : (most : ℕ) (draft words′ : List ℕ) (n k : ℕ) → tooMany most n (length words′) ≡ true → TooMany ≡ answerOf most draft words′ n k
+pub too-many-answer : (en : Entry) (most : ℕ) (draft words′ : List ℕ) (n k : ℕ) → tooMany most n (length words′) ≡ true → TooMany ≡ answerOf en most draft words′ n k
 unfolding answerOf
-too-many-answer most draft words′ n k e = sym (ap (λ (b : Bool). cond b TooMany (answered (fitted k (readingOf draft (tokensIn n words′))))) e)
+too-many-answer en most draft words′ n k e = sym (ap (λ (b : Bool). cond b TooMany (answered (fitted k (readingOf en draft (tokensIn n words′))))) e)
 
-pub too-many-tree : (most : ℕ) (draft words′ : List ℕ) (n k : ℕ) → tooMany most n (length words′) ≡ true → replicate k 0 ≡ treeOf most draft words′ n k
+pub too-many-tree : (en : Entry) (most : ℕ) (draft words′ : List ℕ) (n k : ℕ) → tooMany most n (length words′) ≡ true → replicate k 0 ≡ treeOf en most draft words′ n k
 unfolding treeOf
-too-many-tree most draft words′ n k e =
-    let r = readingOf draft (tokensIn n words′) in
-    sym (ap (λ (b : Bool). cond b (replicate k 0) (content (fitted k r) (recWords (records (treesRead r))) k)) e)
+too-many-tree en most draft words′ n k e =
+    let r = readingOf en draft (tokensIn n words′) in
+    sym (ap (λ (b : Bool). cond b (replicate k 0) (content (fitted k r) (recWords (recordsIn r)) k)) e)

@@ -33,16 +33,20 @@ use Rattle.own.specs.Tree.{Tok, Items, marks}
 use Rattle.own.specs.Flat.{no-token}
 use Rattle.own.specs.Rules.{sorts}
 use Rattle.own.specs.Law.{Sort, word, child}
+use Rattle.own.specs.Kinds as kind
 use Rattle.grammar.specs.Shapes.{shapes}
 use Rattle.grammar.specs.Tables.{means, table}
 use Rattle.grammar.specs.Records.{Head, head, wide, plain, sees, headOf, forms, formOf, lowHalf, highHalf, typeName, patternName, textOf, firstTok, firstOf, opening, reads, decimal, literalHead, lone, partCount, unended, builtinType, unsignedType, boolType, Role, aMark, roleOf}
 use Rattle.grammar.specs.Faults.{unless, faultsAt, earliest, earlier}
+use Rattle.grammar.specs.ShapeKind.{ArrayShape, AssignmentShape, BlockShape, ListShape, LiteralShape, ParensShape}
+use Rattle.grammar.specs.TablesIndex.{n-assignment, n-block, n-elements, n-expression, n-list-expression, n-literal, n-pattern, n-single, n-tail-expression, n-type}
 use Rattle.parse.specs.Contract.{Text, text, tokAt, classes, Stands, Ready, Info, asItems, Parsed, read, stuck, ExprKind}
 use Rattle.parse.specs.declared.Step.{Step}
 use Rattle.parse.specs.declared.State.{State}
+use Rattle.parse.specs.Choice as choice
 use Rattle.parse.proofs.Sweep.{run}
 use Rattle.parse.proofs.Chosen.{where-chosen, alone, is-alone, hit, miss, goes}
-use Rattle.parse.proofs.Roles.{keeping, keeping-mark}
+use Rattle.parse.proofs.Roles.{keeping, keeping-mark, keeps-between}
 use Rattle.parse.proofs.Laws.{Amid}
 use Rattle.parse.proofs.Steps.{numberIn, decided}
 use Rattle.parse.proofs.Shuts.{Rule}
@@ -51,101 +55,102 @@ use Rattle.parse.proofs.PatternForms.{Closes, both-ends, both-more}
 
 -- The rules.
 abbrev pub literalRhs : List Sym
-literalRhs = nt 23 ∷ []
+literalRhs = nt n-literal ∷ []
 
-pub literal-rule : Rule 21 0 13 literalRhs
+pub literal-rule : Rule n-single choice.Literal LiteralShape literalRhs
 unfolding ex means kindsOf shapes row table alt pick
-literal-rule = record { C = 6; category = refl; kind = refl; rule = refl }
+literal-rule = record { category = refl; from-one = refl; kind = refl; rule = refl }
 
 abbrev pub parensRhs : List Sym
-parensRhs = tok 20 ∷ nt 24 ∷ tok 21 ∷ []
+parensRhs = tok t.LParen ∷ nt n-list-expression ∷ tok t.RParen ∷ []
 
-pub parens-rule : Rule 21 1 14 parensRhs
+pub parens-rule : Rule n-single choice.Parens ParensShape parensRhs
 unfolding ex means kindsOf shapes row table alt pick
-parens-rule = record { C = 6; category = refl; kind = refl; rule = refl }
+parens-rule = record { category = refl; from-one = refl; kind = refl; rule = refl }
 
 abbrev pub arrayRhs : List Sym
-arrayRhs = tok 22 ∷ nt 24 ∷ tok 23 ∷ []
+arrayRhs = tok t.LBracket ∷ nt n-list-expression ∷ tok t.RBracket ∷ []
 
-pub array-rule : Rule 21 2 15 arrayRhs
+pub array-rule : Rule n-single choice.Array ArrayShape arrayRhs
 unfolding ex means kindsOf shapes row table alt pick
-array-rule = record { C = 6; category = refl; kind = refl; rule = refl }
+array-rule = record { category = refl; from-one = refl; kind = refl; rule = refl }
 
 abbrev pub listedRhs : List Sym
-listedRhs = tok 60 ∷ tok 22 ∷ nt 24 ∷ tok 23 ∷ []
+listedRhs = tok t.list! ∷ tok t.LBracket ∷ nt n-list-expression ∷ tok t.RBracket ∷ []
 
-pub listed-rule : Rule 21 3 16 listedRhs
+pub listed-rule : Rule n-single choice.List ListShape listedRhs
 unfolding ex means kindsOf shapes row table alt pick
-listed-rule = record { C = 6; category = refl; kind = refl; rule = refl }
+listed-rule = record { category = refl; from-one = refl; kind = refl; rule = refl }
 
 abbrev pub blockRhs : List Sym
-blockRhs = tok 24 ∷ nt 9 ∷ tok 25 ∷ []
+blockRhs = tok t.LBrace ∷ nt n-elements ∷ tok t.RBrace ∷ []
 
-pub block-rule : Rule 5 0 11 blockRhs
+pub block-rule : Rule n-block 1 BlockShape blockRhs
 unfolding ex means kindsOf shapes row table alt pick
-block-rule = record { C = 4; category = refl; kind = refl; rule = refl }
+block-rule = record { category = refl; from-one = refl; kind = refl; rule = refl }
 
 abbrev pub assignRhs : List Sym
-assignRhs = tok 5 ∷ nt 20 ∷ tok 15 ∷ nt 8 ∷ tok 18 ∷ nt 17 ∷ []
+assignRhs = tok t.Let ∷ nt n-pattern ∷ tok t.Colon ∷ nt n-type ∷ tok t.Eq ∷ nt n-expression ∷ []
 
-pub assign-rule : Rule 16 0 12 assignRhs
+pub assign-rule : Rule n-assignment 1 AssignmentShape assignRhs
 unfolding ex means kindsOf shapes row table alt pick
-assign-rule = record { C = 5; category = refl; kind = refl; rule = refl }
+assign-rule = record { category = refl; from-one = refl; kind = refl; rule = refl }
 
 -- The tokens that they begin with.
 module _ (c : ℕ) where
-  pub at-literal : choose table 21 c ≡ 1 → expand table 23 c ≡ some (tok c ∷ [])
+  pub at-literal : choose table n-single c ≡ choice.Literal → expand table n-literal c ≡ some (tok c ∷ [])
   unfolding choose row table look alt pick
-  at-literal e = is-alone (expand table 23 c) c (where-chosen 21 1 (λ a. alone (expand table 23 a) a) tt tt c e)
+  at-literal e = is-alone (expand table n-literal c) c (where-chosen n-single choice.Literal (λ a. alone (expand table n-literal a) a) tt tt c e)
 
-  pub literal-pos : choose table 21 c ≡ 1 → 0 < c
+  pub literal-pos : choose table n-single c ≡ choice.Literal → 0 < c
   unfolding choose row table look
-  literal-pos e = ltb→lt 0 c (where-chosen 21 1 (λ a. ltb 0 a) tt tt c e)
+  literal-pos e = ltb→lt 0 c (where-chosen n-single choice.Literal (λ a. ltb 0 a) tt tt c e)
 
-  pub at-parens : choose table 21 c ≡ 2 → c ≡ 20
+  pub at-parens : choose table n-single c ≡ choice.Parens → c ≡ t.LParen
   unfolding choose row table look
-  at-parens e = eqb→eq c 20 (where-chosen 21 2 (λ a. eqb a 20) tt tt c e)
+  at-parens e = eqb→eq c t.LParen (where-chosen n-single choice.Parens (λ a. eqb a t.LParen) tt tt c e)
 
-  pub at-array : choose table 21 c ≡ 3 → c ≡ 22
+  pub at-array : choose table n-single c ≡ choice.Array → c ≡ t.LBracket
   unfolding choose row table look
-  at-array e = eqb→eq c 22 (where-chosen 21 3 (λ a. eqb a 22) tt tt c e)
+  at-array e = eqb→eq c t.LBracket (where-chosen n-single choice.Array (λ a. eqb a t.LBracket) tt tt c e)
 
-  pub at-listed : choose table 21 c ≡ 4 → c ≡ 60
+  pub at-listed : choose table n-single c ≡ choice.List → c ≡ t.list!
   unfolding choose row table look
-  at-listed e = eqb→eq c 60 (where-chosen 21 4 (λ a. eqb a 60) tt tt c e)
+  at-listed e = eqb→eq c t.list! (where-chosen n-single choice.List (λ a. eqb a t.list!) tt tt c e)
 
-  pub at-block : c ≡ 24 → choose table 5 c ≡ 1
+  pub at-block : c ≡ t.LBrace → choose table n-block c ≡ 1
   unfolding choose row table look
-  at-block e = hit 24 1 [] 0 e
+  at-block e = hit t.LBrace 1 [] 0 e
 
-  pub at-assign : c ≡ 5 → choose table 16 c ≡ 1
+  pub at-assign : c ≡ t.Let → choose table n-assignment c ≡ 1
   unfolding choose row table look
-  at-assign e = hit 5 1 [] 0 e
+  at-assign e = hit t.Let 1 [] 0 e
 
-pub flat-literal : sortOf (ex means (nt 23)) ≡ shape.flat
+pub flat-literal : sortOf (ex means (nt n-literal)) ≡ shape.flat
 unfolding sortOf ex means
 flat-literal = refl
 
-pub flat-expression : sortOf (ex means (nt 17)) ≡ shape.flat
+pub flat-expression : sortOf (ex means (nt n-expression)) ≡ shape.flat
 unfolding sortOf ex means
 flat-expression = refl
 
 -- An expression is a block at a brace, otherwise any other.
 module _ {a : ℕ} where
-  pub expression-block : a ≡ 24 → expand table 17 a ≡ some (nt 5 ∷ [])
+  pub expression-block : a ≡ t.LBrace → expand table n-expression a ≡ some (nt n-block ∷ [])
   unfolding choose row table look alt pick
-  expression-block h = goes 17 1 a (hit 24 1 [] 2 h) refl
+  expression-block h = goes n-expression 1 a (hit t.LBrace 1 [] 2 h) refl
 
-  pub expression-single : (a ≡ 24 → ⊥) → expand table 17 a ≡ some (nt 21 ∷ [])
+  pub expression-single : (a ≡ t.LBrace → ⊥) → expand table n-expression a ≡ some (nt n-single ∷ [])
   unfolding choose row table look alt pick
-  expression-single h = goes 17 2 a (miss 24 1 [] 2 h refl) refl
+  expression-single h = goes n-expression 2 a (miss t.LBrace 1 [] 2 h refl) refl
 
 -- No expression begins with another class.
-pub no-single : (c i : ℕ) → i ≡ choose table 21 c → ((((((((((((Unit {0} × (i ≡ 1 → ⊥)) × (i ≡ 2 → ⊥)) × (i ≡ 3 → ⊥)) × (i ≡ 4 → ⊥)) × (i ≡ 5 → ⊥)) × (i ≡ 6 → ⊥)) × (i ≡ 7 → ⊥)) × (i ≡ 8 → ⊥)) × (i ≡ 9 → ⊥)) × (i ≡ 10 → ⊥)) × (i ≡ 11 → ⊥)) × (i ≡ 12 → ⊥)) → expand table 21 c ≡ none
+pub no-single : (c i : ℕ) → i ≡ choose table n-single c → ((((((((((((Unit {0} × (i ≡ choice.Literal → ⊥)) × (i ≡ choice.Parens → ⊥)) × (i ≡ choice.Array → ⊥)) × (i ≡ choice.List → ⊥)) × (i ≡ choice.Match → ⊥)) × (i ≡ choice.SimpleCall → ⊥)) × (i ≡ choice.CastCall → ⊥))
+    × (i ≡ choice.Named → ⊥)) × (i ≡ choice.Bare → ⊥)) × (i ≡ choice.Typed → ⊥)) × (i ≡ choice.Folding → ⊥)) × (i ≡ choice.ForWhile → ⊥)) → expand table n-single c ≡ none
 unfolding row table alt pick
-no-single c i e h = ap (alt table 21) (sym e) ∙ go i h
+no-single c i e h = ap (alt table n-single) (sym e) ∙ go i h
   where
-    go : (i : ℕ) → ((((((((((((Unit {0} × (i ≡ 1 → ⊥)) × (i ≡ 2 → ⊥)) × (i ≡ 3 → ⊥)) × (i ≡ 4 → ⊥)) × (i ≡ 5 → ⊥)) × (i ≡ 6 → ⊥)) × (i ≡ 7 → ⊥)) × (i ≡ 8 → ⊥)) × (i ≡ 9 → ⊥)) × (i ≡ 10 → ⊥)) × (i ≡ 11 → ⊥)) × (i ≡ 12 → ⊥)) → alt table 21 i ≡ none
+    go : (i : ℕ) → ((((((((((((Unit {0} × (i ≡ choice.Literal → ⊥)) × (i ≡ choice.Parens → ⊥)) × (i ≡ choice.Array → ⊥)) × (i ≡ choice.List → ⊥)) × (i ≡ choice.Match → ⊥)) × (i ≡ choice.SimpleCall → ⊥)) × (i ≡ choice.CastCall → ⊥)) × (i ≡ choice.Named → ⊥)) × (i ≡ choice.Bare → ⊥)) × (i ≡ choice.Typed → ⊥)) × (i ≡ choice.Folding → ⊥)) × (i ≡ choice.ForWhile → ⊥)) → alt table n-single i ≡ none
     go zero h = refl
     go (suc zero) h = absurd (h .0 .0 .0 .0 .0 .0 .0 .0 .0 .0 .0 .1 refl)
     go (suc (suc zero)) h = absurd (h .0 .0 .0 .0 .0 .0 .0 .0 .0 .0 .1 refl)
@@ -161,15 +166,15 @@ no-single c i e h = ap (alt table 21) (sym e) ∙ go i h
     go (suc (suc (suc (suc (suc (suc (suc (suc (suc (suc (suc (suc zero)))))))))))) h = absurd (h .1 refl)
     go (suc (suc (suc (suc (suc (suc (suc (suc (suc (suc (suc (suc (suc i))))))))))))) h = refl
 
-pub expression-rows : Rows 24 38 17 Closes
+pub expression-rows : Rows n-list-expression n-tail-expression n-expression Closes
 unfolding sortOf ex means choose row table look alt pick
 expression-rows = record {
   flat-list = refl;
   flat-tail = refl;
-  ends = λ c h. goes 24 1 c (both-ends c h) refl;
-  more = λ c h. goes 24 2 c (both-more c h) refl;
-  stops = λ c h. goes 38 1 c (miss 17 2 [] 1 h refl) refl;
-  goes = λ c h. goes 38 2 c (hit 17 2 [] 1 h) refl;
+  ends = λ c h. goes n-list-expression 1 c (both-ends c h) refl;
+  more = λ c h. goes n-list-expression 2 c (both-more c h) refl;
+  stops = λ c h. goes n-tail-expression 1 c (miss t.Comma 2 [] 1 h refl) refl;
+  goes = λ c h. goes n-tail-expression 2 c (hit t.Comma 2 [] 1 h) refl;
 }
 
 -- A part that is another: read as the one it is read as the other.
@@ -183,22 +188,22 @@ as-part {A} {B} {x} {st} f y e (stuck h g) =
     stuck h (λ τ. k-in k (g τ))
 
 -- What brackets enclose.
-lone-in : (a b : ℕ) (W : List Sort) → eqb a 17 ≡ false → eqb b 17 ≡ false → lone (word a ∷ (W ++ (word b ∷ []))) ≡ lone W
+lone-in : (a b : ℕ) (W : List Sort) → eqb a t.Comma ≡ false → eqb b t.Comma ≡ false → lone (word a ∷ (W ++ (word b ∷ []))) ≡ lone W
 unfolding lone partCount sees
 lone-in a b W p q =
-    ap₂ (λ (n : ℕ) (s : Bool). eqb n 1 && not s) (parts W) (ap (λ (u : Bool). u || sees 17 (W ++ (word b ∷ []))) p ∙ seen W)
+    ap₂ (λ (n : ℕ) (s : Bool). eqb n 1 && not s) (parts W) (ap (λ (u : Bool). u || sees t.Comma (W ++ (word b ∷ []))) p ∙ seen W)
   where
     parts : (W : List Sort) → partCount (W ++ (word b ∷ [])) ≡ partCount W
     parts [] = refl
     parts (word c ∷ w) = parts w
     parts (child k l h c ∷ w) = ap suc (parts w)
 
-    seen : (W : List Sort) → sees 17 (W ++ (word b ∷ [])) ≡ sees 17 W
+    seen : (W : List Sort) → sees t.Comma (W ++ (word b ∷ [])) ≡ sees t.Comma W
     seen [] = ap (λ (u : Bool). u || false) q
-    seen (word c ∷ w) = ap (λ (u : Bool). eqb c 17 || u) (seen w)
+    seen (word c ∷ w) = ap (λ (u : Bool). eqb c t.Comma || u) (seen w)
     seen (child k l h c ∷ w) = seen w
 
-unended-in : (b : Bool) (W : List Sort) → unended b (W ++ (word 25 ∷ [])) ≡ unended b W
+unended-in : (b : Bool) (W : List Sort) → unended b (W ++ (word t.RBrace ∷ [])) ≡ unended b W
 unfolding unended
 unended-in true [] = refl
 unended-in false [] = refl
@@ -206,60 +211,60 @@ unended-in b (word c ∷ w) = unended-in (b && not (eqb c t.Semi)) w
 unended-in b (child k l h c ∷ w) = unended-in true w
 
 -- The heads.
-kind-of : (b : Bool) → cond b (plain 30) (plain 31) ≡ plain (cond b 30 31)
+kind-of : (b : Bool) → cond b (plain kind.Parenthesised) (plain kind.Tuple) ≡ plain (cond b kind.Parenthesised kind.Tuple)
 kind-of true = refl
 kind-of false = refl
 
 module _ {x : Text} {K : ℕ} {N : ℕ → Type 0} {full left : List Sym} {st : State} {l : List ℕ} {ms : List Tok} {m : ℕ} {st₁ : State} {l₁ : List ℕ} where
-  pub parens-head : (W : List Sort) (a : ℕ) {k : ℕ} → Amid x K N full left st l (word 20 ∷ (W ++ (word 21 ∷ []))) ms m st₁ l₁ → lone W ≡ eqb a 1 → k ≡ cond (eqb a 1) 30 31
-      → decided x 14 (word 20 ∷ (W ++ (word 21 ∷ []))) ms ≡ head k 0 0
+  pub parens-head : (W : List Sort) (a : ℕ) {k : ℕ} → Amid x K N full left st l (word t.LParen ∷ (W ++ (word t.RParen ∷ []))) ms m st₁ l₁ → lone W ≡ eqb a 1 → k ≡ cond (eqb a 1) kind.Parenthesised kind.Tuple
+      → decided x ParensShape (word t.LParen ∷ (W ++ (word t.RParen ∷ []))) ms ≡ head k 0 0
   unfolding headOf formOf forms
-  parens-head W a d e f = ap (λ (b : Bool). cond b (plain 30) (plain 31)) (lone-in 20 21 W refl refl ∙ e) ∙ kind-of (eqb a 1) ∙ ap plain (sym f)
+  parens-head W a d e f = ap (λ (b : Bool). cond b (plain kind.Parenthesised) (plain kind.Tuple)) (lone-in t.LParen t.RParen W refl refl ∙ e) ∙ kind-of (eqb a 1) ∙ ap plain (sym f)
 
-  pub block-head : (W : List Sort) {a : ℕ} → Amid x K N full left st l (word 24 ∷ (W ++ (word 25 ∷ []))) ms m st₁ l₁ → a ≡ cond (unended false W) 1 0
-      → decided x 11 (word 24 ∷ (W ++ (word 25 ∷ []))) ms ≡ head 18 a 0
+  pub block-head : (W : List Sort) {a : ℕ} → Amid x K N full left st l (word t.LBrace ∷ (W ++ (word t.RBrace ∷ []))) ms m st₁ l₁ → a ≡ cond (unended false W) 1 0
+      → decided x BlockShape (word t.LBrace ∷ (W ++ (word t.RBrace ∷ []))) ms ≡ head kind.Block a 0
   unfolding headOf formOf forms unended
-  block-head W d e = ap (λ (b : Bool). head 18 (cond b 1 0) 0) (unended-in false W) ∙ ap (λ (n : ℕ). head 18 n 0) (sym e)
+  block-head W d e = ap (λ (b : Bool). head kind.Block (cond b 1 0) 0) (unended-in false W) ∙ ap (λ (n : ℕ). head kind.Block n 0) (sym e)
 
   module _ {w : List Sort} where
-    pub array-head : Amid x K N full left st l w ms m st₁ l₁ → decided x 15 w ms ≡ head 32 0 0
+    pub array-head : Amid x K N full left st l w ms m st₁ l₁ → decided x ArrayShape w ms ≡ head kind.Array 0 0
     unfolding headOf formOf forms
     array-head d = refl
 
-    pub listed-head : Amid x K N full left st l w ms m st₁ l₁ → decided x 16 w ms ≡ head 33 0 0
+    pub listed-head : Amid x K N full left st l w ms m st₁ l₁ → decided x ListShape w ms ≡ head kind.List 0 0
     unfolding headOf formOf forms
     listed-head d = refl
 
-    pub assign-head : Amid x K N full left st l w ms m st₁ l₁ → decided x 12 w ms ≡ head 17 0 0
+    pub assign-head : Amid x K N full left st l w ms m st₁ l₁ → decided x AssignmentShape w ms ≡ head kind.Let 0 0
     unfolding headOf formOf forms
     assign-head d = refl
 
 -- The kinds of parentheses.
-pub parens-kind : (a : ℕ) {k : ℕ} → k ≡ cond (eqb a 1) 30 31 → (30 ≤ k) × (k ≤ 31)
+pub parens-kind : (a : ℕ) {k : ℕ} → k ≡ cond (eqb a 1) kind.Parenthesised kind.Tuple → (kind.Parenthesised ≤ k) × (k ≤ kind.Tuple)
 parens-kind a {k} e = go (eqb a 1) e
   where
-    go : (b : Bool) → k ≡ cond b 30 31 → (30 ≤ k) × (k ≤ 31)
+    go : (b : Bool) → k ≡ cond b kind.Parenthesised kind.Tuple → (kind.Parenthesised ≤ k) × (k ≤ kind.Tuple)
     go true f = (omega arith, omega arith)
     go false f = (omega arith, omega arith)
 
-pub expr-kind : {k : ℕ} → (18 ≤ k) × (k ≤ 36) → ExprKind k
+pub expr-kind : {k : ℕ} → (kind.Block ≤ k) × (k ≤ kind.EnumMatch) → ExprKind k
 expr-kind h = (h .0, omega (arith, h .1), (λ e. omega (arith, h .1)), (λ e. omega (arith, h .1)))
 
-pub not-match : {k n : ℕ} → k ≤ n → n < 35 → T (not (eqb k 35))
-not-match {k} h g = rw (ne-eqb k 35 (λ f. omega arith)) tt
+pub not-match : {k n : ℕ} → k ≤ n → n < kind.Match → T (not (eqb k kind.Match))
+not-match {k} h g = rw (ne-eqb k kind.Match (λ f. omega arith)) tt
 
-pub keeping-low : (k : ℕ) → (4 ≤ k) × (k ≤ 33) → T (keeping k)
-keeping-low k h = rw (ne-eqb k 1 (λ f. omega (arith, h .0)), ne-eqb k 3 (λ f. omega (arith, h .0)), ne-eqb k 34 (λ f. omega (arith, h .1)), ne-eqb k 38 (λ f. omega (arith, h .1)), ne-eqb k 39 (λ f. omega (arith, h .1))) tt
+pub keeping-low : (k : ℕ) → (kind.Alias ≤ k) × (k ≤ kind.List) → T (keeping k)
+keeping-low k h = keeps-between kind.Alias kind.List k tt (h .0) (h .1)
 
 -- Literals.
 abbrev by : Bool → Bool → Bool → Bool → Bool → Bool → Head
-by a b d e f g = cond a (head 23 0 0) (cond b (head 23 1 0) (cond d (plain 24) (cond e (plain 25) (cond f (plain 26) (cond g (plain 27) (plain 28))))))
+by a b d e f g = cond a (head kind.Boolean 0 0) (cond b (head kind.Boolean 1 0) (cond d (plain kind.Decimal) (cond e (plain kind.Hexadecimal) (cond f (plain kind.Binary) (cond g (plain kind.Witness) (plain kind.ParameterValue))))))
 
-literal-heads : (c : ℕ) → (23 ≤ literalHead c .kind) × (literalHead c .kind ≤ 28) × (literalHead c .high ≡ 0)
+literal-heads : (c : ℕ) → (kind.Boolean ≤ literalHead c .kind) × (literalHead c .kind ≤ kind.ParameterValue) × (literalHead c .high ≡ 0)
 unfolding literalHead
 literal-heads c = go (eqb c t.false) (eqb c t.true) (eqb c t.DecLiteral) (eqb c t.HexLiteral) (eqb c t.BinLiteral) (eqb c t.Witness)
   where
-    go : (a b d e f g : Bool) → (23 ≤ by a b d e f g .kind) × (by a b d e f g .kind ≤ 28) × (by a b d e f g .high ≡ 0)
+    go : (a b d e f g : Bool) → (kind.Boolean ≤ by a b d e f g .kind) × (by a b d e f g .kind ≤ kind.ParameterValue) × (by a b d e f g .high ≡ 0)
     go true b d e f g = (omega arith, omega arith, refl)
     go false true d e f g = (omega arith, omega arith, refl)
     go false false true e f g = (omega arith, omega arith, refl)
@@ -269,9 +274,9 @@ literal-heads c = go (eqb c t.false) (eqb c t.true) (eqb c t.DecLiteral) (eqb c 
     go false false false false false false = (omega arith, omega arith, refl)
 
 module _ {k low : ℕ} (c : ℕ) (e : k ≡ literalHead c .kind) (f : low ≡ literalHead c .low) where
-  pub literal-kind : (23 ≤ k) × (k ≤ 28)
+  pub literal-kind : (kind.Boolean ≤ k) × (k ≤ kind.ParameterValue)
   literal-kind = let h = literal-heads c in (omega (arith, h .0), omega (arith, h .1))
 
-  pub literal-head : (x : Text) (t : Tok) → decided x 13 (word c ∷ []) (t ∷ []) ≡ head k low 0
+  pub literal-head : (x : Text) (t : Tok) → decided x LiteralShape (word c ∷ []) (t ∷ []) ≡ head k low 0
   unfolding headOf formOf forms opening
   literal-head x t = λ i. head (sym e i) (sym f i) (literal-heads c .2 i)

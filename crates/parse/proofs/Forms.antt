@@ -22,6 +22,7 @@ use Rattle.own.specs.Words.{wordGroups}
 use Rattle.own.specs.Flat.{no-token}
 use Rattle.own.specs.Law.{Sort, word, child}
 use Rattle.own.specs.Rules.{sorts}
+use Rattle.own.specs.Kinds as kind
 use Rattle.lexer.specs.Classes as t
 use Rattle.grammar.specs.Records.{Head, head, firstOf, textOf, reads}
 use Rattle.grammar.specs.Faults.{faultsAt, earliest}
@@ -51,13 +52,13 @@ no-fault draft k is h =
       is-false (eqb k MatchShape) (second-of (not (eqb k FoldingShape)) (not (eqb k MatchShape)) g),
     ) refl
 
-pub unturned : (K : ℕ) (L : Items) → T (not (eqb K 35)) → turned K L ≡ false
+pub unturned : (K : ℕ) (L : Items) → T (not (eqb K kind.Match)) → turned K L ≡ false
 unfolding turned
-unturned K L h = rw (is-false (eqb K 35) h) refl
+unturned K L h = rw (is-false (eqb K kind.Match) h) refl
 
 -- A record with no number among its tokens that needs it, and no refusal of its own.
 module _ {x : Text} {st r : State} {K : ℕ} {rhs : List Sym} {l : List ℕ} {w : List Sort} {ms : List Tok} {m : ℕ} {st₁ : State} {l₁ l′ : List ℕ} {low high : ℕ} where
-  pub shut : (k : ℕ) → T (faultless k) → Ready x st → Opened x st r (kept st) → (d : Amid x K AnyN rhs [] r l w ms m st₁ l₁) → 1 ≤ m → decided x k w ms ≡ head K low high → T (not (eqb K 35))
+  pub shut : (k : ℕ) → T (faultless k) → Ready x st → Opened x st r (kept st) → (d : Amid x K AnyN rhs [] r l w ms m st₁ l₁) → 1 ≤ m → decided x k w ms ≡ head K low high → T (not (eqb K kind.Match))
       → (P : ℕ → Type 0) → P K → Put l₁ (st .out) K (st .start) (st₁ .end) low high (st₁ .out - st .out) l′ → Went x rhs (asNode k) (Node P) st l st₁ l′ 0 0
   shut k f y o d one hd t P p put = shuts k y o d one hd tt (λ is. no-fault (x .draft) k is f) (unturned K (d .L) t) P p put refl
 
@@ -118,7 +119,7 @@ module _ {x : Text} {st r : State} {K : ℕ} {N : ℕ → Type 0} {rhs : List Sy
       ∙ ap (sooner (kept st)) (sym (its-fault k y o d one hd hn))
 
   -- A record that may have a refusal of its own: what was read inside was kept apart.
-  pub shut-judged : {l′ : List ℕ} (k : ℕ) → Ready x st → Opened x st r none → (d : Amid x K N rhs [] r l w ms m st₁ l₁) → 1 ≤ m → decided x k w ms ≡ head K low high → N (numberIn x ms) → T (not (eqb K 35))
+  pub shut-judged : {l′ : List ℕ} (k : ℕ) → Ready x st → Opened x st r none → (d : Amid x K N rhs [] r l w ms m st₁ l₁) → 1 ≤ m → decided x k w ms ≡ head K low high → N (numberIn x ms) → T (not (eqb K kind.Match))
       → (P : ℕ → Type 0) → P K → Put l₁ (st .out) K (st .start) (st₁ .end) low high (st₁ .out - st .out) l′ → Judged st st₁ number place st₂
       → ((is : Items) → sorts is ≡ w → marks is ≡ ms → earliest (faultsAt (x .draft) k is) ≡ fault number place) → Went x rhs (asNode k) (Node P) st l st₂ l′ 0 0
   shut-judged k y o d one hd hn t P p put j own =

@@ -3,7 +3,7 @@
 use mathlib.Core.List.{List, [], _∷_, _++_, append-assoc}
 use mathlib.Core.Option.{some}
 use mathlib.Core.Path.{_≡_, refl, sym, ap, ap₂, subst, _∙_}
-use Prim.Native.Nat.{ℕ, suc, _+_}
+use Prim.Native.Nat.{ℕ, suc, _+_, _<_}
 use lib.ListN.{getD}
 use Rattle.theory.specs.Grammar.{Sym, tok, nt}
 use Rattle.theory.specs.Machine.{expand}
@@ -78,13 +78,13 @@ module _ {x : Text} {K : ℕ} {N : ℕ → Type 0} {full : List Sym} {st : State
 
 module _ {x : Text} {K : ℕ} {N : ℕ → Type 0} {full left : List Sym} {st : State} {l : List ℕ} {w : List Sort} {ms : List Tok} {m : ℕ} {st₁ st₂ : State} {l₁ : List ℕ} where
   -- A token whose class the code knows, as a mark.
-  pub grown-eats : (c : ℕ) (d : Amid x K N full (tok (suc c) ∷ left) st l w ms m st₁ l₁) → st₁ .class ≡ suc c → Moved x st₁ st₂ → roleOf K (suc c) ≡ aMark
-      → Grown x K N full left st l (w ++ (word (suc c) ∷ [])) (ms ++ (tokAt x (st₁ .at) ∷ [])) (m + 1) st₂ l₁ (joined (d .L) (mark (tokAt x (st₁ .at)) own.none))
-  grown-eats c d e v role =
+  pub grown-eats : (c : ℕ) → 0 < c → (d : Amid x K N full (tok c ∷ left) st l w ms m st₁ l₁) → st₁ .class ≡ c → Moved x st₁ st₂ → roleOf K c ≡ aMark
+      → Grown x K N full left st l (w ++ (word c ∷ [])) (ms ++ (tokAt x (st₁ .at) ∷ [])) (m + 1) st₂ l₁ (joined (d .L) (mark (tokAt x (st₁ .at)) own.none))
+  grown-eats c pos d e v role =
       let s = d .lays .stands in
-      let h : getD (classes x) (st₁ .at) 0 ≡ suc c = sym (s .class-is) ∙ e in
-      let i = inside x (st₁ .at) c h in
-      one-token (suc c) d h role (word-went s i v (suc c) l₁ (reads-tok x (suc c) h i))
+      let h : getD (classes x) (st₁ .at) 0 ≡ c = sym (s .class-is) ∙ e in
+      let i = inside x (st₁ .at) pos h in
+      one-token c d h role (word-went s i v c l₁ (reads-tok x c h i))
     where
       one-token : (c : ℕ) (d : Amid x K N full (tok c ∷ left) st l w ms m st₁ l₁) → getD (classes x) (st₁ .at) 0 ≡ c → roleOf K c ≡ aMark → Went x (tok c ∷ []) asItems (Mark (tokAt x (st₁ .at))) st₁ l₁ st₂ l₁ 0 0
           → Grown x K N full left st l (w ++ (word c ∷ [])) (ms ++ (tokAt x (st₁ .at) ∷ [])) (m + 1) st₂ l₁ (joined (d .L) (mark (tokAt x (st₁ .at)) own.none))

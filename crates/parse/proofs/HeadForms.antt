@@ -20,18 +20,22 @@ use Rattle.theory.specs.Walk.{k-nt, k-in}
 use Rattle.own.specs.Tree.{Tok}
 use Rattle.own.specs.Law.{Sort, word}
 use Rattle.own.specs.Rules.{sorts}
-use Rattle.kinds.specs.Shape.{has, span}
+use Rattle.own.specs.Arms as arm
+use Rattle.own.specs.Kinds as kind
+use Rattle.kinds.specs.Shape.{has}
 use Rattle.kinds.specs.Fields.{counted}
+use Rattle.kinds.specs.Families as family
 use Rattle.lexer.specs.Classes as t
 use Rattle.grammar.specs.Tables.{means, table}
-use Rattle.grammar.specs.TablesIndex.{n-arm}
-use Rattle.grammar.specs.Records.{head, sees, opening, nameCount, placeIn, armHead}
+use Rattle.grammar.specs.TablesIndex.{n-arm, n-head, n-head-choice, n-head-optional, n-head-word, n-headPath, n-headPath-optional-LParen, n-identifier, n-otherName, n-pair, n-path-many-DoubleColon}
+use Rattle.grammar.specs.Records.{head, sees, opening, nameCount, placeIn, armHead, armWords}
 use Rattle.parse.specs.Contract.{Text, classes, tokAt, raw, Ready, Moved, Put, Info, asItems, Went, Parsed, read, stuck, reserved, Named, headSort}
 use Rattle.parse.specs.Infos.{ManyPairs, HeadPath, ArmHead, armKind, armLow, armHigh}
 use Rattle.parse.specs.declared.State.{State}
 use Rattle.parse.specs.declared.Step.{Step}
 use Rattle.parse.specs.declared.Step.the-variants.{Next, Refused}
-use Rattle.parse.proofs.Sweep.{run, sweep, beyond}
+use Rattle.parse.specs.Choice as choice
+use Rattle.parse.proofs.Sweep.{run, sweep, beyond, pastClasses}
 use Rattle.parse.proofs.Choices.{head-past}
 use Rattle.parse.proofs.Chosen.{alone, is-alone, hit, miss, goes}
 use Rattle.parse.proofs.Laws.{class-at, inside, went, Amid, starts, then-turns, then-went}
@@ -42,51 +46,51 @@ use Rattle.parse.proofs.NameRows.{name-role}
 use Rattle.parse.proofs.Pieces.{nameCount-append, counted-append, unseen-append, seen-first, seen-second, nameCount-name, nameCount-other, sign-no-name}
 
 -- The rules: a head,
-pub flat-head : sortOf (ex means (nt 44)) ≡ shape.flat
+pub flat-head : sortOf (ex means (nt n-head)) ≡ shape.flat
 unfolding sortOf ex means
 flat-head = refl
 
 -- a path or nothing,
-pub flat-optional : sortOf (ex means (nt 48)) ≡ shape.flat
+pub flat-optional : sortOf (ex means (nt n-head-optional)) ≡ shape.flat
 unfolding sortOf ex means
 flat-optional = refl
 
-pub optional-row : (c : ℕ) → c ≡ t.DoubleColon → expand table 48 c ≡ some (nt 52 ∷ [])
+pub optional-row : (c : ℕ) → c ≡ t.DoubleColon → expand table n-head-optional c ≡ some (nt n-headPath ∷ [])
 unfolding choose row table look alt pick
-optional-row c e = goes 48 2 c (hit 14 2 [] 1 e) refl
+optional-row c e = goes n-head-optional 2 c (hit t.DoubleColon 2 [] 1 e) refl
 
-pub no-optional-row : (c : ℕ) → (c ≡ t.DoubleColon → ⊥) → expand table 48 c ≡ some []
+pub no-optional-row : (c : ℕ) → (c ≡ t.DoubleColon → ⊥) → expand table n-head-optional c ≡ some []
 unfolding choose row table look alt pick
-no-optional-row c h = goes 48 1 c (miss 14 2 [] 1 h refl) refl
+no-optional-row c h = goes n-head-optional 1 c (miss t.DoubleColon 2 [] 1 h refl) refl
 
 -- a built-in word, and what follows it,
-pub flat-word : sortOf (ex means (nt 49)) ≡ shape.flat
+pub flat-word : sortOf (ex means (nt n-head-word)) ≡ shape.flat
 unfolding sortOf ex means
 flat-word = refl
 
-pub flat-choice : sortOf (ex means (nt 50)) ≡ shape.flat
+pub flat-choice : sortOf (ex means (nt n-head-choice)) ≡ shape.flat
 unfolding sortOf ex means
 flat-choice = refl
 
-pub choice-row : (c : ℕ) → c ≡ t.LParen → expand table 50 c ≡ some (tok 20 ∷ nt 54 ∷ tok 21 ∷ [])
+pub choice-row : (c : ℕ) → c ≡ t.LParen → expand table n-head-choice c ≡ some (tok t.LParen ∷ nt n-pair ∷ tok t.RParen ∷ [])
 unfolding choose row table look alt pick
-choice-row c e = goes 50 1 c (hit 20 1 [] 2 e) refl
+choice-row c e = goes n-head-choice 1 c (hit t.LParen 1 [] 2 e) refl
 
-pub other-choice-row : (c : ℕ) → (c ≡ t.LParen → ⊥) → expand table 50 c ≡ some (nt 52 ∷ [])
+pub other-choice-row : (c : ℕ) → (c ≡ t.LParen → ⊥) → expand table n-head-choice c ≡ some (nt n-headPath ∷ [])
 unfolding choose row table look alt pick
-other-choice-row c h = goes 50 2 c (miss 20 1 [] 2 h refl) refl
+other-choice-row c h = goes n-head-choice 2 c (miss t.LParen 1 [] 2 h refl) refl
 
 -- any other name,
-pub flat-other : sortOf (ex means (nt 51)) ≡ shape.flat
+pub flat-other : sortOf (ex means (nt n-otherName)) ≡ shape.flat
 unfolding sortOf ex means
 flat-other = refl
 
 -- and a path.
-pub flat-path : sortOf (ex means (nt 52)) ≡ shape.flat
+pub flat-path : sortOf (ex means (nt n-headPath)) ≡ shape.flat
 unfolding sortOf ex means
 flat-path = refl
 
-pub path-row : (c : ℕ) → expand table 52 c ≡ some (tok 14 ∷ nt 10 ∷ nt 46 ∷ nt 55 ∷ [])
+pub path-row : (c : ℕ) → expand table n-headPath c ≡ some (tok t.DoubleColon ∷ nt n-identifier ∷ nt n-path-many-DoubleColon ∷ nt n-headPath-optional-LParen ∷ [])
 unfolding choose row table look alt pick
 path-row c = refl
 
@@ -95,135 +99,132 @@ or-not : (a b : Bool) → T (not a || b) → T a → T b
 or-not true b t u = t
 or-not false b t u = absurd u
 
-where-sorted : (k : ℕ) (f : ℕ → Bool) → 0 < k → T (run (λ c. not (eqb (headSort c) k) || f c) 63 0) → (c : ℕ) → headSort c ≡ k → T (f c)
-where-sorted k f pos t c e = go (ltb c 63) refl
+where-sorted : (k : ℕ) (f : ℕ → Bool) → 0 < k → T (run (λ c. not (eqb (headSort c) k) || f c) pastClasses 0) → (c : ℕ) → headSort c ≡ k → T (f c)
+where-sorted k f pos t c e = go (ltb c pastClasses) refl
   where
-    go : (b : Bool) → ltb c 63 ≡ b → T (f c)
-    go true h = or-not (eqb (headSort c) k) (f c) (sweep (λ c. not (eqb (headSort c) k) || f c) t c (ltb-true c 63 h)) (rw (eq-eqb (headSort c) k e) tt)
-    go false h = absurd (omega (arith, head-past c (ltb-false c 63 h)))
-
-abbrev builtIn : List ℕ
-builtIn = t.Left ∷ t.Right ∷ t.None ∷ t.Some ∷ t.false ∷ t.true ∷ []
+    go : (b : Bool) → ltb c pastClasses ≡ b → T (f c)
+    go true h = or-not (eqb (headSort c) k) (f c) (sweep (λ c. not (eqb (headSort c) k) || f c) t c (ltb-true c pastClasses h)) (rw (eq-eqb (headSort c) k e) tt)
+    go false h = absurd (omega (arith, head-past c (ltb-false c pastClasses h)))
 
 module _ (c : ℕ) where
-  pub at-false : headSort c ≡ 1 → c ≡ t.false
+  pub at-false : headSort c ≡ choice.FalseHead → c ≡ t.false
   unfolding headSort choose row table look
-  at-false e = eqb→eq c 61 (where-sorted 1 (λ a. eqb a 61) (omega arith) tt c e)
+  at-false e = eqb→eq c t.false (where-sorted choice.FalseHead (λ a. eqb a t.false) (omega arith) tt c e)
 
-  pub at-true : headSort c ≡ 2 → c ≡ t.true
+  pub at-true : headSort c ≡ choice.TrueHead → c ≡ t.true
   unfolding headSort choose row table look
-  at-true e = eqb→eq c 62 (where-sorted 2 (λ a. eqb a 62) (omega arith) tt c e)
+  at-true e = eqb→eq c t.true (where-sorted choice.TrueHead (λ a. eqb a t.true) (omega arith) tt c e)
 
-  pub at-none : headSort c ≡ 3 → c ≡ t.None
+  pub at-none : headSort c ≡ choice.NoneHead → c ≡ t.None
   unfolding headSort choose row table look
-  at-none e = eqb→eq c 40 (where-sorted 3 (λ a. eqb a 40) (omega arith) tt c e)
+  at-none e = eqb→eq c t.None (where-sorted choice.NoneHead (λ a. eqb a t.None) (omega arith) tt c e)
 
-  module _ (e : headSort c ≡ 4) where
-    pub word-row : expand table 49 c ≡ some (tok c ∷ [])
+  module _ (e : headSort c ≡ choice.WrappedHead) where
+    pub word-row : expand table n-head-word c ≡ some (tok c ∷ [])
     unfolding headSort choose row table look alt pick
-    word-row = is-alone (expand table 49 c) c (where-sorted 4 (λ a. alone (expand table 49 a) a) (omega arith) tt c e)
+    word-row = is-alone (expand table n-head-word c) c (where-sorted choice.WrappedHead (λ a. alone (expand table n-head-word a) a) (omega arith) tt c e)
 
     pub word-pos : 0 < c
     unfolding headSort choose row table look
-    word-pos = ltb→lt 0 c (where-sorted 4 (λ a. ltb 0 a) (omega arith) tt c e)
+    word-pos = ltb→lt 0 c (where-sorted choice.WrappedHead (λ a. ltb 0 a) (omega arith) tt c e)
 
     pub word-name : has t.identifiers c ≡ true
     unfolding headSort choose row table look has
-    word-name = is-true (has t.identifiers c) (where-sorted 4 (λ a. has t.identifiers a) (omega arith) tt c e)
+    word-name = is-true (has t.identifiers c) (where-sorted choice.WrappedHead (λ a. has t.identifiers a) (omega arith) tt c e)
 
-    pub word-place : placeIn 0 1 builtIn c ≡ cond (eqb c t.Left) 1 (cond (eqb c t.Right) 2 4)
+    pub word-place : placeIn 0 arm.Left armWords c ≡ cond (eqb c t.Left) arm.Left (cond (eqb c t.Right) arm.Right arm.Some)
     unfolding headSort choose row table look placeIn
-    word-place = eqb→eq (placeIn 0 1 builtIn c) (cond (eqb c t.Left) 1 (cond (eqb c t.Right) 2 4))
-        (where-sorted 4 (λ a. eqb (placeIn 0 1 builtIn a) (cond (eqb a t.Left) 1 (cond (eqb a t.Right) 2 4))) (omega arith) tt c e)
+    word-place = eqb→eq (placeIn 0 arm.Left armWords c) (cond (eqb c t.Left) arm.Left (cond (eqb c t.Right) arm.Right arm.Some))
+        (where-sorted choice.WrappedHead (λ a. eqb (placeIn 0 arm.Left armWords a) (cond (eqb a t.Left) arm.Left (cond (eqb a t.Right) arm.Right arm.Some))) (omega arith) tt c e)
 
-  module _ (e : headSort c ≡ 5) where
-    pub other-row : expand table 51 c ≡ some (tok c ∷ [])
+  module _ (e : headSort c ≡ choice.NamedHead) where
+    pub other-row : expand table n-otherName c ≡ some (tok c ∷ [])
     unfolding headSort choose row table look alt pick
-    other-row = is-alone (expand table 51 c) c (where-sorted 5 (λ a. alone (expand table 51 a) a) (omega arith) tt c e)
+    other-row = is-alone (expand table n-otherName c) c (where-sorted choice.NamedHead (λ a. alone (expand table n-otherName a) a) (omega arith) tt c e)
 
     pub other-pos : 0 < c
     unfolding headSort choose row table look
-    other-pos = ltb→lt 0 c (where-sorted 5 (λ a. ltb 0 a) (omega arith) tt c e)
+    other-pos = ltb→lt 0 c (where-sorted choice.NamedHead (λ a. ltb 0 a) (omega arith) tt c e)
 
     pub other-name : has t.identifiers c ≡ true
     unfolding headSort choose row table look has
-    other-name = is-true (has t.identifiers c) (where-sorted 5 (λ a. has t.identifiers a) (omega arith) tt c e)
+    other-name = is-true (has t.identifiers c) (where-sorted choice.NamedHead (λ a. has t.identifiers a) (omega arith) tt c e)
 
-  sort-choice : (k : ℕ) → headSort c ≡ suc k → choose table 44 c ≡ suc k
+  sort-choice : {i : ℕ} → 0 < i → headSort c ≡ i → choose table n-head c ≡ i
   unfolding headSort
-  sort-choice k e = go (eqb (choose table n-arm c) 0) e
+  sort-choice {i} pos e = go (eqb (choose table n-arm c) 0) e
     where
-      go : (b : Bool) → cond b 0 (choose table 44 c) ≡ suc k → choose table 44 c ≡ suc k
+      go : (b : Bool) → cond b 0 (choose table n-head c) ≡ i → choose table n-head c ≡ i
       go true e = absurd (omega arith)
       go false e = e
 
   -- The alternative of a head.
-  pub false-row : headSort c ≡ 1 → expand table 44 c ≡ some (tok 61 ∷ [])
+  pub false-row : headSort c ≡ choice.FalseHead → expand table n-head c ≡ some (tok t.false ∷ [])
   unfolding row table alt pick
-  false-row e = goes 44 1 c (sort-choice 0 e) refl
+  false-row e = goes n-head choice.FalseHead c (sort-choice (omega arith) e) refl
 
-  pub true-row : headSort c ≡ 2 → expand table 44 c ≡ some (tok 62 ∷ [])
+  pub true-row : headSort c ≡ choice.TrueHead → expand table n-head c ≡ some (tok t.true ∷ [])
   unfolding row table alt pick
-  true-row e = goes 44 2 c (sort-choice 1 e) refl
+  true-row e = goes n-head choice.TrueHead c (sort-choice (omega arith) e) refl
 
-  pub none-row : headSort c ≡ 3 → expand table 44 c ≡ some (tok 40 ∷ nt 48 ∷ [])
+  pub none-row : headSort c ≡ choice.NoneHead → expand table n-head c ≡ some (tok t.None ∷ nt n-head-optional ∷ [])
   unfolding row table alt pick
-  none-row e = goes 44 3 c (sort-choice 2 e) refl
+  none-row e = goes n-head choice.NoneHead c (sort-choice (omega arith) e) refl
 
-  pub wrapped-row : headSort c ≡ 4 → expand table 44 c ≡ some (nt 49 ∷ nt 50 ∷ [])
+  pub wrapped-row : headSort c ≡ choice.WrappedHead → expand table n-head c ≡ some (nt n-head-word ∷ nt n-head-choice ∷ [])
   unfolding row table alt pick
-  wrapped-row e = goes 44 4 c (sort-choice 3 e) refl
+  wrapped-row e = goes n-head choice.WrappedHead c (sort-choice (omega arith) e) refl
 
-  pub named-row : headSort c ≡ 5 → expand table 44 c ≡ some (nt 51 ∷ nt 52 ∷ [])
+  pub named-row : headSort c ≡ choice.NamedHead → expand table n-head c ≡ some (nt n-otherName ∷ nt n-headPath ∷ [])
   unfolding row table alt pick
-  named-row e = goes 44 5 c (sort-choice 4 e) refl
+  named-row e = goes n-head choice.NamedHead c (sort-choice (omega arith) e) refl
 
 -- Where no head begins the table still chooses the last alternative, and has nothing for its first name.
 abbrev sorted : List ℕ
-sorted = 1 ∷ 2 ∷ 3 ∷ 4 ∷ 5 ∷ []
+sorted = choice.FalseHead ∷ choice.TrueHead ∷ choice.NoneHead ∷ choice.WrappedHead ∷ choice.NamedHead ∷ []
 
-unbegun : (c : ℕ) → has sorted (headSort c) ≡ false → T (eqb (choose table 44 c) 5 && eqb (choose table 51 c) 0)
+unbegun : (c : ℕ) → has sorted (headSort c) ≡ false → T (eqb (choose table n-head c) choice.NamedHead && eqb (choose table n-otherName c) 0)
 unfolding headSort choose row table look has
-unbegun c e = go (ltb c 63) refl
+unbegun c e = go (ltb c pastClasses) refl
   where
-    test : T (run (λ a. has sorted (headSort a) || (eqb (choose table 44 a) 5 && eqb (choose table 51 a) 0)) 63 0)
+    test : T (run (λ a. has sorted (headSort a) || (eqb (choose table n-head a) choice.NamedHead && eqb (choose table n-otherName a) 0)) pastClasses 0)
     test = tt
 
     second : (a b : Bool) → a ≡ false → T (a || b) → T b
     second true b f t = absurd (differ (sym f))
     second false b f t = t
 
-    go : (b : Bool) → ltb c 63 ≡ b → T (eqb (choose table 44 c) 5 && eqb (choose table 51 c) 0)
+    go : (b : Bool) → ltb c pastClasses ≡ b → T (eqb (choose table n-head c) choice.NamedHead && eqb (choose table n-otherName c) 0)
     go true h =
-        second (has sorted (headSort c)) (eqb (choose table 44 c) 5 && eqb (choose table 51 c) 0) e
-        (sweep (λ a. has sorted (headSort a) || (eqb (choose table 44 a) 5 && eqb (choose table 51 a) 0)) test c (ltb-true c 63 h))
-    go false h = rw (beyond 44 c (ltb-false c 63 h), beyond 51 c (ltb-false c 63 h)) tt
+        second (has sorted (headSort c)) (eqb (choose table n-head c) choice.NamedHead && eqb (choose table n-otherName c) 0) e
+        (sweep (λ a. has sorted (headSort a) || (eqb (choose table n-head a) choice.NamedHead && eqb (choose table n-otherName a) 0)) test c (ltb-true c pastClasses h))
+    go false h = rw (beyond n-head c (ltb-false c pastClasses h), beyond n-otherName c (ltb-false c pastClasses h)) tt
 
-unsorted : (i : ℕ) → (((((Unit {0} × (i ≡ 1 → ⊥)) × (i ≡ 2 → ⊥)) × (i ≡ 3 → ⊥)) × (i ≡ 4 → ⊥)) × (i ≡ 5 → ⊥)) → has sorted i ≡ false
+unsorted : (i : ℕ) → (((((Unit {0} × (i ≡ choice.FalseHead → ⊥)) × (i ≡ choice.TrueHead → ⊥)) × (i ≡ choice.NoneHead → ⊥)) × (i ≡ choice.WrappedHead → ⊥)) × (i ≡ choice.NamedHead → ⊥)) → has sorted i ≡ false
 unfolding has
 unsorted i h =
     rw (
-      ne-eqb 1 i (λ e. h .0 .0 .0 .0 .1 (sym e)),
-      ne-eqb 2 i (λ e. h .0 .0 .0 .1 (sym e)),
-      ne-eqb 3 i (λ e. h .0 .0 .1 (sym e)),
-      ne-eqb 4 i (λ e. h .0 .1 (sym e)),
-      ne-eqb 5 i (λ e. h .1 (sym e)),
+      ne-eqb choice.FalseHead i (λ e. h .0 .0 .0 .0 .1 (sym e)),
+      ne-eqb choice.TrueHead i (λ e. h .0 .0 .0 .1 (sym e)),
+      ne-eqb choice.NoneHead i (λ e. h .0 .0 .1 (sym e)),
+      ne-eqb choice.WrappedHead i (λ e. h .0 .1 (sym e)),
+      ne-eqb choice.NamedHead i (λ e. h .1 (sym e)),
     ) refl
 
 pub no-head : {x : Text} {st : State} {I : Info} {l l′ : List ℕ} (i : ℕ) → Ready x st → i ≡ headSort (st .class)
-    → (((((Unit {0} × (i ≡ 1 → ⊥)) × (i ≡ 2 → ⊥)) × (i ≡ 3 → ⊥)) × (i ≡ 4 → ⊥)) × (i ≡ 5 → ⊥)) → Parsed x (nt 44 ∷ []) asItems I st l l′ (Refused (st .at))
+    → (((((Unit {0} × (i ≡ choice.FalseHead → ⊥)) × (i ≡ choice.TrueHead → ⊥)) × (i ≡ choice.NoneHead → ⊥)) × (i ≡ choice.WrappedHead → ⊥)) × (i ≡ choice.NamedHead → ⊥)) → Parsed x (nt n-head ∷ []) asItems I st l l′ (Refused (st .at))
 unfolding row table alt pick
 no-head {x} {st} i y e h =
     let c = getD (classes x) (st .at) 0 in
     let f = e ∙ ap headSort (y .stands .class-is) in
     let u = unbegun c (ap (has sorted) (sym f) ∙ unsorted i h) in
     stuck (y .stands .within)
-    (λ τ. k-in (goes 44 5 c (eqb→eq (choose table 44 c) 5 (first-of (eqb (choose table 44 c) 5) (eqb (choose table 51 c) 0) u)) refl)
-    (k-nt (goes 51 0 c (eqb→eq (choose table 51 c) 0 (second-of (eqb (choose table 44 c) 5) (eqb (choose table 51 c) 0) u)) refl)))
+    (λ τ. k-in (goes n-head choice.NamedHead c (eqb→eq (choose table n-head c) choice.NamedHead (first-of (eqb (choose table n-head c) choice.NamedHead) (eqb (choose table n-otherName c) 0) u)) refl)
+    (k-nt (goes n-otherName 0 c (eqb→eq (choose table n-otherName c) 0 (second-of (eqb (choose table n-head c) choice.NamedHead) (eqb (choose table n-otherName c) 0) u)) refl)))
 
 -- A built-in arm: b is its low.
-pub built-in : {x : Text} {st : State} {l : List ℕ} {c : ℕ} {u : List Sort} {ms : List Tok} {m : ℕ} {st₁ : State} {l₁ : List ℕ} (b : ℕ) → Amid x 37 AnyN (nt 44 ∷ []) [] st l (word c ∷ u) ms m st₁ l₁
-    → (c ≡ t.DoubleColon → ⊥) → sees t.DoubleColon u ≡ false → placeIn 0 1 builtIn c ≡ b → 1 ≤ b → b ≤ 6 → Went x (nt 44 ∷ []) asItems ArmHead st l st₁ l₁ 0 b
+pub built-in : {x : Text} {st : State} {l : List ℕ} {c : ℕ} {u : List Sort} {ms : List Tok} {m : ℕ} {st₁ : State} {l₁ : List ℕ} (b : ℕ) → Amid x kind.BuiltinArm AnyN (nt n-head ∷ []) [] st l (word c ∷ u) ms m st₁ l₁
+    → (c ≡ t.DoubleColon → ⊥) → sees t.DoubleColon u ≡ false → placeIn 0 arm.Left armWords c ≡ b → arm.Left ≤ b → b ≤ arm.True → Went x (nt n-head ∷ []) asItems ArmHead st l st₁ l₁ 0 b
 unfolding armKind armLow armHigh armHead sees opening
 built-in {c = c} {u = u} b d n p e one six = finish d (record {
   roles = λ i. d .roles i tt;
@@ -232,22 +233,22 @@ built-in {c = c} {u = u} b d n p e one six = finish d (record {
 })
 
 -- A path in a head, from its first `::` on: the names, then the pairs.
-pub enum-kind : has (1 ∷ 3 ∷ 34 ∷ 38 ∷ []) 38 ≡ true
+pub enum-kind : has family.namesKept kind.EnumArm ≡ true
 unfolding has
 enum-kind = refl
 
 pub path-went : {x : Text} {st : State} {l : List ℕ} {ms : List Tok} {m : ℕ} {st₁ : State} {l₁ : List ℕ} {st₂ : State} {l₂ : List ℕ} {a b c : ℕ}
-    → NamesOn x 38 AnyN (nt 52 ∷ []) (nt 55 ∷ []) st l (word t.DoubleColon ∷ []) ms m a st₁ l₁ → Went x (nt 55 ∷ []) asItems ManyPairs st₁ l₁ st₂ l₂ b c → Went x (nt 52 ∷ []) asItems HeadPath st l st₂ l₂ a b
+    → NamesOn x kind.EnumArm AnyN (nt n-headPath ∷ []) (nt n-headPath-optional-LParen ∷ []) st l (word t.DoubleColon ∷ []) ms m a st₁ l₁ → Went x (nt n-headPath-optional-LParen ∷ []) asItems ManyPairs st₁ l₁ st₂ l₂ b c → Went x (nt n-headPath ∷ []) asItems HeadPath st l st₂ l₂ a b
 unfolding sees counted
 path-went {x} {st₁ = st₁} d q =
-    let z = then-went (d .amid) q (λ n g. q .info .roles 38 n) in
+    let z = then-went (d .amid) q (λ n g. q .info .roles kind.EnumArm n) in
     let P = sorts (raw x (st₁ .at) (q .items)) in
     finish z (record {
       roles = λ n. z .roles n tt;
       count-is = ap nameCount (z .sorted) ∙ nameCount-other t.DoubleColon (d .W ++ P) (sign-no-name t.DoubleColon tt) ∙ nameCount-append (d .W) P ∙ omega (arith, d .count-is, q .info .names);
       bounded = d .bounded;
       path = ap (sees t.DoubleColon) (z .sorted);
-      patterns = ap (counted (span 13 16)) (z .sorted) ∙ counted-append (span 13 16) (d .W) P ∙ omega (arith, d .no-parts (span 13 16), q .info .patterns);
+      patterns = ap (counted family.patterns) (z .sorted) ∙ counted-append family.patterns (d .W) P ∙ omega (arith, d .no-parts family.patterns, q .info .patterns);
     })
 
 -- The state with a record more is at the same token.
@@ -256,25 +257,25 @@ unfolding reserved
 reserved-class a e = ap (λ (y : State). y .class) e
 
 -- A word that is a record of its own.
-pub named-word : {x : Text} {st st₁ st₂ : State} {l l′ : List ℕ} (k : ℕ) → Ready x st → st .class ≡ suc k → Moved x st st₁ → Put l (st₁ .out) 2 (st .start) (st .stop) 0 0 1 l′ → st₂ ≡ reserved st₁
-    → Parsed x (tok (suc k) ∷ []) asItems (Named (tokAt x (st .at)) 2 0 0) st l l′ (Next st₂ 0 0)
-named-word {x} {st} k y e v put more =
+pub named-token : {x : Text} {st st₁ st₂ : State} {l l′ : List ℕ} (c : ℕ) → 0 < c → Ready x st → st .class ≡ c → Moved x st st₁ → Put l (st₁ .out) kind.Name (st .start) (st .stop) 0 0 1 l′ → st₂ ≡ reserved st₁
+    → Parsed x (tok c ∷ []) asItems (Named (tokAt x (st .at)) kind.Name 0 0) st l l′ (Next st₂ 0 0)
+named-token {x} {st} c pos y e v put more =
     let f = sym (y .stands .class-is) ∙ e in
-    let i = inside x (st .at) k f in
-    read (child-went (y .stands) i v put more (omega (arith, y .few, y .stands .within, y .short)) (suc k) (reads-tok x (suc k) f i))
+    let i = inside x (st .at) pos f in
+    read (child-went (y .stands) i v put more (omega (arith, y .few, y .stands .within, y .short)) c (reads-tok x c f i))
 
 -- The first name of a path, which is a record,
-pub named-first : {x : Text} {st : State} {l l₁ : List ℕ} {c : State} {a b : ℕ} (s r : Sym) → Ready x st → expand table 44 (st .class) ≡ some (s ∷ r ∷ []) → has t.identifiers (st .class) ≡ true
-    → Parsed x (s ∷ []) asItems (Named (tokAt x (st .at)) 2 0 0) st l l₁ (Next c a b) → Amid x 38 AnyN (nt 44 ∷ []) (r ∷ []) st l (word (st .class) ∷ []) (tokAt x (st .at) ∷ []) 0 c l₁
+pub named-first : {x : Text} {st : State} {l l₁ : List ℕ} {c : State} {a b : ℕ} (s r : Sym) → Ready x st → expand table n-head (st .class) ≡ some (s ∷ r ∷ []) → has t.identifiers (st .class) ≡ true
+    → Parsed x (s ∷ []) asItems (Named (tokAt x (st .at)) kind.Name 0 0) st l l₁ (Next c a b) → Amid x kind.EnumArm AnyN (nt n-head ∷ []) (r ∷ []) st l (word (st .class) ∷ []) (tokAt x (st .at) ∷ []) 0 c l₁
 named-first {x} {st} {l} {l₁} {c} s r y e h p =
     let f : tokAt x (st .at) .class ≡ st .class = sym (class-at (x .ts) (st .at)) ∙ sym (y .stands .class-is) in
-    let d = then-turns (s ∷ r ∷ []) (starts 38 AnyN (nt 44 ∷ []) l (y .stands)) flat-head (ap (expand table 44) (sym (y .stands .class-is)) ∙ e) in
-    let z = then-named d p refl (name-role 38 (tokAt x (st .at) .class) enum-kind (ap (has t.identifiers) f ∙ h)) in
-    subst (λ k. Amid x 38 AnyN (nt 44 ∷ []) (r ∷ []) st l (word k ∷ []) (tokAt x (st .at) ∷ []) 0 c l₁) f z
+    let d = then-turns (s ∷ r ∷ []) (starts kind.EnumArm AnyN (nt n-head ∷ []) l (y .stands)) flat-head (ap (expand table n-head) (sym (y .stands .class-is)) ∙ e) in
+    let z = then-named d p refl (name-role kind.EnumArm (tokAt x (st .at) .class) enum-kind (ap (has t.identifiers) f ∙ h)) in
+    subst (λ k. Amid x kind.EnumArm AnyN (nt n-head ∷ []) (r ∷ []) st l (word k ∷ []) (tokAt x (st .at) ∷ []) 0 c l₁) f z
 
 -- and the arm with that path.
 pub arm-went : {x : Text} {st : State} {l : List ℕ} {c : ℕ} {ms : List Tok} {m : ℕ} {st₁ : State} {l₁ : List ℕ} {st₂ : State} {l₂ : List ℕ} {a b : ℕ} {r : Step} → has t.identifiers c ≡ true
-    → Amid x 38 AnyN (nt 44 ∷ []) (nt 52 ∷ []) st l (word c ∷ []) ms m st₁ l₁ → Parsed x (nt 52 ∷ []) asItems HeadPath st₁ l₁ l₂ r → r ≡ Next st₂ a b → Went x (nt 44 ∷ []) asItems ArmHead st l st₂ l₂ (a + 1) b
+    → Amid x kind.EnumArm AnyN (nt n-head ∷ []) (nt n-headPath ∷ []) st l (word c ∷ []) ms m st₁ l₁ → Parsed x (nt n-headPath ∷ []) asItems HeadPath st₁ l₁ l₂ r → r ≡ Next st₂ a b → Went x (nt n-head ∷ []) asItems ArmHead st l st₂ l₂ (a + 1) b
 unfolding armKind armLow armHigh armHead counted
 arm-went {x} {c = c} {st₁ = st₁} {a = a} {b = b} h d p e =
     let q = went e p in
@@ -286,7 +287,7 @@ arm-went {x} {c = c} {st₁ = st₁} {a = a} {b = b} h d p e =
       roles = λ n. rw k (z .roles n tt);
       decides = λ v o.
           let n₁ : nameCount (word c ∷ (P ++ v)) ≡ a + 1 = nameCount-name c (P ++ v) h ∙ omega (arith, nameCount-append P v, i .count-is, o .names) in
-          let n₂ : counted (span 13 16) (word c ∷ (P ++ v)) ≡ b = counted-append (span 13 16) P v ∙ omega (arith, i .patterns, o .patterns) in
+          let n₂ : counted family.patterns (word c ∷ (P ++ v)) ≡ b = counted-append family.patterns P v ∙ omega (arith, i .patterns, o .patterns) in
           let s : sees t.DoubleColon (word c ∷ (P ++ v)) ≡ true = seen-second t.DoubleColon (word c ∷ []) (P ++ v) (seen-first t.DoubleColon P v (i .path)) in
           ap (λ (w : List Sort). armHead (w ++ v)) (z .sorted) ∙ (rw (s, n₁, n₂, k) refl);
       low-is = λ f. absurd (omega arith);
@@ -302,15 +303,15 @@ pub unseen-nil : sees t.DoubleColon [] ≡ false
 unfolding sees
 unseen-nil = refl
 
-pub none-place : placeIn 0 1 builtIn t.None ≡ 3
+pub none-place : placeIn 0 arm.Left armWords t.None ≡ arm.None
 unfolding placeIn
 none-place = refl
 
-pub false-place : placeIn 0 1 builtIn t.false ≡ 5
+pub false-place : placeIn 0 arm.Left armWords t.false ≡ arm.False
 unfolding placeIn
 false-place = refl
 
-pub true-place : placeIn 0 1 builtIn t.true ≡ 6
+pub true-place : placeIn 0 arm.Left armWords t.true ≡ arm.True
 unfolding placeIn
 true-place = refl
 
@@ -326,10 +327,10 @@ pub unseen-pair : (P : List Sort) → sees t.DoubleColon P ≡ false → sees t.
 unfolding sees
 unseen-pair P e = unseen-append t.DoubleColon P (word t.RParen ∷ []) e refl
 
-pub wrapper-low : {b : ℕ} (c : ℕ) → b ≡ cond (eqb c t.Left) 1 (cond (eqb c t.Right) 2 4) → (1 ≤ b) × (b ≤ 6)
+pub wrapper-low : {b : ℕ} (c : ℕ) → b ≡ cond (eqb c t.Left) arm.Left (cond (eqb c t.Right) arm.Right arm.Some) → (arm.Left ≤ b) × (b ≤ arm.True)
 wrapper-low {b} c e = go (eqb c t.Left) (eqb c t.Right) e
   where
-    go : (u v : Bool) → b ≡ cond u 1 (cond v 2 4) → (1 ≤ b) × (b ≤ 6)
+    go : (u v : Bool) → b ≡ cond u arm.Left (cond v arm.Right arm.Some) → (arm.Left ≤ b) × (b ≤ arm.True)
     go true v e = (omega arith, omega arith)
     go false true e = (omega arith, omega arith)
     go false false e = (omega arith, omega arith)

@@ -12,7 +12,7 @@ use Rattle.text.specs.Table.{first-of, second-of}
 use Rattle.own.specs.Places.{or-cases}
 use Rattle.kinds.specs.Shape.{has}
 use Rattle.grammar.specs.Records.{placeIn}
-use Rattle.parse.proofs.Sweep.{run, sweep, low-all}
+use Rattle.parse.proofs.Sweep.{run, sweep, low-all, pastClasses}
 
 -- A value at a key.
 pub keyed : (f : ℕ → ℕ) {v x : ℕ} (k : ℕ) → T (eqb v (f k)) → x ≡ k → v ≡ f x
@@ -32,22 +32,22 @@ no-key (k ∷ ks) x n t = go (or-cases (eqb k x) (has ks x) t) (no-key ks x (n .
     go (inl u) r = n .1 (sym (eqb→eq k x u))
     go (inr u) r = r u
 
--- The last arm: a value at all classes but the keys, by one test below 63, and past that.
-pub unkeyed : (f : ℕ → ℕ) {v x : ℕ} (ks : List ℕ) → T (run (λ k. has ks k || eqb v (f k)) 63 0) → (63 ≤ x → f x ≡ v) → NoKey ks x → v ≡ f x
-unkeyed f {v} {x} ks t past n = go (ltb x 63) refl
+-- The last arm: a value at all classes but the keys, by one test over the classes, and past them.
+pub unkeyed : (f : ℕ → ℕ) {v x : ℕ} (ks : List ℕ) → T (run (λ k. has ks k || eqb v (f k)) pastClasses 0) → (pastClasses ≤ x → f x ≡ v) → NoKey ks x → v ≡ f x
+unkeyed f {v} {x} ks t past n = go (ltb x pastClasses) refl
   where
     one : T (has ks x) ⊎ T (eqb v (f x)) → v ≡ f x
     one (inl a) = absurd (no-key ks x n a)
     one (inr a) = eqb→eq v (f x) a
 
-    go : (b : Bool) → ltb x 63 ≡ b → v ≡ f x
-    go true e = one (or-cases (has ks x) (eqb v (f x)) (sweep (λ k. has ks k || eqb v (f k)) t x (ltb-true x 63 e)))
-    go false e = sym (past (ltb-false x 63 e))
+    go : (b : Bool) → ltb x pastClasses ≡ b → v ≡ f x
+    go true e = one (or-cases (has ks x) (eqb v (f x)) (sweep (λ k. has ks k || eqb v (f k)) t x (ltb-true x pastClasses e)))
+    go false e = sym (past (ltb-false x pastClasses e))
 
 -- Past the classes nothing has a place among them.
-pub place-past : (d n : ℕ) (l : List ℕ) (c : ℕ) → T (low-all l) → 63 ≤ c → placeIn d n l c ≡ d
+pub place-past : (d n : ℕ) (l : List ℕ) (c : ℕ) → T (low-all l) → pastClasses ≤ c → placeIn d n l c ≡ d
 unfolding placeIn
 place-past d n [] c t h = refl
 place-past d n (k ∷ l) c t h =
-    let lt = ltb→lt k 63 (first-of (ltb k 63) (low-all l) t) in
-    rw (ne-eqb c k (λ e. omega arith)) (place-past d (suc n) l c (second-of (ltb k 63) (low-all l) t) h)
+    let lt = ltb→lt k pastClasses (first-of (ltb k pastClasses) (low-all l) t) in
+    rw (ne-eqb c k (λ e. omega arith)) (place-past d (suc n) l c (second-of (ltb k pastClasses) (low-all l) t) h)

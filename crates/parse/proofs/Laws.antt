@@ -46,8 +46,8 @@ class-at (t ∷ ts) zero = refl
 class-at (t ∷ ts) (suc i) = class-at ts i
 
 -- a token of a class other than 0 is before the end
-pub inside : (x : Text) (i k : ℕ) → getD (classes x) i 0 ≡ suc k → i < length (x .ts)
-inside x i k e = go (decLt i (length (classes x)))
+pub inside : (x : Text) (i : ℕ) {c : ℕ} → 0 < c → getD (classes x) i 0 ≡ c → i < length (x .ts)
+inside x i pos e = go (decLt i (length (classes x)))
   where
     go : Dec (i < length (classes x)) → i < length (x .ts)
     go (yes h) = subst (λ n. i < n) (length-classes (x .ts)) h

@@ -1,5 +1,6 @@
 pub mod Lists
 pub mod Sweep
+pub mod ChoiceTables
 pub mod Choices
 pub mod Keys
 pub mod LiteralHead
@@ -30,6 +31,7 @@ pub mod Elements
 pub mod CallRows
 pub mod CallForms
 pub mod CallLaws
+pub mod NameRules
 pub mod ArmOrder
 pub mod ArmLaws
 pub mod ArmTurned

@@ -19,7 +19,9 @@ use Rattle.own.specs.Tree as own
 use Rattle.own.specs.Tree.{Tok, Items, mark, sub, marks}
 use Rattle.own.specs.Law.{Sort, word, child}
 use Rattle.own.specs.Rules.{sorts}
+use Rattle.own.specs.Kinds as kind
 use Rattle.kinds.specs.Shape.{has}
+use Rattle.kinds.specs.Families as family
 use Rattle.lexer.specs.Classes as t
 use Rattle.grammar.specs.Tables.{means, table}
 use Rattle.grammar.specs.Records.{Role, aMark, asName, asNumber, roleOf, placed, arranged}
@@ -58,11 +60,11 @@ conds false false = refl
 
 pub comma-mark : (K : ℕ) → roleOf K t.Comma ≡ aMark
 unfolding roleOf has
-comma-mark K = conds (has (1 ∷ 3 ∷ 34 ∷ 38 ∷ []) K) (eqb K 39)
+comma-mark K = conds (has family.namesKept K) (eqb K kind.Call)
 
 pub semi-mark : (K : ℕ) → roleOf K t.Semi ≡ aMark
 unfolding roleOf has
-semi-mark K = conds (has (1 ∷ 3 ∷ 34 ∷ 38 ∷ []) K) (eqb K 39)
+semi-mark K = conds (has family.namesKept K) (eqb K kind.Call)
 
 pub only-append : (c : ℕ) (w v : List Sort) → Only c w → Only c v → Only c (w ++ v)
 only-append c [] v o p = p
@@ -159,7 +161,7 @@ module _ {L T A : ℕ} {closes : ℕ → Type 0} (z : Rows L T A closes) {x : Te
         again-less c mv = let h = mv .ahead (here-in c) in omega (arith, item .amid .lays .few, item .amid .lays .sized, v .amid .lays .few, v .amid .lays .sized, h, before-item)
           where
             here-in : st₂ .class ≡ t.Comma → st₂ .at < length (x .ts)
-            here-in c = inside x (st₂ .at) 16 (sym (item .amid .lays .stands .class-is) ∙ c)
+            here-in c = inside x (st₂ .at) (omega arith) (sym (item .amid .lays .stands .class-is) ∙ c)
 
             before-item : here .at ≤ st₂ .at
             before-item = went-ahead p e

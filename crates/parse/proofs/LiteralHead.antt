@@ -7,23 +7,26 @@ use native.Mathlib.Omega.{arith}
 use borrow.Author.Tests.{ne-eqb}
 use lib.Dec.{eqb}
 use Rattle.grammar.specs.Records.{plain, literalHead}
+use Rattle.lexer.specs.Classes as t
+use Rattle.own.specs.Kinds as kind
+use Rattle.parse.proofs.Sweep.{pastClasses}
 
-unfoldable pub kind : ℕ → ℕ
-kind c = literalHead c .kind
+unfoldable pub kindOf : ℕ → ℕ
+kindOf c = literalHead c .kind
 
 unfoldable pub low : ℕ → ℕ
 low c = literalHead c .low
 
-past : (c : ℕ) → 63 ≤ c → literalHead c ≡ plain 28
+past : (c : ℕ) → pastClasses ≤ c → literalHead c ≡ plain kind.ParameterValue
 unfolding literalHead
 past c h =
-    let n : (k : ℕ) → k < 63 → eqb c k ≡ false = (λ k l. ne-eqb c k (λ e. omega arith)) in
-    rw (n 61 (omega arith), n 62 (omega arith), n 28 (omega arith), n 29 (omega arith), n 30 (omega arith), n 34 (omega arith)) refl
+    let n : (k : ℕ) → k < pastClasses → eqb c k ≡ false = (λ k l. ne-eqb c k (λ e. omega arith)) in
+    rw (n t.false (omega arith), n t.true (omega arith), n t.DecLiteral (omega arith), n t.HexLiteral (omega arith), n t.BinLiteral (omega arith), n t.Witness (omega arith)) refl
 
-pub kind-past : (c : ℕ) → 63 ≤ c → kind c ≡ 28
-unfolding kind
+pub kind-past : (c : ℕ) → pastClasses ≤ c → kindOf c ≡ kind.ParameterValue
+unfolding kindOf
 kind-past c h = ap (λ x. x .kind) (past c h)
 
-pub low-past : (c : ℕ) → 63 ≤ c → low c ≡ 0
+pub low-past : (c : ℕ) → pastClasses ≤ c → low c ≡ 0
 unfolding low
 low-past c h = ap (λ x. x .low) (past c h)

@@ -19,15 +19,21 @@ use Rattle.own.specs.Law.{Sort, word, child}
 use Rattle.own.specs.Rules.{sorts}
 use Rattle.text.specs.Widths.{recWide}
 use Rattle.own.specs.Words.{sizes, wordGroups}
+use Rattle.own.specs.Kinds as kind
 use Rattle.grammar.specs.Shapes.{shapes}
 use Rattle.grammar.specs.Tables.{means, table}
 use Rattle.grammar.specs.Records.{head, plain, Role, placed, arranged, forms, formOf}
 use Rattle.grammar.specs.Faults.{faultsAt, earliest}
+use Rattle.grammar.specs.ShapeKind.{MatchShape}
+use Rattle.grammar.specs.TablesIndex.{n-expression, n-many-arm, n-single}
+use Rattle.lexer.specs.Classes as t
 use Rattle.parse.specs.Contract.{Text, classes, tokAt, raw, fault, Stands, Ready, Moved, Eaten, ate, Put, Judged, asItems, asNode, Went, Parsed, Node, ExprKind}
 use Rattle.parse.specs.Infos.{Armed, Arms, orderFrom, orderKind, orderFault, firstNode, Arranged}
 use Rattle.parse.specs.declared.State.{State}
 use Rattle.parse.specs.declared.Step.{Step}
 use Rattle.parse.specs.declared.Step.the-variants.{Next}
+use Rattle.parse.specs.Choice as choice
+use Rattle.parse.specs.Orders as order
 use Rattle.parse.proofs.Chosen.{where-chosen}
 use Rattle.parse.proofs.Roles.{keeping, keeping-mark, sign-mark}
 use Rattle.parse.proofs.Lists.{joined}
@@ -42,28 +48,28 @@ use Rattle.parse.proofs.ArmLaws.{wholeMatch, match-kind, match-fault}
 use Rattle.parse.proofs.ArmTurned.{scrutiny, arranges, arranges-long}
 
 abbrev pub matchRhs : List Sym
-matchRhs = tok 9 ∷ nt 17 ∷ tok 24 ∷ nt 25 ∷ tok 25 ∷ []
+matchRhs = tok t.Match ∷ nt n-expression ∷ tok t.LBrace ∷ nt n-many-arm ∷ tok t.RBrace ∷ []
 
-pub match-rule : Rule 21 4 17 matchRhs
+pub match-rule : Rule n-single choice.Match MatchShape matchRhs
 unfolding ex means kindsOf shapes row table alt pick
-match-rule = record { C = 6; category = refl; kind = refl; rule = refl }
+match-rule = record { category = refl; from-one = refl; kind = refl; rule = refl }
 
-pub at-match : (c : ℕ) → choose table 21 c ≡ 5 → c ≡ 9
+pub at-match : (c : ℕ) → choose table n-single c ≡ choice.Match → c ≡ t.Match
 unfolding choose row table look
-at-match c e = eqb→eq c 9 (where-chosen 21 5 (λ a. eqb a 9) tt tt c e)
+at-match c e = eqb→eq c t.Match (where-chosen n-single choice.Match (λ a. eqb a t.Match) tt tt c e)
 
 -- The kind of a match: it keeps all tokens, and is that of an expression.
-kinds-two : (P : ℕ → Type 0) → P 35 → P 36 → (b : Bool) → P (cond b 36 35)
+kinds-two : (P : ℕ → Type 0) → P kind.Match → P kind.EnumMatch → (b : Bool) → P (cond b kind.EnumMatch kind.Match)
 kinds-two P p q true = q
 kinds-two P p q false = p
 
 pub order-keeping : (o : ℕ) → T (keeping (orderKind o))
 unfolding orderKind
-order-keeping o = kinds-two (λ k. T (keeping k)) tt tt (eqb o 7 || eqb o 12)
+order-keeping o = kinds-two (λ k. T (keeping k)) tt tt (eqb o order.Enums || eqb o order.Mixed)
 
 pub order-expr : (o : ℕ) → ExprKind (orderKind o)
 unfolding orderKind
-order-expr o = kinds-two ExprKind (omega arith, omega arith, λ e. omega arith, λ e. omega arith) (omega arith, omega arith, λ e. omega arith, λ e. omega arith) (eqb o 7 || eqb o 12)
+order-expr o = kinds-two ExprKind (omega arith, omega arith, λ e. omega arith, λ e. omega arith) (omega arith, omega arith, λ e. omega arith, λ e. omega arith) (eqb o order.Enums || eqb o order.Mixed)
 
 -- Records of such a kind hold the items as they are,
 pub arranged-keeping : (K n : ℕ) → T (keeping K) → (is : Items) → arranged K n is ≡ is
@@ -107,35 +113,35 @@ judged-stands {x} s j =
     }
 
 -- The steps: `match`,
-module _ {x : Text} (K : ℕ) {st r : State} {l : List ℕ} (o : Opened x st r none) (c : st .class ≡ 9) {a : State} (v : Moved x r a) where
-  pub match₁ : Amid x K AnyN matchRhs (nt 17 ∷ tok 24 ∷ nt 25 ∷ tok 25 ∷ []) r l (word 9 ∷ []) (tokAt x (r .at) ∷ []) 1 a l
-  match₁ = advances (starts K AnyN matchRhs l (o .stands)) (o .class-is ∙ c) (omega arith) v (sign-mark K 9 tt)
+module _ {x : Text} (K : ℕ) {st r : State} {l : List ℕ} (o : Opened x st r none) (c : st .class ≡ t.Match) {a : State} (v : Moved x r a) where
+  pub match₁ : Amid x K AnyN matchRhs (nt n-expression ∷ tok t.LBrace ∷ nt n-many-arm ∷ tok t.RBrace ∷ []) r l (word t.Match ∷ []) (tokAt x (r .at) ∷ []) 1 a l
+  match₁ = advances (starts K AnyN matchRhs l (o .stands)) (o .class-is ∙ c) (omega arith) v (sign-mark K t.Match tt)
 
   -- an expression,
-  module _ {l₁ : List ℕ} {s₁ : Step} {b : State} {i j : ℕ} (p₁ : Parsed x (nt 17 ∷ []) asItems (Node ExprKind) a l l₁ s₁) (e₁ : s₁ ≡ Next b i j) where
-    pub match₂ : Noded x K AnyN matchRhs (tok 24 ∷ nt 25 ∷ tok 25 ∷ []) r l (word 9 ∷ []) (tokAt x (r .at) ∷ []) 1 ExprKind b l₁
+  module _ {l₁ : List ℕ} {s₁ : Step} {b : State} {i j : ℕ} (p₁ : Parsed x (nt n-expression ∷ []) asItems (Node ExprKind) a l l₁ s₁) (e₁ : s₁ ≡ Next b i j) where
+    pub match₂ : Noded x K AnyN matchRhs (tok t.LBrace ∷ nt n-many-arm ∷ tok t.RBrace ∷ []) r l (word t.Match ∷ []) (tokAt x (r .at) ∷ []) 1 ExprKind b l₁
     match₂ = then-node match₁ p₁ e₁
 
     -- the brace.
-    module _ {s₂ : Step} {d : State} {i′ j′ : ℕ} (p₂ : Eaten x b 24 s₂) (e₂ : s₂ ≡ Next d i′ j′) where
-      pub match₃ : Amid x K AnyN matchRhs (nt 25 ∷ tok 25 ∷ []) r l (word 9 ∷ child (match₂ .kind) (match₂ .low) (match₂ .high) (match₂ .first) ∷ word 24 ∷ []) (tokAt x (r .at) ∷ tokAt x (b .at) ∷ []) 2 d l₁
-      match₃ = then-eats (match₂ .amid) (omega arith) p₂ e₂ (sign-mark K 24 tt)
+    module _ {s₂ : Step} {d : State} {i′ j′ : ℕ} (p₂ : Eaten x b t.LBrace s₂) (e₂ : s₂ ≡ Next d i′ j′) where
+      pub match₃ : Amid x K AnyN matchRhs (nt n-many-arm ∷ tok t.RBrace ∷ []) r l (word t.Match ∷ child (match₂ .kind) (match₂ .low) (match₂ .high) (match₂ .first) ∷ word t.LBrace ∷ []) (tokAt x (r .at) ∷ tokAt x (b .at) ∷ []) 2 d l₁
+      match₃ = then-eats (match₂ .amid) (omega arith) p₂ e₂ (sign-mark K t.LBrace tt)
 
 -- All of a match: s₁ is what the expression answers, s₂ the brace, s₃ the arms,
-module _ {x : Text} {st r a b d f : State} {l l₁ l₂ : List ℕ} {s₁ s₂ s₃ : Step} {order mid i₁ j₁ i₂ j₂ : ℕ} (o : Opened x st r none) (c : st .class ≡ 9) (v : Moved x r a)
-    (p₁ : Parsed x (nt 17 ∷ []) asItems (Node ExprKind) a l l₁ s₁) (e₁ : s₁ ≡ Next b i₁ j₁) (p₂ : Eaten x b 24 s₂) (e₂ : s₂ ≡ Next d i₂ j₂)
-    (p₃ : Parsed x (nt 25 ∷ []) asItems (Arms d) d l₁ l₂ s₃) (e₃ : s₃ ≡ Next f order mid) where
+module _ {x : Text} {st r a b d f : State} {l l₁ l₂ : List ℕ} {s₁ s₂ s₃ : Step} {order mid i₁ j₁ i₂ j₂ : ℕ} (o : Opened x st r none) (c : st .class ≡ t.Match) (v : Moved x r a)
+    (p₁ : Parsed x (nt n-expression ∷ []) asItems (Node ExprKind) a l l₁ s₁) (e₁ : s₁ ≡ Next b i₁ j₁) (p₂ : Eaten x b t.LBrace s₂) (e₂ : s₂ ≡ Next d i₂ j₂)
+    (p₃ : Parsed x (nt n-many-arm ∷ []) asItems (Arms d) d l₁ l₂ s₃) (e₃ : s₃ ≡ Next f order mid) where
   abbrev K : ℕ
   K = orderKind order
 
-  abbrev inner : Noded x K AnyN matchRhs (tok 24 ∷ nt 25 ∷ tok 25 ∷ []) r l (word 9 ∷ []) (tokAt x (r .at) ∷ []) 1 ExprKind b l₁
+  abbrev inner : Noded x K AnyN matchRhs (tok t.LBrace ∷ nt n-many-arm ∷ tok t.RBrace ∷ []) r l (word t.Match ∷ []) (tokAt x (r .at) ∷ []) 1 ExprKind b l₁
   inner = match₂ K o c v p₁ e₁
 
-  abbrev third : Amid x K AnyN matchRhs (nt 25 ∷ tok 25 ∷ []) r l
-      (word 9 ∷ child (inner .kind) (inner .low) (inner .high) (inner .first) ∷ word 24 ∷ []) (tokAt x (r .at) ∷ tokAt x (b .at) ∷ []) 2 d l₁
+  abbrev third : Amid x K AnyN matchRhs (nt n-many-arm ∷ tok t.RBrace ∷ []) r l
+      (word t.Match ∷ child (inner .kind) (inner .low) (inner .high) (inner .first) ∷ word t.LBrace ∷ []) (tokAt x (r .at) ∷ tokAt x (b .at) ∷ []) 2 d l₁
   third = match₃ K o c v p₁ e₁ p₂ e₂
 
-  abbrev q : Went x (nt 25 ∷ []) asItems (Arms d) d l₁ f l₂ order mid
+  abbrev q : Went x (nt n-many-arm ∷ []) asItems (Arms d) d l₁ f l₂ order mid
   q = went e₃ p₃
 
   abbrev J : Items
@@ -144,12 +150,12 @@ module _ {x : Text} {st r a b d f : State} {l l₁ l₂ : List ℕ} {s₁ s₂ s
   abbrev pieces : List Sort
   pieces = wholeMatch (inner .kind) (inner .low) (inner .high) (inner .first) (sorts J)
 
-  pub match₄ : Grown x K AnyN matchRhs (tok 25 ∷ []) r l
-      (word 9 ∷ child (inner .kind) (inner .low) (inner .high) (inner .first) ∷ word 24 ∷ sorts J)
+  pub match₄ : Grown x K AnyN matchRhs (tok t.RBrace ∷ []) r l
+      (word t.Match ∷ child (inner .kind) (inner .low) (inner .high) (inner .first) ∷ word t.LBrace ∷ sorts J)
       (tokAt x (r .at) ∷ tokAt x (b .at) ∷ []) (2 + q .m) f l₂ (joined (third .L) (q .L))
-  match₄ = grows (nt 25 ∷ []) (tok 25 ∷ []) third q (λ n h. arranged-arms K n J (q .info .armed) ∙ sym (q .info .same)) refl (ap (λ (u : List Tok). tokAt x (r .at) ∷ tokAt x (b .at) ∷ u) (marks-arms J (q .info .armed))) refl
+  match₄ = grows (nt n-many-arm ∷ []) (tok t.RBrace ∷ []) third q (λ n h. arranged-arms K n J (q .info .armed) ∙ sym (q .info .same)) refl (ap (λ (u : List Tok). tokAt x (r .at) ∷ tokAt x (b .at) ∷ u) (marks-arms J (q .info .armed))) refl
 
-  third-sorts : sorts (third .L) ≡ word 9 ∷ child (inner .kind) (inner .low) (inner .high) (inner .first) ∷ word 24 ∷ []
+  third-sorts : sorts (third .L) ≡ word t.Match ∷ child (inner .kind) (inner .low) (inner .high) (inner .first) ∷ word t.LBrace ∷ []
   third-sorts = ap sorts (sym (third .roles 0 tt) ∙ arranged-keeping K 0 (order-keeping order) (raw x (r .at) (third .pre))) ∙ third .sorted
 
   same-sorts : sorts (q .L) ≡ sorts J
@@ -159,21 +165,21 @@ module _ {x : Text} {st r a b d f : State} {l l₁ l₂ : List ℕ} {s₁ s₂ s
   order-here = q .info .order-is ∙ ap (orderFrom 0) (sym same-sorts)
 
   -- and s₄ the other brace.
-  module _ {g : State} {s₄ : Step} {i₄ j₄ : ℕ} (p₄ : Eaten x f 25 s₄) (e₄ : s₄ ≡ Next g i₄ j₄) where
+  module _ {g : State} {s₄ : Step} {i₄ j₄ : ℕ} (p₄ : Eaten x f t.RBrace s₄) (e₄ : s₄ ≡ Next g i₄ j₄) where
     -- All symbols were read; what is laid is known.
     pub match₅ : Grown x K AnyN matchRhs [] r l pieces (tokAt x (r .at) ∷ tokAt x (b .at) ∷ tokAt x (f .at) ∷ []) (2 + q .m + 1) g l₂ (joined (third .L) (joined (q .L) (mark (tokAt x (f .at)) own.none)))
     match₅ =
         let e = eaten p₄ e₄ in
-        let z = grown-eats 24 (match₄ .amid) (e .0) (e .1) (sign-mark K 25 tt) in
+        let z = grown-eats t.RBrace (omega arith) (match₄ .amid) (e .0) (e .1) (sign-mark K t.RBrace tt) in
         record { amid = z .amid; is = z .is ∙ ap (λ (u : Items). joined u (mark (tokAt x (f .at)) own.none)) (match₄ .is) ∙ joined-assoc (third .L) (q .L) (mark (tokAt x (f .at)) own.none) }
 
-    pub match-decides : decided x 17 pieces (tokAt x (r .at) ∷ tokAt x (b .at) ∷ tokAt x (f .at) ∷ []) ≡ head K 0 0
+    pub match-decides : decided x MatchShape pieces (tokAt x (r .at) ∷ tokAt x (b .at) ∷ tokAt x (f .at) ∷ []) ≡ head K 0 0
     unfolding formOf forms
     match-decides =
         match-kind _ _ (inner .kind) (inner .low) (inner .high) (inner .first) (sorts J) (inner .its-kind .3) (q .info .armed)
         ∙ ap (λ (u : ℕ). plain (orderKind u)) (sym (q .info .order-is))
 
-    pub match-refuses : Ready x st → (is : Items) → sorts is ≡ pieces → marks is ≡ tokAt x (r .at) ∷ tokAt x (b .at) ∷ tokAt x (f .at) ∷ [] → earliest (faultsAt (x .draft) 17 is) ≡ fault (orderFault order) (st .start)
+    pub match-refuses : Ready x st → (is : Items) → sorts is ≡ pieces → marks is ≡ tokAt x (r .at) ∷ tokAt x (b .at) ∷ tokAt x (f .at) ∷ [] → earliest (faultsAt (x .draft) MatchShape is) ≡ fault (orderFault order) (st .start)
     match-refuses y is e₁′ e₂′ =
         match-fault (x .draft) is (inner .kind) (inner .low) (inner .high) (inner .first) (sorts J)
         (inner .its-kind .2) (inner .its-kind .3) (q .info .armed) e₁′ e₂′
@@ -213,7 +219,7 @@ module _ {x : Text} {st r a b d f : State} {l l₁ l₂ : List ℕ} {s₁ s₂ s
 
       -- The record of the match.
       pub match-shut : {l′ : List ℕ} {z : State} → Ready x st → Put l₃ (st .out) K (st .start) (g .end) 0 0 (g .out - st .out) l′ → Judged st g (orderFault order) (st .start) z
-          → Went x matchRhs (asNode 17) (Node ExprKind) st l z l′ 0 0
+          → Went x matchRhs (asNode MatchShape) (Node ExprKind) st l z l′ 0 0
       match-shut y put j =
-          shuts-in 17 y o (match₅ .amid) (omega arith) match-decides tt ExprKind (order-expr order) match-long match-words put refl (record { at-is = j .at-is; out-is = j .out-is })
-          (judged-stands (match₅ .amid .lays .stands) j) (judged-kept 17 y o (match₅ .amid) (omega arith) match-decides tt j (match-refuses y))
+          shuts-in MatchShape y o (match₅ .amid) (omega arith) match-decides tt ExprKind (order-expr order) match-long match-words put refl (record { at-is = j .at-is; out-is = j .out-is })
+          (judged-stands (match₅ .amid .lays .stands) j) (judged-kept MatchShape y o (match₅ .amid) (omega arith) match-decides tt j (match-refuses y))

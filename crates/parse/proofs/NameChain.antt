@@ -13,13 +13,15 @@ use Rattle.own.specs.Tree as own
 use Rattle.own.specs.Tree.{Tok, Items, mark, sub, marks}
 use Rattle.own.specs.Law.{Sort, word}
 use Rattle.own.specs.Rules.{sorts}
+use Rattle.own.specs.Kinds as kind
 use Rattle.kinds.specs.Shape.{has}
 use Rattle.kinds.specs.Fields.{counted}
+use Rattle.kinds.specs.Families as family
 use Rattle.lexer.specs.Classes as t
 use Rattle.grammar.specs.TablesIndex.{n-identifier, n-path-many-DoubleColon}
 use Rattle.grammar.specs.Records.{Role, asName, asNumber, roleOf, placed, arranged, lowHalf, highHalf, sees, nameCount}
 use Rattle.parse.proofs.Step.{the-type}
-use Rattle.parse.specs.Contract.{Text, tokAt, Stuck, raw, Info, asItems, Parsed, Named, Decimal, Names, valueAt}
+use Rattle.parse.specs.Contract.{Text, tokAt, Stuck, raw, Info, asItems, Parsed, Named, Decimal, Names, valueAt, countable}
 use Rattle.parse.specs.declared.State.{State}
 use Rattle.parse.specs.declared.Step.{Step}
 use Rattle.parse.specs.declared.Step.the-variants.{Next}
@@ -31,7 +33,7 @@ pub record NamesOn (x : Text) (K : ℕ) (N : ℕ → Type 0) (full left : List S
   pub own : List Tok
   pub k : ℕ
   pub count-is : nameCount W ≡ a
-  pub bounded : a ≤ 16777216
+  pub bounded : a ≤ countable
   pub others : (c : ℕ) → has t.identifiers c ≡ false → (c ≡ t.DoubleColon → ⊥) → sees c W ≡ false
   pub no-parts : (ks : List ℕ) → counted ks W ≡ 0
   pub amid : Amid x K N full left st l (w ++ W) (ms ++ own) (m + k) st₂ l₂
@@ -55,10 +57,10 @@ module _ {x : Text} {K : ℕ} {N : ℕ → Type 0} {full left : List Sym} {st : 
 
   -- A name that a function read.
   pub then-named : {s : Sym} {st₂ : State} {l₂ : List ℕ} {a b : ℕ} {r : Step} → Amid x K N full (s ∷ left) st l w ms m st₁ l₁
-      → Parsed x (s ∷ []) asItems (Named (tokAt x (st₁ .at)) 2 0 0) st₁ l₁ l₂ r → r ≡ Next st₂ a b → roleOf K (tokAt x (st₁ .at) .class) ≡ asName
+      → Parsed x (s ∷ []) asItems (Named (tokAt x (st₁ .at)) kind.Name 0 0) st₁ l₁ l₂ r → r ≡ Next st₂ a b → roleOf K (tokAt x (st₁ .at) .class) ≡ asName
       → Amid x K N full left st l (w ++ (word (tokAt x (st₁ .at) .class) ∷ [])) (ms ++ (tokAt x (st₁ .at) ∷ [])) m st₂ l₂
   unfolding arranged placed
-  then-named d p e role = named-as 2 0 0 d p e (λ n g. ap (λ (o : Role). placed o n (tokAt x (st₁ .at)) own.none) role)
+  then-named d p e role = named-as kind.Name 0 0 d p e (λ n g. ap (λ (o : Role). placed o n (tokAt x (st₁ .at)) own.none) role)
 
   -- A decimal that a function read, where it is the number of the record above.
   pub then-number : {s : Sym} {st₂ : State} {l₂ : List ℕ} {a b : ℕ} {r : Step} → Amid x K N full (s ∷ left) st l w ms m st₁ l₁
@@ -66,12 +68,12 @@ module _ {x : Text} {K : ℕ} {N : ℕ → Type 0} {full left : List Sym} {st : 
       → Amid x K N full left st l (w ++ (word (tokAt x (st₁ .at) .class) ∷ [])) (ms ++ (tokAt x (st₁ .at) ∷ [])) m st₂ l₂
   unfolding arranged placed
   then-number d p e role f =
-      named-as 40 (lowHalf (valueAt x (st₁ .at))) (highHalf (valueAt x (st₁ .at))) d p e
+      named-as kind.Number (lowHalf (valueAt x (st₁ .at))) (highHalf (valueAt x (st₁ .at))) d p e
       (λ n g. ap₂ (λ (o : Role) (k : ℕ). placed o k (tokAt x (st₁ .at)) own.none) role (f n g))
 
   -- Names joined by `::` that a function read,
   pub then-names : {st₂ : State} {l₂ : List ℕ} {a b : ℕ} {r : Step} → Amid x K N full (nt n-identifier ∷ nt n-path-many-DoubleColon ∷ left) st l w ms m st₁ l₁
-      → Parsed x (nt n-identifier ∷ nt n-path-many-DoubleColon ∷ []) asItems Names st₁ l₁ l₂ r → r ≡ Next st₂ a b → has (1 ∷ 3 ∷ 34 ∷ 38 ∷ []) K ≡ true
+      → Parsed x (nt n-identifier ∷ nt n-path-many-DoubleColon ∷ []) asItems Names st₁ l₁ l₂ r → r ≡ Next st₂ a b → has family.namesKept K ≡ true
       → NamesOn x K N full left st l w ms m a st₂ l₂
   then-names d p e h =
       let q = went e p in

@@ -16,14 +16,17 @@ use Rattle.theory.specs.Ebnf as shape
 use Rattle.theory.specs.Ebnf.{sortOf}
 use Rattle.theory.specs.Same.{ex}
 use Rattle.kinds.specs.Shape.{has}
+use Rattle.kinds.specs.Families as family
 use Rattle.lexer.specs.Classes as t
 use Rattle.grammar.specs.Tables.{means, table}
 use Rattle.grammar.specs.TablesIndex.{n-identifier, n-functionName, n-path-many-DoubleColon}
 use Rattle.own.specs.Tree as own
 use Rattle.own.specs.Tree.{Items, mark, sub}
+use Rattle.own.specs.Kinds as kind
 use Rattle.grammar.specs.Records.{Role, aMark, asName, asNumber, roleOf, placed, arranged}
-use Rattle.parse.specs.Contract.{nameSort}
-use Rattle.parse.proofs.Sweep.{run, sweep, beyond}
+use Rattle.parse.specs.Contract.{nameSort, callees}
+use Rattle.parse.specs.Choice as choice
+use Rattle.parse.proofs.Sweep.{run, sweep, beyond, pastClasses}
 use Rattle.parse.proofs.Choices.{name-past}
 use Rattle.parse.proofs.Chosen.{alone, is-alone, hit, miss, goes}
 
@@ -41,14 +44,14 @@ or-not true b t u = t
 or-not false b t u = absurd u
 
 -- A test of the classes that pass g, by one computation; none past them passes.
-where-passed : (f g : ℕ → Bool) → T (run (λ c. not (g c) || f c) 63 0) → ((c : ℕ) → 63 ≤ c → T (g c) → T (f c)) → (c : ℕ) → T (g c) → T (f c)
-where-passed f g t past c h = go (ltb c 63) refl
+where-passed : (f g : ℕ → Bool) → T (run (λ c. not (g c) || f c) pastClasses 0) → ((c : ℕ) → pastClasses ≤ c → T (g c) → T (f c)) → (c : ℕ) → T (g c) → T (f c)
+where-passed f g t past c h = go (ltb c pastClasses) refl
   where
-    go : (b : Bool) → ltb c 63 ≡ b → T (f c)
-    go true e = or-not (g c) (f c) (sweep (λ c. not (g c) || f c) t c (ltb-true c 63 e)) h
-    go false e = past c (ltb-false c 63 e) h
+    go : (b : Bool) → ltb c pastClasses ≡ b → T (f c)
+    go true e = or-not (g c) (f c) (sweep (λ c. not (g c) || f c) t c (ltb-true c pastClasses e)) h
+    go false e = past c (ltb-false c pastClasses e) h
 
-no-name-past : (c : ℕ) → 63 ≤ c → nameSort c ≡ 0
+no-name-past : (c : ℕ) → pastClasses ≤ c → nameSort c ≡ 0
 no-name-past c h = sym (name-past c h)
 
 -- An identifier,
@@ -56,21 +59,21 @@ pub flat-identifier : sortOf (ex means (nt n-identifier)) ≡ shape.flat
 unfolding sortOf ex means
 flat-identifier = refl
 
-is-identifier-test : T (run (λ c. not (not (eqb (nameSort c) 0)) || alone (expand table n-identifier c) c) 63 0)
+is-identifier-test : T (run (λ c. not (not (eqb (nameSort c) 0)) || alone (expand table n-identifier c) c) pastClasses 0)
 unfolding nameSort has choose row look alt pick table
 is-identifier-test = tt
 
-is-identifier-past : (c : ℕ) → 63 ≤ c → T (not (eqb (nameSort c) 0)) → T (alone (expand table n-identifier c) c)
+is-identifier-past : (c : ℕ) → pastClasses ≤ c → T (not (eqb (nameSort c) 0)) → T (alone (expand table n-identifier c) c)
 is-identifier-past c h t = absurd (rw (no-name-past c h) at t)
 
 pub is-identifier : (c : ℕ) → (nameSort c ≡ 0 → ⊥) → expand table n-identifier c ≡ some (tok c ∷ [])
 is-identifier c h = is-alone (expand table n-identifier c) c (where-passed (λ c. alone (expand table n-identifier c) c) (λ c. not (eqb (nameSort c) 0)) is-identifier-test is-identifier-past c (rw (ne-eqb (nameSort c) 0 h) tt))
 
-no-identifier-test : T (run (λ c. not (eqb (nameSort c) 0) || lacking (expand table n-identifier c)) 63 0)
+no-identifier-test : T (run (λ c. not (eqb (nameSort c) 0) || lacking (expand table n-identifier c)) pastClasses 0)
 unfolding nameSort has choose row look alt pick table
 no-identifier-test = tt
 
-no-identifier-past : (c : ℕ) → 63 ≤ c → T (eqb (nameSort c) 0) → T (lacking (expand table n-identifier c))
+no-identifier-past : (c : ℕ) → pastClasses ≤ c → T (eqb (nameSort c) 0) → T (lacking (expand table n-identifier c))
 unfolding row alt pick table
 no-identifier-past c h t = rw (beyond n-identifier c h) tt
 
@@ -83,35 +86,35 @@ pub flat-function-name : sortOf (ex means (nt n-functionName)) ≡ shape.flat
 unfolding sortOf ex means
 flat-function-name = refl
 
-is-function-name-test : T (run (λ c. not (eqb (nameSort c) 2) || alone (expand table n-functionName c) c) 63 0)
+is-function-name-test : T (run (λ c. not (eqb (nameSort c) choice.FunctionName) || alone (expand table n-functionName c) c) pastClasses 0)
 unfolding nameSort has choose row look alt pick table
 is-function-name-test = tt
 
-is-function-name-past : (c : ℕ) → 63 ≤ c → T (eqb (nameSort c) 2) → T (alone (expand table n-functionName c) c)
+is-function-name-past : (c : ℕ) → pastClasses ≤ c → T (eqb (nameSort c) choice.FunctionName) → T (alone (expand table n-functionName c) c)
 is-function-name-past c h t = absurd (rw (no-name-past c h) at t)
 
-pub is-function-name : (c : ℕ) → nameSort c ≡ 2 → expand table n-functionName c ≡ some (tok c ∷ [])
-is-function-name c h = is-alone (expand table n-functionName c) c (where-passed (λ c. alone (expand table n-functionName c) c) (λ c. eqb (nameSort c) 2) is-function-name-test is-function-name-past c (rw h tt))
+pub is-function-name : (c : ℕ) → nameSort c ≡ choice.FunctionName → expand table n-functionName c ≡ some (tok c ∷ [])
+is-function-name c h = is-alone (expand table n-functionName c) c (where-passed (λ c. alone (expand table n-functionName c) c) (λ c. eqb (nameSort c) choice.FunctionName) is-function-name-test is-function-name-past c (rw h tt))
 
-no-function-name-test : T (run (λ c. not (not (eqb (nameSort c) 2)) || lacking (expand table n-functionName c)) 63 0)
+no-function-name-test : T (run (λ c. not (not (eqb (nameSort c) choice.FunctionName)) || lacking (expand table n-functionName c)) pastClasses 0)
 unfolding nameSort has choose row look alt pick table
 no-function-name-test = tt
 
-no-function-name-past : (c : ℕ) → 63 ≤ c → T (not (eqb (nameSort c) 2)) → T (lacking (expand table n-functionName c))
+no-function-name-past : (c : ℕ) → pastClasses ≤ c → T (not (eqb (nameSort c) choice.FunctionName)) → T (lacking (expand table n-functionName c))
 unfolding row alt pick table
 no-function-name-past c h t = rw (beyond n-functionName c h) tt
 
 -- or none.
-pub no-function-name : (c : ℕ) → (nameSort c ≡ 2 → ⊥) → expand table n-functionName c ≡ none
+pub no-function-name : (c : ℕ) → (nameSort c ≡ choice.FunctionName → ⊥) → expand table n-functionName c ≡ none
 no-function-name c h =
     is-lacking (expand table n-functionName c)
-    (where-passed (λ c. lacking (expand table n-functionName c)) (λ c. not (eqb (nameSort c) 2)) no-function-name-test no-function-name-past c (rw (ne-eqb (nameSort c) 2 h) tt))
+    (where-passed (λ c. lacking (expand table n-functionName c)) (λ c. not (eqb (nameSort c) choice.FunctionName)) no-function-name-test no-function-name-past c (rw (ne-eqb (nameSort c) choice.FunctionName h) tt))
 
-sort-identifier-test : T (run (λ c. not (not (eqb (nameSort c) 0)) || has t.identifiers c) 63 0)
+sort-identifier-test : T (run (λ c. not (not (eqb (nameSort c) 0)) || has t.identifiers c) pastClasses 0)
 unfolding nameSort has
 sort-identifier-test = tt
 
-sort-identifier-past : (c : ℕ) → 63 ≤ c → T (not (eqb (nameSort c) 0)) → T (has t.identifiers c)
+sort-identifier-past : (c : ℕ) → pastClasses ≤ c → T (not (eqb (nameSort c) 0)) → T (has t.identifiers c)
 sort-identifier-past c h t = absurd (rw (no-name-past c h) at t)
 
 -- The names that `nameSort` tells are the identifiers.
@@ -136,22 +139,22 @@ flat-more = refl
 
 pub more-names : (c : ℕ) → c ≡ t.DoubleColon → expand table n-path-many-DoubleColon c ≡ some (tok t.DoubleColon ∷ nt n-identifier ∷ nt n-path-many-DoubleColon ∷ [])
 unfolding choose row look alt pick table
-more-names c e = goes n-path-many-DoubleColon 2 c (hit 14 2 [] 1 e) refl
+more-names c e = goes n-path-many-DoubleColon 2 c (hit t.DoubleColon 2 [] 1 e) refl
 
 pub no-more-names : (c : ℕ) → (c ≡ t.DoubleColon → ⊥) → expand table n-path-many-DoubleColon c ≡ some []
 unfolding choose row look alt pick table
-no-more-names c h = goes n-path-many-DoubleColon 1 c (miss 14 2 [] 1 h refl) refl
+no-more-names c h = goes n-path-many-DoubleColon 1 c (miss t.DoubleColon 2 [] 1 h refl) refl
 
 -- The end is no name.
 pub name-pos : (c : ℕ) → (nameSort c ≡ 0 → ⊥) → 0 < c
 name-pos zero h = absurd (h no-end)
 name-pos (suc c) h = omega arith
 
-other-sort : (c : ℕ) → has t.functionNames c ≡ false → nameSort c ≡ 2 → ⊥
+other-sort : (c : ℕ) → has t.functionNames c ≡ false → nameSort c ≡ choice.FunctionName → ⊥
 unfolding nameSort
-other-sort c q e = go (has t.identifiers c) (sym (ap (λ (b : Bool). cond b 2 (cond (has t.identifiers c) 1 0)) q) ∙ e)
+other-sort c q e = go (has t.identifiers c) (sym (ap (λ (b : Bool). cond b choice.FunctionName (cond (has t.identifiers c) choice.ReservedName 0)) q) ∙ e)
   where
-    go : (b : Bool) → _≡_ {A = ℕ} (cond b 1 0) 2 → ⊥
+    go : (b : Bool) → _≡_ {A = ℕ} (cond b choice.ReservedName 0) choice.FunctionName → ⊥
     go true e = omega arith
     go false e = omega arith
 
@@ -167,25 +170,25 @@ expanded-function-name c {rhs} e = go (has t.functionNames c) refl
     go false q = absurd (none-some (sym (no-function-name c (other-sort c q)) ∙ e))
 
 -- In a function, a parameter, an enum construction and an enum arm every name is a record.
-pub role-named : (K c : ℕ) → has (1 ∷ 3 ∷ 34 ∷ 38 ∷ []) K ≡ true → roleOf K c ≡ cond (has t.identifiers c) asName aMark
+pub role-named : (K c : ℕ) → has family.namesKept K ≡ true → roleOf K c ≡ cond (has t.identifiers c) asName aMark
 unfolding roleOf
-role-named K c h = λ i. cond (h i) (cond (has t.identifiers c) asName aMark) (cond (eqb K 39) (cond (has (t.Jet ∷ t.functionNames) c) asName (cond (eqb c t.DecLiteral) asNumber aMark)) aMark)
+role-named K c h = λ i. cond (h i) (cond (has t.identifiers c) asName aMark) (cond (eqb K kind.Call) (cond (has callees c) asName (cond (eqb c t.DecLiteral) asNumber aMark)) aMark)
 
-pub name-role : (K c : ℕ) → has (1 ∷ 3 ∷ 34 ∷ 38 ∷ []) K ≡ true → has t.identifiers c ≡ true → roleOf K c ≡ asName
+pub name-role : (K c : ℕ) → has family.namesKept K ≡ true → has t.identifiers c ≡ true → roleOf K c ≡ asName
 name-role K c h e = role-named K c h ∙ ap (λ (b : Bool). cond b asName aMark) e
 
 -- So such records differ in no token.
-pub arranged-names : (K n : ℕ) → has (1 ∷ 3 ∷ 34 ∷ 38 ∷ []) K ≡ true → (is : Items) → arranged K n is ≡ arranged 34 n is
+pub arranged-names : (K n : ℕ) → has family.namesKept K ≡ true → (is : Items) → arranged K n is ≡ arranged kind.EnumConstruction n is
 unfolding arranged has
 arranged-names K n h own.none = refl
-arranged-names K n h (mark t r) = ap₂ (λ (ρ : Role) (u : Items). placed ρ n t u) (role-named K (t .class) h ∙ sym (role-named 34 (t .class) refl)) (arranged-names K n h r)
+arranged-names K n h (mark t r) = ap₂ (λ (ρ : Role) (u : Items). placed ρ n t u) (role-named K (t .class) h ∙ sym (role-named kind.EnumConstruction (t .class) refl)) (arranged-names K n h r)
 arranged-names K n h (sub k l i js r) = ap (sub k l i js) (arranged-names K n h r)
 
 -- In a call a function's name is one.
-pub call-role : (c : ℕ) → has t.functionNames c ≡ true → roleOf 39 c ≡ asName
+pub call-role : (c : ℕ) → has t.functionNames c ≡ true → roleOf kind.Call c ≡ asName
 unfolding roleOf has
 call-role c e = go (eqb t.Jet c) refl
   where
-    go : (b : Bool) → eqb t.Jet c ≡ b → roleOf 39 c ≡ asName
+    go : (b : Bool) → eqb t.Jet c ≡ b → roleOf kind.Call c ≡ asName
     go true q = rw q refl
     go false q = rw (q, e) refl

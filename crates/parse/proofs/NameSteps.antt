@@ -17,7 +17,8 @@ use Rattle.theory.specs.Walk.{k-tok, k-nt}
 use Rattle.grammar.specs.Tables.{means, table}
 use Rattle.grammar.specs.Records.{reads, textOf, lowHalf, highHalf}
 use Rattle.lexer.specs.Classes as t
-use Rattle.parse.specs.Contract.{Text, tokAt, Stands, Ready, Near, Moved, Put, Info, asItems, Parsed, read, stuck, reserved, Named, Decimal, valueAt}
+use Rattle.own.specs.Kinds as kind
+use Rattle.parse.specs.Contract.{Text, tokAt, Stands, Ready, Near, Moved, Put, Info, asItems, Parsed, read, stuck, reserved, Named, Decimal, valueAt, countable}
 use Rattle.parse.specs.declared.State.{State}
 use Rattle.parse.specs.declared.Step.the-variants.{Next, Refused}
 use Rattle.parse.proofs.Laws.{inside}
@@ -29,18 +30,14 @@ ready-near y = record { stands = y .stands; short = y .short; few = omega (arith
 
 module _ {x : Text} {st : State} (y : Near x st) where
   pub is-inside : 0 < st .class → st .at < length (x .ts)
-  is-inside h = go (st .class) refl h
-    where
-      go : (c : ℕ) → st .class ≡ c → 0 < c → st .at < length (x .ts)
-      go zero e h = absurd (omega arith)
-      go (suc k) e h = inside x (st .at) k (sym (y .stands .class-is) ∙ e)
+  is-inside h = inside x (st .at) h (sym (y .stands .class-is))
 
   -- A nonterminal that the table has nothing for,
   pub refuses-near : {A : ℕ} {wrap : shape.Items → shape.Items} {I : Info} {l l′ : List ℕ} → expand table A (st .class) ≡ none → Parsed x (nt A ∷ []) wrap I st l l′ (Refused (st .at))
   refuses-near {A} e = stuck (y .stands .within) (λ τ. k-nt (ap (expand table A) (sym (y .stands .class-is)) ∙ e))
 
   module _ {st₁ st₂ : State} {l l′ : List ℕ} {kind low high : ℕ} (pos : 0 < st .class) (v : Moved x st st₁) (put : Put l (st₁ .out) kind (st .start) (st .stop) low high 1 l′) (more : st₂ ≡ reserved st₁) where
-    few : st .out ≤ 16777216
+    few : st .out ≤ countable
     few = omega (arith, y .few, is-inside pos, y .short)
 
     -- A nonterminal that has the class of the token as an alternative,
@@ -74,11 +71,11 @@ value-is {x} {st} h = λ i. reads (numberOf (partOf (x .draft) (h .start-is i) (
 
 -- A decimal, with the halves of its number.
 pub child-decimal : {x : Text} {st st₁ st₂ : State} {l l′ : List ℕ} {low high : ℕ} → Ready x st → st .class ≡ t.DecLiteral → Moved x st st₁
-    → Put l (st₁ .out) 40 (st .start) (st .stop) low high 1 l′ → st₂ ≡ reserved st₁
+    → Put l (st₁ .out) kind.Number (st .start) (st .stop) low high 1 l′ → st₂ ≡ reserved st₁
     → low ≡ lowHalf (reads (numberOf (partOf (x .draft) (st .start) (st .stop)))) → high ≡ highHalf (reads (numberOf (partOf (x .draft) (st .start) (st .stop))))
     → Parsed x (tok t.DecLiteral ∷ []) asItems (Decimal x (st .at)) st l l′ (Next st₂ 0 0)
 child-decimal {x} {st} {st₁} {st₂} {l} {l′} {low} {high} y c v put more e f =
     let a : low ≡ lowHalf (valueAt x (st .at)) = e ∙ ap lowHalf (value-is (y .stands)) in
     let b : high ≡ highHalf (valueAt x (st .at)) = f ∙ ap highHalf (value-is (y .stands)) in
-    child-tok (ready-near y) (omega arith) v (subst (λ h. Put l (st₁ .out) 40 (st .start) (st .stop) (lowHalf (valueAt x (st .at))) h 1 l′) b
-    (subst (λ h. Put l (st₁ .out) 40 (st .start) (st .stop) h high 1 l′) a put)) more c
+    child-tok (ready-near y) (omega arith) v (subst (λ h. Put l (st₁ .out) kind.Number (st .start) (st .stop) (lowHalf (valueAt x (st .at))) h 1 l′) b
+    (subst (λ h. Put l (st₁ .out) kind.Number (st .start) (st .stop) h high 1 l′) a put)) more c

@@ -21,14 +21,16 @@ use Rattle.own.specs.Tree.{Tok, Items, mark, sub}
 use Rattle.own.specs.Law.{Sort, word, child}
 use Rattle.own.specs.Rules.{sorts}
 use Rattle.own.specs.Words.{sizes}
+use Rattle.own.specs.Kinds as kind
 use Rattle.kinds.specs.Shape.{has}
 use Rattle.kinds.specs.Fields.{counted}
+use Rattle.kinds.specs.Families as family
 use Rattle.lexer.specs.Classes as t
 use Rattle.grammar.specs.Tables.{table}
 use Rattle.grammar.specs.TablesIndex.{n-identifier, n-functionName, n-path-many-DoubleColon}
 use Rattle.grammar.specs.Records.{aMark, roleOf, arranged, sees, nameCount}
 use Rattle.parse.proofs.Step.{the-type}
-use Rattle.parse.specs.Contract.{Text, classes, tokAt, Read, raw, Stands, Ready, Moved, Info, asItems, Went, Parsed, Named, Names}
+use Rattle.parse.specs.Contract.{Text, classes, tokAt, Read, raw, Stands, Ready, Moved, Info, asItems, Went, Parsed, Named, Names, countable}
 use Rattle.parse.specs.declared.State.{State}
 use Rattle.parse.specs.declared.Step.{Step}
 use Rattle.parse.specs.declared.Step.the-variants.{Next}
@@ -109,10 +111,10 @@ no-count : nameCount [] ≡ 0
 unfolding nameCount
 no-count = refl
 
-colon-mark : roleOf 34 t.DoubleColon ≡ aMark
-colon-mark = sign-mark 34 14 tt
+colon-mark : roleOf kind.EnumConstruction t.DoubleColon ≡ aMark
+colon-mark = sign-mark kind.EnumConstruction t.DoubleColon tt
 
-named-kind : has (1 ∷ 3 ∷ 34 ∷ 38 ∷ []) 34 ≡ true
+named-kind : has family.namesKept kind.EnumConstruction ≡ true
 unfolding has
 named-kind = refl
 
@@ -121,19 +123,19 @@ pub record Joined (x : Text) (st : State) (l : List ℕ) (here : State) (l₁ : 
   pub w : List Sort
   pub ms : List Tok
   pub m : ℕ
-  pub amid : Amid x 34 AnyN (nt n-path-many-DoubleColon ∷ []) (nt n-path-many-DoubleColon ∷ []) st l w ms m here l₁
+  pub amid : Amid x kind.EnumConstruction AnyN (nt n-path-many-DoubleColon ∷ []) (nt n-path-many-DoubleColon ∷ []) st l w ms m here l₁
   pub paths : Paths w
   pub count-is : 1 + nameCount w ≡ number
   pub far : number + st .at ≤ here .at + 1
 
 -- What they are as a whole.
 pub record Rest (w : List Sort) (J L : Items) (m a b : ℕ) : Type 0 where
-  pub roles : (n : ℕ) → arranged 34 n J ≡ L
+  pub roles : (n : ℕ) → arranged kind.EnumConstruction n J ≡ L
   pub sorted : sorts J ≡ w
 
 pub joined-starts : {x : Text} {st : State} {l : List ℕ} → Stands x st → Joined x st l st l 1
 unfolding nameCount
-joined-starts {l = l} h = record { w = []; ms = []; m = 0; amid = starts 34 AnyN (nt n-path-many-DoubleColon ∷ []) l h; paths = tt; count-is = refl; far = omega arith }
+joined-starts {l = l} h = record { w = []; ms = []; m = 0; amid = starts kind.EnumConstruction AnyN (nt n-path-many-DoubleColon ∷ []) l h; paths = tt; count-is = refl; far = omega arith }
 
 module _ {x : Text} {st : State} {l : List ℕ} {here : State} {l₁ : List ℕ} {number : ℕ} (v : Joined x st l here l₁ number) where
   -- They end where no `::` stands,
@@ -144,15 +146,15 @@ module _ {x : Text} {st : State} {l : List ℕ} {here : State} {l₁ : List ℕ}
 
   module _ (c : here .class ≡ t.DoubleColon) {next : State} (mv : Moved x here next) where
     -- or go on with one more.
-    pub joined-into : Amid x 34 AnyN (nt n-path-many-DoubleColon ∷ []) (nt n-identifier ∷ nt n-path-many-DoubleColon ∷ []) st l (v .w ++ (word t.DoubleColon ∷ [])) (v .ms ++ (tokAt x (here .at) ∷ [])) (v .m + 1) next l₁
+    pub joined-into : Amid x kind.EnumConstruction AnyN (nt n-path-many-DoubleColon ∷ []) (nt n-identifier ∷ nt n-path-many-DoubleColon ∷ []) st l (v .w ++ (word t.DoubleColon ∷ [])) (v .ms ++ (tokAt x (here .at) ∷ [])) (v .m + 1) next l₁
     joined-into =
         advances (then-turns (tok t.DoubleColon ∷ nt n-identifier ∷ nt n-path-many-DoubleColon ∷ []) (v .amid) flat-more
         (ap (expand table n-path-many-DoubleColon) (sym (v .amid .lays .stands .class-is)) ∙ more-names (here .class) c)) c (omega arith) mv colon-mark
 
     joined-next : next .at ≡ here .at + 1
-    joined-next = mv .ahead (inside x (here .at) 13 (sym (v .amid .lays .stands .class-is) ∙ c))
+    joined-next = mv .ahead (inside x (here .at) (omega arith) (sym (v .amid .lays .stands .class-is) ∙ c))
 
-    module _ {l₂ : List ℕ} {r : Step} {st₂ : State} {a b : ℕ} (p : Parsed x (nt n-identifier ∷ []) asItems (Named (tokAt x (next .at)) 2 0 0) next l₁ l₂ r) (e : r ≡ Next st₂ a b) where
+    module _ {l₂ : List ℕ} {r : Step} {st₂ : State} {a b : ℕ} (p : Parsed x (nt n-identifier ∷ []) asItems (Named (tokAt x (next .at)) kind.Name 0 0) next l₁ l₂ r) (e : r ≡ Next st₂ a b) where
       pub joined-less : here .at < st₂ .at
       joined-less = omega (arith, joined-next, named-ahead p e)
 
@@ -170,7 +172,7 @@ module _ {x : Text} {st : State} {l : List ℕ} {here : State} {l₁ : List ℕ}
             w = (v .w ++ (word t.DoubleColon ∷ [])) ++ (word cls ∷ []);
             ms = (v .ms ++ (tokAt x (here .at) ∷ [])) ++ (tokAt x (next .at) ∷ []);
             m = v .m + 1;
-            amid = then-named joined-into p e (name-role 34 cls named-kind name);
+            amid = then-named joined-into p e (name-role kind.EnumConstruction cls named-kind name);
             paths = paths-append (v .w ++ (word t.DoubleColon ∷ [])) (word cls ∷ []) (paths-append (v .w) (word t.DoubleColon ∷ []) (v .paths) (inl refl, tt)) (inr name, tt);
             count-is = omega (arith, n₁, n₂, n₃, count-colon, no-count, v .count-is);
             far = omega (arith, v .far, joined-less, joined-next, named-ahead p e);
@@ -178,20 +180,20 @@ module _ {x : Text} {st : State} {l : List ℕ} {here : State} {l₁ : List ℕ}
 
 module _ {x : Text} {st : State} (y : Ready x st) {l l₁ : List ℕ} {r : Step} where
   -- The first name is refused,
-  pub names-passed : {J : Info} {l′ : List ℕ} → OneOf (1 ∷ []) (tagOf the-type r) → Parsed x (nt n-identifier ∷ []) asItems (Named (tokAt x (st .at)) 2 0 0) st l l₁ r
+  pub names-passed : {J : Info} {l′ : List ℕ} → OneOf (1 ∷ []) (tagOf the-type r) → Parsed x (nt n-identifier ∷ []) asItems (Named (tokAt x (st .at)) kind.Name 0 0) st l l₁ r
       → Parsed x (nt n-identifier ∷ nt n-path-many-DoubleColon ∷ []) asItems J st l l′ r
-  names-passed k p = then-passed (starts 34 AnyN (nt n-identifier ∷ nt n-path-many-DoubleColon ∷ []) l (y .stands)) k (λ τ q h. h) p
+  names-passed k p = then-passed (starts kind.EnumConstruction AnyN (nt n-identifier ∷ nt n-path-many-DoubleColon ∷ []) l (y .stands)) k (λ τ q h. h) p
 
-  module _ {st₁ : State} {a b : ℕ} (p : Parsed x (nt n-identifier ∷ []) asItems (Named (tokAt x (st .at)) 2 0 0) st l l₁ r) (e : r ≡ Next st₁ a b) where
-    first-name : Amid x 34 AnyN (nt n-identifier ∷ nt n-path-many-DoubleColon ∷ []) (nt n-path-many-DoubleColon ∷ []) st l (word (tokAt x (st .at) .class) ∷ []) (tokAt x (st .at) ∷ []) 0 st₁ l₁
+  module _ {st₁ : State} {a b : ℕ} (p : Parsed x (nt n-identifier ∷ []) asItems (Named (tokAt x (st .at)) kind.Name 0 0) st l l₁ r) (e : r ≡ Next st₁ a b) where
+    first-name : Amid x kind.EnumConstruction AnyN (nt n-identifier ∷ nt n-path-many-DoubleColon ∷ []) (nt n-path-many-DoubleColon ∷ []) st l (word (tokAt x (st .at) .class) ∷ []) (tokAt x (st .at) ∷ []) 0 st₁ l₁
     first-name =
-        then-named (starts 34 AnyN (nt n-identifier ∷ nt n-path-many-DoubleColon ∷ []) l (y .stands)) p e (name-role 34 (tokAt x (st .at) .class) named-kind (identifier-class p e))
+        then-named (starts kind.EnumConstruction AnyN (nt n-identifier ∷ nt n-path-many-DoubleColon ∷ []) l (y .stands)) p e (name-role kind.EnumConstruction (tokAt x (st .at) .class) named-kind (identifier-class p e))
 
     pub first-ready : Ready x st₁
     first-ready = onward y first-name
 
     module _ {here : State} {l₂ : List ℕ} {number : ℕ} (v : Joined x st₁ l₁ here l₂ number) where
-      pub names-few : number ≤ 16777216
+      pub names-few : number ≤ countable
       names-few = omega (arith, v .far, named-ahead p e, v .amid .lays .stands .within, y .short)
 
       -- or one after a `::`,
@@ -199,7 +201,7 @@ module _ {x : Text} {st : State} (y : Ready x st) {l l₁ : List ℕ} {r : Step}
       next-ready c mv = onward first-ready (joined-into v c mv)
 
       pub next-passed : here .class ≡ t.DoubleColon → {next : State} → Moved x here next → {J : Info} {l₃ l′ : List ℕ} {r₂ : Step} → OneOf (1 ∷ []) (tagOf the-type r₂)
-          → Parsed x (nt n-identifier ∷ []) asItems (Named (tokAt x (next .at)) 2 0 0) next l₂ l₃ r₂ → Parsed x (nt n-identifier ∷ nt n-path-many-DoubleColon ∷ []) asItems J st l l′ r₂
+          → Parsed x (nt n-identifier ∷ []) asItems (Named (tokAt x (next .at)) kind.Name 0 0) next l₂ l₃ r₂ → Parsed x (nt n-identifier ∷ nt n-path-many-DoubleColon ∷ []) asItems J st l l′ r₂
       next-passed c mv k q = then-passed (joined-into v c mv) k (λ τ p h. first-name .off τ p h) q
 
       -- or all are read.

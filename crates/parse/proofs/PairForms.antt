@@ -19,13 +19,14 @@ use Rattle.theory.specs.Same.{ex}
 use Rattle.own.specs.Tree.{Tok, Items, marks}
 use Rattle.own.specs.Law.{Sort, word, child}
 use Rattle.own.specs.Rules.{sorts}
-use Rattle.kinds.specs.Shape.{span}
 use Rattle.kinds.specs.Fields.{counted}
+use Rattle.kinds.specs.Families as family
 use Rattle.lexer.specs.Classes as t
 use Rattle.grammar.specs.Tables.{means, table}
 use Rattle.grammar.specs.Records.{sees, nameCount}
+use Rattle.grammar.specs.TablesIndex.{n-headPath-optional-LParen, n-list-pair, n-pair, n-pattern, n-tail-pair, n-type}
 use Rattle.parse.proofs.Step.{the-type}
-use Rattle.parse.specs.Contract.{Text, tokAt, raw, Ready, Moved, Eaten, Info, asItems, Went, Parsed, read, Node, TypeKind, PatternKind}
+use Rattle.parse.specs.Contract.{Text, tokAt, raw, Ready, Moved, Eaten, Info, asItems, Went, Parsed, read, Node, TypeKind, PatternKind, countable}
 use Rattle.parse.specs.Infos.{Pairs, ManyPairs, MorePairs}
 use Rattle.parse.specs.declared.State.{State}
 use Rattle.parse.specs.declared.Step.{Step}
@@ -38,58 +39,58 @@ use Rattle.parse.proofs.Lined.{AnyN, arranged-zero, finish, went-ahead}
 use Rattle.parse.proofs.Pieces.{nameCount-append, counted-append, unseen-append, nameCount-other, Marks, marks-append, arranged-marks, marks-arranged, pattern-counted, type-uncounted, sign-no-name}
 
 -- The rules: a pair,
-pub flat-pair : sortOf (ex means (nt 54)) ≡ shape.flat
+pub flat-pair : sortOf (ex means (nt n-pair)) ≡ shape.flat
 unfolding sortOf ex means
 flat-pair = refl
 
-pub pair-row : (c : ℕ) → expand table 54 c ≡ some (nt 20 ∷ tok 15 ∷ nt 8 ∷ [])
+pub pair-row : (c : ℕ) → expand table n-pair c ≡ some (nt n-pattern ∷ tok t.Colon ∷ nt n-type ∷ [])
 unfolding choose row table look alt pick
 pair-row c = refl
 
 -- pairs in parentheses or nothing,
-pub flat-pairs : sortOf (ex means (nt 55)) ≡ shape.flat
+pub flat-pairs : sortOf (ex means (nt n-headPath-optional-LParen)) ≡ shape.flat
 unfolding sortOf ex means
 flat-pairs = refl
 
-pub pairs-row : (c : ℕ) → c ≡ t.LParen → expand table 55 c ≡ some (tok 20 ∷ nt 54 ∷ nt 56 ∷ tok 21 ∷ [])
+pub pairs-row : (c : ℕ) → c ≡ t.LParen → expand table n-headPath-optional-LParen c ≡ some (tok t.LParen ∷ nt n-pair ∷ nt n-tail-pair ∷ tok t.RParen ∷ [])
 unfolding choose row table look alt pick
-pairs-row c e = goes 55 2 c (hit 20 2 [] 1 e) refl
+pairs-row c e = goes n-headPath-optional-LParen 2 c (hit t.LParen 2 [] 1 e) refl
 
-pub no-pairs-row : (c : ℕ) → (c ≡ t.LParen → ⊥) → expand table 55 c ≡ some []
+pub no-pairs-row : (c : ℕ) → (c ≡ t.LParen → ⊥) → expand table n-headPath-optional-LParen c ≡ some []
 unfolding choose row table look alt pick
-no-pairs-row c h = goes 55 1 c (miss 20 2 [] 1 h refl) refl
+no-pairs-row c h = goes n-headPath-optional-LParen 1 c (miss t.LParen 2 [] 1 h refl) refl
 
 -- and what follows a pair.
-pub flat-tail : sortOf (ex means (nt 56)) ≡ shape.flat
+pub flat-tail : sortOf (ex means (nt n-tail-pair)) ≡ shape.flat
 unfolding sortOf ex means
 flat-tail = refl
 
-pub flat-list : sortOf (ex means (nt 57)) ≡ shape.flat
+pub flat-list : sortOf (ex means (nt n-list-pair)) ≡ shape.flat
 unfolding sortOf ex means
 flat-list = refl
 
-pub tail-row : (c : ℕ) → c ≡ t.Comma → expand table 56 c ≡ some (tok 17 ∷ nt 57 ∷ [])
+pub tail-row : (c : ℕ) → c ≡ t.Comma → expand table n-tail-pair c ≡ some (tok t.Comma ∷ nt n-list-pair ∷ [])
 unfolding choose row table look alt pick
-tail-row c e = goes 56 2 c (hit 17 2 [] 1 e) refl
+tail-row c e = goes n-tail-pair 2 c (hit t.Comma 2 [] 1 e) refl
 
-pub no-tail-row : (c : ℕ) → (c ≡ t.Comma → ⊥) → expand table 56 c ≡ some []
+pub no-tail-row : (c : ℕ) → (c ≡ t.Comma → ⊥) → expand table n-tail-pair c ≡ some []
 unfolding choose row table look alt pick
-no-tail-row c h = goes 56 1 c (miss 17 2 [] 1 h refl) refl
+no-tail-row c h = goes n-tail-pair 1 c (miss t.Comma 2 [] 1 h refl) refl
 
-pub list-row : (c : ℕ) → (c ≡ t.RParen → ⊥) → expand table 57 c ≡ some (nt 54 ∷ nt 56 ∷ [])
+pub list-row : (c : ℕ) → (c ≡ t.RParen → ⊥) → expand table n-list-pair c ≡ some (nt n-pair ∷ nt n-tail-pair ∷ [])
 unfolding choose row table look alt pick
-list-row c h = goes 57 2 c (miss 21 1 [] 2 h refl) refl
+list-row c h = goes n-list-pair 2 c (miss t.RParen 1 [] 2 h refl) refl
 
-pub no-list-row : (c : ℕ) → c ≡ t.RParen → expand table 57 c ≡ some []
+pub no-list-row : (c : ℕ) → c ≡ t.RParen → expand table n-list-pair c ≡ some []
 unfolding choose row table look alt pick
-no-list-row c e = goes 57 1 c (hit 21 1 [] 2 e) refl
+no-list-row c e = goes n-list-pair 1 c (hit t.RParen 1 [] 2 e) refl
 
 -- Pieces of pairs: tokens that are marks of every record, no `::`, no name, and n patterns.
 pub record Paired (n : ℕ) (w : List Sort) : Type 0 where
   pub marks : (K : ℕ) → Marks K w
   pub paths : sees t.DoubleColon w ≡ false
   pub names : nameCount w ≡ 0
-  pub patterns : counted (span 13 16) w ≡ n
+  pub patterns : counted family.patterns w ≡ n
 
 pub paired-nil : Paired 0 []
 unfolding sees nameCount counted
@@ -100,7 +101,7 @@ paired-append w v p q = record {
   marks = λ K. marks-append K w v (p .marks K) (q .marks K);
   paths = unseen-append t.DoubleColon w v (p .paths) (q .paths);
   names = omega (arith, nameCount-append w v, p .names, q .names);
-  patterns = omega (arith, counted-append (span 13 16) w v, p .patterns, q .patterns);
+  patterns = omega (arith, counted-append family.patterns w v, p .patterns, q .patterns);
 }
 
 pub paired-sign : (c : ℕ) → T (sign c) → (c ≡ t.DoubleColon → ⊥) → Paired 0 (word c ∷ [])
@@ -227,48 +228,48 @@ all-of k e = omega arith
 -- The pairs after the first one, up to `here`: `number` of them with the first.
 pub record More (x : Text) (st : State) (l : List ℕ) (here : State) (l₁ : List ℕ) (number : ℕ) : Type 0 where
   pub k : ℕ
-  pub on : On x (nt 56 ∷ []) (nt 56 ∷ []) st l k here l₁
+  pub on : On x (nt n-tail-pair ∷ []) (nt n-tail-pair ∷ []) st l k here l₁
   pub one-more : number ≡ k + 1
   pub far : number + st .at ≤ here .at + 1
 
 module _ {x : Text} {st : State} {l : List ℕ} (y : Ready x st) where
   pub more-starts : More x st l st l 1
-  more-starts = record { k = 0; on = on-starts (nt 56 ∷ []) l y; one-more = refl; far = omega arith }
+  more-starts = record { k = 0; on = on-starts (nt n-tail-pair ∷ []) l y; one-more = refl; far = omega arith }
 
   module _ {here : State} {l₁ : List ℕ} {number : ℕ} (v : More x st l here l₁ number) where
-    pub more-few : number ≤ 16777217
+    pub more-few : number ≤ countable + 1
     more-few = omega (arith, v .far, v .on .amid .lays .stands .within, y .short)
 
-    whole : {k′ : ℕ} {here′ : State} {l′ : List ℕ} → On x (nt 56 ∷ []) [] st l k′ here′ l′ → k′ ≡ v .k → Went x (nt 56 ∷ []) asItems MorePairs st l here′ l′ number 0
+    whole : {k′ : ℕ} {here′ : State} {l′ : List ℕ} → On x (nt n-tail-pair ∷ []) [] st l k′ here′ l′ → k′ ≡ v .k → Went x (nt n-tail-pair ∷ []) asItems MorePairs st l here′ l′ number 0
     whole u e =
-        let q : Went x (nt 56 ∷ []) asItems (Pairs (v .k)) st l _ _ number 0 = on-ends u e in
+        let q : Went x (nt n-tail-pair ∷ []) asItems (Pairs (v .k)) st l _ _ number 0 = on-ends u e in
         record { items = q .items; L = q .L; m = q .m; reads = q .reads; lays = q .lays; info = record { k = v .k; one-more = v .one-more; pairs = q .info } }
 
     -- They end where no comma stands,
-    pub more-ends : (here .class ≡ t.Comma → ⊥) → Went x (nt 56 ∷ []) asItems MorePairs st l here l₁ number 0
+    pub more-ends : (here .class ≡ t.Comma → ⊥) → Went x (nt n-tail-pair ∷ []) asItems MorePairs st l here l₁ number 0
     more-ends n = whole (on-turns [] (v .on) flat-tail (no-tail-row (here .class) n)) refl
 
     module _ (c : here .class ≡ t.Comma) {next : State} (mv : Moved x here next) where
-      comma : On x (nt 56 ∷ []) (nt 57 ∷ []) st l (v .k + 0) next l₁
-      comma = on-sign (on-turns (tok 17 ∷ nt 57 ∷ []) (v .on) flat-tail (tail-row (here .class) c)) tt (λ e. omega arith) c mv
+      comma : On x (nt n-tail-pair ∷ []) (nt n-list-pair ∷ []) st l (v .k + 0) next l₁
+      comma = on-sign (on-turns (tok t.Comma ∷ nt n-list-pair ∷ []) (v .on) flat-tail (tail-row (here .class) c)) tt (λ e. omega arith) c mv
 
       comma-next : next .at ≡ here .at + 1
-      comma-next = mv .ahead (inside x (here .at) 16 (sym (v .on .amid .lays .stands .class-is) ∙ c))
+      comma-next = mv .ahead (inside x (here .at) (omega arith) (sym (v .on .amid .lays .stands .class-is) ∙ c))
 
       -- or behind a last comma,
-      pub more-closes : next .class ≡ t.RParen → Went x (nt 56 ∷ []) asItems MorePairs st l next l₁ number 0
+      pub more-closes : next .class ≡ t.RParen → Went x (nt n-tail-pair ∷ []) asItems MorePairs st l next l₁ number 0
       more-closes e = whole (on-turns [] comma flat-list (no-list-row (next .class) e)) (omega arith)
 
       module _ (n : next .class ≡ t.RParen → ⊥) where
-        pub more-into : On x (nt 56 ∷ []) (nt 54 ∷ nt 56 ∷ []) st l (v .k + 0) next l₁
-        more-into = on-turns (nt 54 ∷ nt 56 ∷ []) comma flat-list (list-row (next .class) n)
+        pub more-into : On x (nt n-tail-pair ∷ []) (nt n-pair ∷ nt n-tail-pair ∷ []) st l (v .k + 0) next l₁
+        more-into = on-turns (nt n-pair ∷ nt n-tail-pair ∷ []) comma flat-list (list-row (next .class) n)
 
         -- or a pair is refused,
-        pub more-passed : {I J : Info} {l₂ l′ : List ℕ} {r : Step} → OneOf (1 ∷ []) (tagOf the-type r) → Parsed x (nt 54 ∷ []) asItems I next l₁ l₂ r → Parsed x (nt 56 ∷ []) asItems J st l l′ r
+        pub more-passed : {I J : Info} {l₂ l′ : List ℕ} {r : Step} → OneOf (1 ∷ []) (tagOf the-type r) → Parsed x (nt n-pair ∷ []) asItems I next l₁ l₂ r → Parsed x (nt n-tail-pair ∷ []) asItems J st l l′ r
         more-passed k p = then-passed (more-into .amid) k (λ τ q h. h) p
 
         -- or there is one more.
-        module _ {l₂ : List ℕ} {r : Step} {st₂ : State} {a b : ℕ} (p : Parsed x (nt 54 ∷ []) asItems (Pairs 1) next l₁ l₂ r) (e : r ≡ Next st₂ a b) where
+        module _ {l₂ : List ℕ} {r : Step} {st₂ : State} {a b : ℕ} (p : Parsed x (nt n-pair ∷ []) asItems (Pairs 1) next l₁ l₂ r) (e : r ≡ Next st₂ a b) where
           pub more-less : here .at < st₂ .at
           more-less = omega (arith, comma-next, went-ahead p e)
 

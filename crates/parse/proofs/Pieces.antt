@@ -3,7 +3,7 @@
 use mathlib.Core.Bool.{Bool, true, false, cond, _||_, not}
 use mathlib.Core.List.{List, [], _∷_, _++_}
 use mathlib.Core.Path.{_≡_, refl, ap, ap₂, _∙_}
-use Prim.Native.Nat.{ℕ, _+_}
+use Prim.Native.Nat.{ℕ, _+_, suc, _-_}
 use native.Mathlib.Omega.{arith}
 use lib.Dec.{T, eqb, ltb, ltb→lt}
 use Rattle.text.specs.Same.{differ}
@@ -12,8 +12,10 @@ use Rattle.own.specs.Tree as own
 use Rattle.own.specs.Tree.{Items, mark, sub}
 use Rattle.own.specs.Law.{Sort, word, child}
 use Rattle.own.specs.Rules.{sorts}
+use Rattle.own.specs.Kinds as kind
 use Rattle.kinds.specs.Shape.{has, span, count}
 use Rattle.kinds.specs.Fields.{counted}
+use Rattle.kinds.specs.Families as family
 use Rattle.lexer.specs.Classes as t
 use Rattle.grammar.specs.Records.{Role, aMark, asName, asNumber, roleOf, placed, arranged, sees, nameCount}
 use Rattle.parse.specs.Contract.{TypeKind, PatternKind, ExprKind}
@@ -109,23 +111,23 @@ marks-arranged K n (mark t r) e = go (roleOf K (t .class)) refl e (λ f. marks-a
 marks-arranged K n (sub k l h js r) e = marks-arranged K n r (ap rest e)
 
 -- Patterns are counted as patterns, types and expressions are not.
-pub pattern-counted : (k : ℕ) → PatternKind k → has (span 13 16) k ≡ true
+pub pattern-counted : (k : ℕ) → PatternKind k → has family.patterns k ≡ true
 unfolding has span count
-pattern-counted k p = is-true (has (span 13 16) k) (run-at (λ i. has (span 13 16) i) 4 13 k tt (p .0) (omega (arith, p .1)))
+pattern-counted k p = is-true (has family.patterns k) (run-at (λ i. has family.patterns i) (suc kind.ArrayPattern - kind.IdentifierPattern) kind.IdentifierPattern k tt (p .0) (omega (arith, p .1)))
 
 is-false : (b : Bool) → T (not b) → b ≡ false
 is-false true t = absurd t
 is-false false t = refl
 
-pub type-uncounted : (k : ℕ) → TypeKind k → has (span 13 16) k ≡ false
+pub type-uncounted : (k : ℕ) → TypeKind k → has family.patterns k ≡ false
 unfolding has span count
-type-uncounted k p = is-false (has (span 13 16) k) (run-at (λ i. not (has (span 13 16) i)) 9 4 k tt (p .0) (omega (arith, p .1)))
+type-uncounted k p = is-false (has family.patterns k) (run-at (λ i. not (has family.patterns i)) (suc kind.ListType - kind.Alias) kind.Alias k tt (p .0) (omega (arith, p .1)))
 
-pub expr-uncounted : (k : ℕ) → ExprKind k → has (span 13 16) k ≡ false
+pub expr-uncounted : (k : ℕ) → ExprKind k → has family.patterns k ≡ false
 unfolding has span count
-expr-uncounted k p = is-false (has (span 13 16) k) (run-at (λ i. not (has (span 13 16) i)) 22 18 k tt (p .0) (omega (arith, p .1)))
+expr-uncounted k p = is-false (has family.patterns k) (run-at (λ i. not (has family.patterns i)) (suc kind.Call - kind.Block) kind.Block k tt (p .0) (omega (arith, p .1)))
 
 -- A sign is no name.
 pub sign-no-name : (c : ℕ) → T (sign c) → has t.identifiers c ≡ false
 unfolding has
-sign-no-name c h = is-false (has t.identifiers c) (run-at (λ i. not (has t.identifiers i)) 28 0 c tt (omega arith) (omega (arith, ltb→lt c 28 (second-of (ltb 0 c) (ltb c 28) h))))
+sign-no-name c h = is-false (has t.identifiers c) (run-at (λ i. not (has t.identifiers i)) t.DecLiteral 0 c tt (omega arith) (omega (arith, ltb→lt c t.DecLiteral (second-of (ltb 0 c) (ltb c t.DecLiteral) h))))

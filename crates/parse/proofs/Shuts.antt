@@ -27,7 +27,7 @@ use Rattle.grammar.specs.Tables.{means, table}
 use Rattle.grammar.specs.Records.{Head, head, arranged, headOf}
 use Rattle.grammar.specs.Faults.{Fault, faultsAt, earliest}
 use Rattle.grammar.specs.KeptTokens.{yield-arranged}
-use Rattle.parse.specs.Contract.{Text, classes, tokAt, Read, Stuck, raw, faultIn, sooner, kept, fault, Stands, Ready, Put, Laid, Info, asItems, asNode, Went, Parsed, read, stuck, reserved, cleaned, Node}
+use Rattle.parse.specs.Contract.{Text, classes, tokAt, Read, Stuck, raw, faultIn, sooner, kept, fault, Stands, Ready, Put, Laid, Info, asItems, asNode, Went, Parsed, read, stuck, reserved, cleaned, Node, countable}
 use Rattle.parse.specs.declared.State.{State}
 use Rattle.parse.specs.declared.Step.{Step}
 use Rattle.parse.proofs.Splice.{header}
@@ -43,11 +43,11 @@ pub record Opened (x : Text) (st r : State) (F : Option Fault) : Type 0 where
   pub kept-is : kept r ≡ F
   pub stands : Stands x r
 
-reserved-opens : {x : Text} {st : State} → Stands x st → st .out ≤ 16777216 → Opened x st (reserved st) (kept st)
+reserved-opens : {x : Text} {st : State} → Stands x st → st .out ≤ countable → Opened x st (reserved st) (kept st)
 unfolding reserved
 reserved-opens s h = record { at-is = refl; class-is = refl; out-is = omega arith; kept-is = refl; stands = record { within = s .within; class-is = s .class-is; start-is = s .start-is; stop-is = s .stop-is; end-is = s .end-is } }
 
-few-enough : {x : Text} {st : State} → Ready x st → st .out ≤ 16777216
+few-enough : {x : Text} {st : State} → Ready x st → st .out ≤ countable
 few-enough h = omega (arith, h .few, h .short, h .stands .within)
 
 pub opens : {x : Text} {st r : State} → Ready x st → r ≡ reserved st → Opened x st r (kept st)
@@ -165,15 +165,28 @@ module _ {x : Text} {st r : State} {K : ℕ} {N : ℕ → Type 0} {rhs : List Sy
       put hz (record { at-is = refl; out-is = refl }) (d .lays .stands)
       (d .lays .worst ∙ ap₂ sooner (o .kept-is) (sym (its-fault k y o d one hd hn ∙ ap (λ u. sooner (earliest u) (faultIn x (r .at) (d .pre))) (hf (raw x (r .at) (d .pre))))))
 
--- The table's rule of a node: at the classes where it chooses the alternative i + 1 of A, the kind of the node and the symbols.
-pub record Rule (A i k : ℕ) (rhs : List Sym) : Type 0 where
-  pub C : ℕ
-  pub category : ex means (nt A) ≡ child C
-  pub kind : getElem? (kindsOf shapes C) i ≡ some k
-  pub rule : alt table A (suc i) ≡ some rhs
+-- The number of a category; an expression that is none has 0.
+abbrev pub categoryOf : shape.Ex → ℕ
+categoryOf shape.eps = 0
+categoryOf (shape.mark c) = 0
+categoryOf (child C) = C
+categoryOf (shape.part P) = 0
+categoryOf (shape.seq a b) = 0
+categoryOf (shape.or a b) = 0
+categoryOf (shape.many a) = 0
+categoryOf (shape.list a c) = 0
+categoryOf (shape.tail a c) = 0
 
-module _ {A i k : ℕ} {rhs : List Sym} (z : Rule A i k rhs) {x : Text} {st : State} (y : Ready x st) (e : choose table A (st .class) ≡ suc i) where
-  chosen : choose table A (getD (classes x) (st .at) 0) ≡ suc i
+-- The table's rule of a node: at the classes where it chooses the alternative i of A (they are counted from 1), the kind of the node and
+-- the symbols.
+pub record Rule (A i k : ℕ) (rhs : List Sym) : Type 0 where
+  pub category : ex means (nt A) ≡ child (categoryOf (ex means (nt A)))
+  pub from-one : suc (i - 1) ≡ i
+  pub kind : getElem? (kindsOf shapes (categoryOf (ex means (nt A)))) (i - 1) ≡ some k
+  pub rule : alt table A i ≡ some rhs
+
+module _ {A i k : ℕ} {rhs : List Sym} (z : Rule A i k rhs) {x : Text} {st : State} (y : Ready x st) (e : choose table A (st .class) ≡ i) where
+  chosen : choose table A (getD (classes x) (st .at) 0) ≡ i
   chosen = ap (choose table A) (sym (y .stands .class-is)) ∙ e
 
   expands : expand table A (getD (classes x) (st .at) 0) ≡ some rhs
@@ -186,7 +199,7 @@ module _ {A i k : ℕ} {rhs : List Sym} (z : Rule A i k rhs) {x : Text} {st : St
         items = shape.sub k (q .items) shape.nil;
         L = q .L;
         m = q .m;
-        reads = n-sub (z .C) i k (z .category) (z .kind) chosen (z .rule) (q .reads) n-end;
+        reads = n-sub (categoryOf (ex means (nt A))) (i - 1) k (z .category) (z .kind) (chosen ∙ sym (z .from-one)) (ap (alt table A) (z .from-one) ∙ z .rule) (q .reads) n-end;
         lays = q .lays;
         info = q .info;
       })

@@ -27,7 +27,7 @@ use Rattle.grammar.specs.Records.{Head, head, Role, aMark, asName, asNumber, ro
 use Rattle.grammar.specs.Faults.{Fault, faultsAt, faults, earliest}
 use Rattle.grammar.specs.KeptTokens.{classesOf, length-classes, yield-arranged, yield-records}
 use Rattle.lexer.specs.Classes as t
-use Rattle.parse.specs.Contract.{Text, classes, tokAt, Read, Stuck, raw, faultIn, sooner, kept, fault, Stands, Ready, Moved, Put, Laid, Info, asItems, asNode, Went, Parsed, read, stuck, reserved, cleaned, Mark, Named, Node}
+use Rattle.parse.specs.Contract.{Text, classes, tokAt, Read, Stuck, raw, faultIn, sooner, kept, fault, Stands, Ready, Moved, Put, Laid, Info, asItems, asNode, Went, Parsed, read, stuck, reserved, cleaned, Mark, Named, Node, countable, u32Count}
 use Rattle.parse.specs.declared.State.{State}
 use Rattle.parse.proofs.Splice.{header, sets-next}
 use Rattle.parse.proofs.Lists.{joined, sooner-none, sooner-assoc, length-words, earliest-append}
@@ -97,16 +97,16 @@ module _ {x : Text} {st st′ : State} (h : Stands x st) (i : st .at < length (x
         info = record { raw-is = raw-word x (st .at) c; laid-is = refl; one = refl };
       }
 
-  module _ {l l′ : List ℕ} {kind low high : ℕ} {st″ : State} (put : Put l (st′ .out) kind (st .start) (st .stop) low high 1 l′) (more : st″ ≡ reserved st′) (few : st .out ≤ 16777216) where
+  module _ {l l′ : List ℕ} {kind low high : ℕ} {st″ : State} (put : Put l (st′ .out) kind (st .start) (st .stop) low high 1 l′) (more : st″ ≡ reserved st′) (few : st .out ≤ countable) where
     child-laid : (c : ℕ) → Laid x st l (shape.word c shape.nil) (sub kind low high (mark (tokAt x (st .at)) own.none) own.none) 0 st″ l′
     unfolding shape.yield reserved
     child-laid c =
         let a = v .ahead i in
         let o = v .out-is in
-        let o₂ : st″ .out ≡ (st′ .out + 1) % 4294967296 = ap (λ (y : State). y .out) more in
+        let o₂ : st″ .out ≡ (st′ .out + 1) % u32Count = ap (λ (y : State). y .out) more in
         let a₂ : st″ .at ≡ st′ .at = ap (λ (y : State). y .at) more in
         let k₂ : kept st″ ≡ kept st′ = ap₂ (λ a b. fault a b) (ap (λ (y : State). y .fault) more) (ap (λ (y : State). y .place) more) in
-        let o₃ : st′ .out + 1 < 4294967296 = omega arith in
+        let o₃ : st′ .out + 1 < u32Count = omega arith in
         record {
           ends = omega arith;
           sized = omega arith;

@@ -1,4 +1,4 @@
--- Laws by a test that antt computes over the 63 classes 0 to 62, and past them: no row of grammar's table has a case there.
+-- Laws by a test that antt computes over the classes, and past them: no row of grammar's table has a case there.
 -- Assumes nothing.
 use mathlib.Core.Bool.{Bool, true, false, _&&_}
 use mathlib.Core.List.{List, [], _∷_}
@@ -14,6 +14,11 @@ use Rattle.kinds.specs.Shape.{has}
 use Rattle.theory.specs.Grammar.{Case, on, Row, blank, look, row}
 use Rattle.theory.specs.Machine.{choose}
 use Rattle.grammar.specs.Tables.{table}
+use Rattle.lexer.specs.Classes as t
+
+-- The first number past the classes.
+abbrev pub pastClasses : ℕ
+pastClasses = suc t.true
 
 -- The n numbers from a on pass the test.
 abbrev pub run : (ℕ → Bool) → ℕ → ℕ → Bool
@@ -29,33 +34,33 @@ run-at f (suc n) a c t l h = go (eqb a c) refl (first-of (f a) (run f n (suc a))
     go true e u r = subst (λ (y : ℕ). T (f y)) (eqb→eq a c (rw e tt)) u
     go false e u r = r (λ i. differ (sym e ∙ eq-eqb a c i))
 
--- What holds at each class below 63, by one test.
-pub sweep : (f : ℕ → Bool) → T (run f 63 0) → (c : ℕ) → c < 63 → T (f c)
-sweep f t c h = run-at f 63 0 c t (omega arith) (omega arith)
+-- What holds at each class, by one test.
+pub sweep : (f : ℕ → Bool) → T (run f pastClasses 0) → (c : ℕ) → c < pastClasses → T (f c)
+sweep f t c h = run-at f pastClasses 0 c t (omega arith) (omega arith)
 
--- Two functions that agree below 63, by one test, and past that.
-pub agree : (f g : ℕ → ℕ) → T (run (λ c. eqb (f c) (g c)) 63 0) → ((c : ℕ) → 63 ≤ c → f c ≡ g c) → (c : ℕ) → f c ≡ g c
-agree f g t past c = go (ltb c 63) refl
+-- Two functions that agree at the classes, by one test, and past them.
+pub agree : (f g : ℕ → ℕ) → T (run (λ c. eqb (f c) (g c)) pastClasses 0) → ((c : ℕ) → pastClasses ≤ c → f c ≡ g c) → (c : ℕ) → f c ≡ g c
+agree f g t past c = go (ltb c pastClasses) refl
   where
-    go : (b : Bool) → ltb c 63 ≡ b → f c ≡ g c
-    go true e = eqb→eq (f c) (g c) (sweep (λ c. eqb (f c) (g c)) t c (ltb-true c 63 e))
-    go false e = past c (ltb-false c 63 e)
+    go : (b : Bool) → ltb c pastClasses ≡ b → f c ≡ g c
+    go true e = eqb→eq (f c) (g c) (sweep (λ c. eqb (f c) (g c)) t c (ltb-true c pastClasses e))
+    go false e = past c (ltb-false c pastClasses e)
 
--- The keys of cases, of a row, and of the rows of a table are below 63.
+-- The keys of cases, of a row, and of the rows of a table are classes.
 abbrev pub low-keys : List Case → Bool
 low-keys [] = true
-low-keys (on k i ∷ l) = ltb k 63 && low-keys l
+low-keys (on k i ∷ l) = ltb k pastClasses && low-keys l
 
 abbrev pub low-rows : List Row → Bool
 low-rows [] = true
 low-rows (r ∷ g) = low-keys (r .cases) && low-rows g
 
-pub look-past : (l : List Case) (d c : ℕ) → T (low-keys l) → 63 ≤ c → look l d c ≡ d
+pub look-past : (l : List Case) (d c : ℕ) → T (low-keys l) → pastClasses ≤ c → look l d c ≡ d
 unfolding look
 look-past [] d c t h = refl
 look-past (on k i ∷ l) d c t h =
-    let lt = ltb→lt k 63 (first-of (ltb k 63) (low-keys l) t) in
-    rw (look, ne-eqb c k (λ e. omega arith)) (look-past l d c (second-of (ltb k 63) (low-keys l) t) h)
+    let lt = ltb→lt k pastClasses (first-of (ltb k pastClasses) (low-keys l) t) in
+    rw (look, ne-eqb c k (λ e. omega arith)) (look-past l d c (second-of (ltb k pastClasses) (low-keys l) t) h)
 
 low-row : (g : List Row) (A : ℕ) → T (low-rows g) → T (low-keys (getD g A blank .cases))
 unfolding blank
@@ -68,18 +73,18 @@ unfolding table
 low-table = tt
 
 -- Past the classes every row chooses what it has for any other class.
-pub beyond : (A c : ℕ) → 63 ≤ c → choose table A c ≡ row table A .other
+pub beyond : (A c : ℕ) → pastClasses ≤ c → choose table A c ≡ row table A .other
 unfolding choose row
 beyond A c h = look-past (row table A .cases) (row table A .other) c (low-row table A low-table) h
 
 -- A number past the classes is in no list of classes.
 abbrev pub low-all : List ℕ → Bool
 low-all [] = true
-low-all (k ∷ l) = ltb k 63 && low-all l
+low-all (k ∷ l) = ltb k pastClasses && low-all l
 
-pub has-past : (l : List ℕ) (c : ℕ) → T (low-all l) → 63 ≤ c → has l c ≡ false
+pub has-past : (l : List ℕ) (c : ℕ) → T (low-all l) → pastClasses ≤ c → has l c ≡ false
 unfolding has
 has-past [] c t h = refl
 has-past (k ∷ l) c t h =
-    let lt = ltb→lt k 63 (first-of (ltb k 63) (low-all l) t) in
-    rw (ne-eqb k c (λ e. omega arith)) (has-past l c (second-of (ltb k 63) (low-all l) t) h)
+    let lt = ltb→lt k pastClasses (first-of (ltb k pastClasses) (low-all l) t) in
+    rw (ne-eqb k c (λ e. omega arith)) (has-past l c (second-of (ltb k pastClasses) (low-all l) t) h)

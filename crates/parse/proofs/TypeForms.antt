@@ -10,6 +10,7 @@ use native.Mathlib.Omega.{arith}
 use lib.Dec.{T, eqb, eqb→eq, ltb, ltb→lt, leb}
 use lib.ListN.{length, take, drop, getD, getElem?}
 use Rattle.text.specs.Part.{partOf}
+use Rattle.text.specs.Refusals as refusal
 use Rattle.num.specs.Value as numbers
 use Rattle.num.specs.Digits as digits
 use Rattle.num.specs.Value.{numberOf}
@@ -29,15 +30,19 @@ use Rattle.own.specs.Tree.{Tok, Items, marks}
 use Rattle.own.specs.Flat.{no-token}
 use Rattle.own.specs.Rules.{sorts}
 use Rattle.own.specs.Law.{Sort, word, child}
+use Rattle.own.specs.Kinds as kind
 use Rattle.grammar.specs.Shapes.{shapes}
 use Rattle.grammar.specs.Tables.{means, table}
 use Rattle.grammar.specs.Records.{Head, head, wide, plain, sees, headOf, forms, formOf, lowHalf, highHalf, typeName, patternName, textOf, firstTok, firstOf, opening, reads, decimal, builtinType, unsignedType, boolType, Role, aMark, roleOf}
 use Rattle.grammar.specs.Faults.{unless, faultsAt, earliest, earlier}
+use Rattle.grammar.specs.ShapeKind.{ArrayTypeShape, EitherTypeShape, ListTypeShape, NamedTypeShape, OptionTypeShape, TupleTypeShape}
+use Rattle.grammar.specs.TablesIndex.{n-eitherType-optional-LAngle, n-list-type, n-listType-optional-LAngle, n-namedType, n-optionType-optional-LAngle, n-tail-type, n-type}
 use Rattle.parse.specs.Contract.{Text, text, tokAt, Stands, fault, boundFault, Judged}
 use Rattle.parse.specs.declared.State.{State}
+use Rattle.parse.specs.Choice as choice
 use Rattle.parse.proofs.Sweep.{run}
 use Rattle.parse.proofs.Chosen.{where-chosen, alone, is-alone, hit, miss, goes}
-use Rattle.parse.proofs.Roles.{keeping, keeping-mark}
+use Rattle.parse.proofs.Roles.{keeping, keeping-mark, keeps-between}
 use Rattle.parse.proofs.Laws.{Amid}
 use Rattle.parse.proofs.Steps.{numberIn, decided}
 use Rattle.parse.proofs.Shuts.{Rule}
@@ -45,83 +50,83 @@ use Rattle.parse.proofs.Lined.{Rows}
 
 -- The rules of types.
 abbrev pub eitherRhs : List Sym
-eitherRhs = tok 41 ∷ nt 11 ∷ []
+eitherRhs = tok t.Either ∷ nt n-eitherType-optional-LAngle ∷ []
 
 abbrev pub optionRhs : List Sym
-optionRhs = tok 42 ∷ nt 12 ∷ []
+optionRhs = tok t.Option ∷ nt n-optionType-optional-LAngle ∷ []
 
 abbrev pub listRhs : List Sym
-listRhs = tok 43 ∷ nt 13 ∷ []
+listRhs = tok t.List ∷ nt n-listType-optional-LAngle ∷ []
 
 abbrev pub namedRhs : List Sym
-namedRhs = nt 14 ∷ []
+namedRhs = nt n-namedType ∷ []
 
 abbrev pub tupleRhs : List Sym
-tupleRhs = tok 20 ∷ nt 15 ∷ tok 21 ∷ []
+tupleRhs = tok t.LParen ∷ nt n-list-type ∷ tok t.RParen ∷ []
 
 abbrev pub arrayRhs : List Sym
-arrayRhs = tok 22 ∷ nt 8 ∷ tok 16 ∷ tok 28 ∷ tok 23 ∷ []
+arrayRhs = tok t.LBracket ∷ nt n-type ∷ tok t.Semi ∷ tok t.DecLiteral ∷ tok t.RBracket ∷ []
 
-pub either-rule : Rule 8 0 2 eitherRhs
+pub either-rule : Rule n-type choice.EitherType EitherTypeShape eitherRhs
 unfolding ex means kindsOf shapes row table alt pick
-either-rule = record { C = 2; category = refl; kind = refl; rule = refl }
+either-rule = record { category = refl; from-one = refl; kind = refl; rule = refl }
 
-pub option-rule : Rule 8 1 3 optionRhs
+pub option-rule : Rule n-type choice.OptionType OptionTypeShape optionRhs
 unfolding ex means kindsOf shapes row table alt pick
-option-rule = record { C = 2; category = refl; kind = refl; rule = refl }
+option-rule = record { category = refl; from-one = refl; kind = refl; rule = refl }
 
-pub list-rule : Rule 8 2 4 listRhs
+pub list-rule : Rule n-type choice.ListType ListTypeShape listRhs
 unfolding ex means kindsOf shapes row table alt pick
-list-rule = record { C = 2; category = refl; kind = refl; rule = refl }
+list-rule = record { category = refl; from-one = refl; kind = refl; rule = refl }
 
-pub named-rule : Rule 8 3 5 namedRhs
+pub named-rule : Rule n-type choice.NamedType NamedTypeShape namedRhs
 unfolding ex means kindsOf shapes row table alt pick
-named-rule = record { C = 2; category = refl; kind = refl; rule = refl }
+named-rule = record { category = refl; from-one = refl; kind = refl; rule = refl }
 
-pub tuple-rule : Rule 8 4 6 tupleRhs
+pub tuple-rule : Rule n-type choice.TupleType TupleTypeShape tupleRhs
 unfolding ex means kindsOf shapes row table alt pick
-tuple-rule = record { C = 2; category = refl; kind = refl; rule = refl }
+tuple-rule = record { category = refl; from-one = refl; kind = refl; rule = refl }
 
-pub array-rule : Rule 8 5 7 arrayRhs
+pub array-rule : Rule n-type choice.ArrayType ArrayTypeShape arrayRhs
 unfolding ex means kindsOf shapes row table alt pick
-array-rule = record { C = 2; category = refl; kind = refl; rule = refl }
+array-rule = record { category = refl; from-one = refl; kind = refl; rule = refl }
 
 -- The tokens that they begin with.
 module _ (c : ℕ) where
-  pub at-either : choose table 8 c ≡ 1 → c ≡ 41
+  pub at-either : choose table n-type c ≡ choice.EitherType → c ≡ t.Either
   unfolding choose row table look
-  at-either e = eqb→eq c 41 (where-chosen 8 1 (λ a. eqb a 41) tt tt c e)
+  at-either e = eqb→eq c t.Either (where-chosen n-type choice.EitherType (λ a. eqb a t.Either) tt tt c e)
 
-  pub at-option : choose table 8 c ≡ 2 → c ≡ 42
+  pub at-option : choose table n-type c ≡ choice.OptionType → c ≡ t.Option
   unfolding choose row table look
-  at-option e = eqb→eq c 42 (where-chosen 8 2 (λ a. eqb a 42) tt tt c e)
+  at-option e = eqb→eq c t.Option (where-chosen n-type choice.OptionType (λ a. eqb a t.Option) tt tt c e)
 
-  pub at-list : choose table 8 c ≡ 3 → c ≡ 43
+  pub at-list : choose table n-type c ≡ choice.ListType → c ≡ t.List
   unfolding choose row table look
-  at-list e = eqb→eq c 43 (where-chosen 8 3 (λ a. eqb a 43) tt tt c e)
+  at-list e = eqb→eq c t.List (where-chosen n-type choice.ListType (λ a. eqb a t.List) tt tt c e)
 
-  pub at-named : choose table 8 c ≡ 4 → expand table 14 c ≡ some (tok c ∷ [])
+  pub at-named : choose table n-type c ≡ choice.NamedType → expand table n-namedType c ≡ some (tok c ∷ [])
   unfolding choose row table look alt pick
-  at-named e = is-alone (expand table 14 c) c (where-chosen 8 4 (λ a. alone (expand table 14 a) a) tt tt c e)
+  at-named e = is-alone (expand table n-namedType c) c (where-chosen n-type choice.NamedType (λ a. alone (expand table n-namedType a) a) tt tt c e)
 
-  pub at-tuple : choose table 8 c ≡ 5 → c ≡ 20
+  pub at-tuple : choose table n-type c ≡ choice.TupleType → c ≡ t.LParen
   unfolding choose row table look
-  at-tuple e = eqb→eq c 20 (where-chosen 8 5 (λ a. eqb a 20) tt tt c e)
+  at-tuple e = eqb→eq c t.LParen (where-chosen n-type choice.TupleType (λ a. eqb a t.LParen) tt tt c e)
 
-  pub at-array : choose table 8 c ≡ 6 → c ≡ 22
+  pub at-array : choose table n-type c ≡ choice.ArrayType → c ≡ t.LBracket
   unfolding choose row table look
-  at-array e = eqb→eq c 22 (where-chosen 8 6 (λ a. eqb a 22) tt tt c e)
+  at-array e = eqb→eq c t.LBracket (where-chosen n-type choice.ArrayType (λ a. eqb a t.LBracket) tt tt c e)
 
-pub flat-named : sortOf (ex means (nt 14)) ≡ shape.flat
+pub flat-named : sortOf (ex means (nt n-namedType)) ≡ shape.flat
 unfolding sortOf ex means
 flat-named = refl
 
 -- No type begins with another class.
-pub no-type : (c i : ℕ) → i ≡ choose table 8 c → ((((((Unit {0} × (i ≡ 1 → ⊥)) × (i ≡ 2 → ⊥)) × (i ≡ 3 → ⊥)) × (i ≡ 4 → ⊥)) × (i ≡ 5 → ⊥)) × (i ≡ 6 → ⊥)) → expand table 8 c ≡ none
+pub no-type : (c i : ℕ) → i ≡ choose table n-type c → ((((((Unit {0} × (i ≡ choice.EitherType → ⊥)) × (i ≡ choice.OptionType → ⊥)) × (i ≡ choice.ListType → ⊥)) × (i ≡ choice.NamedType → ⊥)) × (i ≡ choice.TupleType → ⊥)) × (i ≡ choice.ArrayType → ⊥)) → expand table n-type c ≡ none
 unfolding row table alt pick
-no-type c i e h = ap (alt table 8) (sym e) ∙ go i h
+no-type c i e h = ap (alt table n-type) (sym e) ∙ go i h
   where
-    go : (i : ℕ) → ((((((Unit {0} × (i ≡ 1 → ⊥)) × (i ≡ 2 → ⊥)) × (i ≡ 3 → ⊥)) × (i ≡ 4 → ⊥)) × (i ≡ 5 → ⊥)) × (i ≡ 6 → ⊥)) → alt table 8 i ≡ none
+    go : (i : ℕ) → ((((((Unit {0} × (i ≡ choice.EitherType → ⊥)) × (i ≡ choice.OptionType → ⊥)) × (i ≡ choice.ListType → ⊥)) × (i ≡ choice.NamedType → ⊥)) × (i ≡ choice.TupleType → ⊥)) × (i ≡ choice.ArrayType → ⊥)) → alt table n-type i ≡ none
     go zero h = refl
     go (suc zero) h = absurd (h .0 .0 .0 .0 .0 .1 refl)
     go (suc (suc zero)) h = absurd (h .0 .0 .0 .0 .1 refl)
@@ -133,86 +138,86 @@ no-type c i e h = ap (alt table 8) (sym e) ∙ go i h
 
 -- What may follow `Either`, `Option` and `List`.
 module _ {a : ℕ} where
-  pub either-alone : (a ≡ 26 → ⊥) → expand table 11 a ≡ some []
+  pub either-alone : (a ≡ t.LAngle → ⊥) → expand table n-eitherType-optional-LAngle a ≡ some []
   unfolding choose row table look alt pick
-  either-alone h = goes 11 1 a (miss 26 2 [] 1 h refl) refl
+  either-alone h = goes n-eitherType-optional-LAngle 1 a (miss t.LAngle 2 [] 1 h refl) refl
 
-  pub either-angle : a ≡ 26 → expand table 11 a ≡ some (tok 26 ∷ nt 8 ∷ tok 17 ∷ nt 8 ∷ tok 27 ∷ [])
+  pub either-angle : a ≡ t.LAngle → expand table n-eitherType-optional-LAngle a ≡ some (tok t.LAngle ∷ nt n-type ∷ tok t.Comma ∷ nt n-type ∷ tok t.RAngle ∷ [])
   unfolding choose row table look alt pick
-  either-angle h = goes 11 2 a (hit 26 2 [] 1 h) refl
+  either-angle h = goes n-eitherType-optional-LAngle 2 a (hit t.LAngle 2 [] 1 h) refl
 
-  pub option-alone : (a ≡ 26 → ⊥) → expand table 12 a ≡ some []
+  pub option-alone : (a ≡ t.LAngle → ⊥) → expand table n-optionType-optional-LAngle a ≡ some []
   unfolding choose row table look alt pick
-  option-alone h = goes 12 1 a (miss 26 2 [] 1 h refl) refl
+  option-alone h = goes n-optionType-optional-LAngle 1 a (miss t.LAngle 2 [] 1 h refl) refl
 
-  pub option-angle : a ≡ 26 → expand table 12 a ≡ some (tok 26 ∷ nt 8 ∷ tok 27 ∷ [])
+  pub option-angle : a ≡ t.LAngle → expand table n-optionType-optional-LAngle a ≡ some (tok t.LAngle ∷ nt n-type ∷ tok t.RAngle ∷ [])
   unfolding choose row table look alt pick
-  option-angle h = goes 12 2 a (hit 26 2 [] 1 h) refl
+  option-angle h = goes n-optionType-optional-LAngle 2 a (hit t.LAngle 2 [] 1 h) refl
 
-  pub list-alone : (a ≡ 26 → ⊥) → expand table 13 a ≡ some []
+  pub list-alone : (a ≡ t.LAngle → ⊥) → expand table n-listType-optional-LAngle a ≡ some []
   unfolding choose row table look alt pick
-  list-alone h = goes 13 1 a (miss 26 2 [] 1 h refl) refl
+  list-alone h = goes n-listType-optional-LAngle 1 a (miss t.LAngle 2 [] 1 h refl) refl
 
-  pub list-angle : a ≡ 26 → expand table 13 a ≡ some (tok 26 ∷ nt 8 ∷ tok 17 ∷ tok 28 ∷ tok 27 ∷ [])
+  pub list-angle : a ≡ t.LAngle → expand table n-listType-optional-LAngle a ≡ some (tok t.LAngle ∷ nt n-type ∷ tok t.Comma ∷ tok t.DecLiteral ∷ tok t.RAngle ∷ [])
   unfolding choose row table look alt pick
-  list-angle h = goes 13 2 a (hit 26 2 [] 1 h) refl
+  list-angle h = goes n-listType-optional-LAngle 2 a (hit t.LAngle 2 [] 1 h) refl
 
-pub flat-either : sortOf (ex means (nt 11)) ≡ shape.flat
+pub flat-either : sortOf (ex means (nt n-eitherType-optional-LAngle)) ≡ shape.flat
 unfolding sortOf ex means
 flat-either = refl
 
-pub flat-option : sortOf (ex means (nt 12)) ≡ shape.flat
+pub flat-option : sortOf (ex means (nt n-optionType-optional-LAngle)) ≡ shape.flat
 unfolding sortOf ex means
 flat-option = refl
 
-pub flat-list : sortOf (ex means (nt 13)) ≡ shape.flat
+pub flat-list : sortOf (ex means (nt n-listType-optional-LAngle)) ≡ shape.flat
 unfolding sortOf ex means
 flat-list = refl
 
 -- The rows of lists of types and of patterns.
-pub type-rows : Rows 15 19 8 (λ c. c ≡ 21)
+pub type-rows : Rows n-list-type n-tail-type n-type (λ c. c ≡ t.RParen)
 unfolding sortOf ex means choose row table look alt pick
 type-rows = record {
   flat-list = refl;
   flat-tail = refl;
-  ends = λ c h. goes 15 1 c (hit 21 1 [] 2 h) refl;
-  more = λ c h. goes 15 2 c (miss 21 1 [] 2 h refl) refl;
-  stops = λ c h. goes 19 1 c (miss 17 2 [] 1 h refl) refl;
-  goes = λ c h. goes 19 2 c (hit 17 2 [] 1 h) refl;
+  ends = λ c h. goes n-list-type 1 c (hit t.RParen 1 [] 2 h) refl;
+  more = λ c h. goes n-list-type 2 c (miss t.RParen 1 [] 2 h refl) refl;
+  stops = λ c h. goes n-tail-type 1 c (miss t.Comma 2 [] 1 h refl) refl;
+  goes = λ c h. goes n-tail-type 2 c (hit t.Comma 2 [] 1 h) refl;
 }
 
 -- The heads of types.
 module _ {x : Text} {K : ℕ} {N : ℕ → Type 0} {full left : List Sym} {st : State} {l : List ℕ} {ms : List Tok} {m : ℕ} {st₁ : State} {l₁ : List ℕ} where
-  pub either-alone-head : Amid x K N full left st l (word 41 ∷ []) ms m st₁ l₁ → decided x 2 (word 41 ∷ []) ms ≡ head 4 0 0
+  pub either-alone-head : Amid x K N full left st l (word t.Either ∷ []) ms m st₁ l₁ → decided x EitherTypeShape (word t.Either ∷ []) ms ≡ head kind.Alias 0 0
   unfolding headOf formOf forms sees
   either-alone-head d = refl
 
-  pub option-alone-head : Amid x K N full left st l (word 42 ∷ []) ms m st₁ l₁ → decided x 3 (word 42 ∷ []) ms ≡ head 4 0 0
+  pub option-alone-head : Amid x K N full left st l (word t.Option ∷ []) ms m st₁ l₁ → decided x OptionTypeShape (word t.Option ∷ []) ms ≡ head kind.Alias 0 0
   unfolding headOf formOf forms sees
   option-alone-head d = refl
 
-  pub list-alone-head : Amid x K N full left st l (word 43 ∷ []) ms m st₁ l₁ → decided x 4 (word 43 ∷ []) ms ≡ head 4 0 0
+  pub list-alone-head : Amid x K N full left st l (word t.List ∷ []) ms m st₁ l₁ → decided x ListTypeShape (word t.List ∷ []) ms ≡ head kind.Alias 0 0
   unfolding headOf formOf forms sees
   list-alone-head d = refl
 
   module _ {w : List Sort} where
-    pub either-head : Amid x K N full left st l (word 41 ∷ word 26 ∷ w) ms m st₁ l₁ → decided x 2 (word 41 ∷ word 26 ∷ w) ms ≡ wide 8 (numberIn x ms)
+    pub either-head : Amid x K N full left st l (word t.Either ∷ word t.LAngle ∷ w) ms m st₁ l₁ → decided x EitherTypeShape (word t.Either ∷ word t.LAngle ∷ w) ms ≡ wide kind.EitherType (numberIn x ms)
     unfolding headOf formOf forms sees
     either-head d = refl
 
-    pub option-head : Amid x K N full left st l (word 42 ∷ word 26 ∷ w) ms m st₁ l₁ → decided x 3 (word 42 ∷ word 26 ∷ w) ms ≡ wide 9 (numberIn x ms)
+    pub option-head : Amid x K N full left st l (word t.Option ∷ word t.LAngle ∷ w) ms m st₁ l₁ → decided x OptionTypeShape (word t.Option ∷ word t.LAngle ∷ w) ms ≡ wide kind.OptionType (numberIn x ms)
     unfolding headOf formOf forms sees
     option-head d = refl
 
-    pub list-head : Amid x K N full left st l (word 43 ∷ word 26 ∷ w) ms m st₁ l₁ → decided x 4 (word 43 ∷ word 26 ∷ w) ms ≡ wide 12 (numberIn x ms)
+    pub list-head : Amid x K N full left st l (word t.List ∷ word t.LAngle ∷ w) ms m st₁ l₁ → decided x ListTypeShape (word t.List ∷ word t.LAngle ∷ w) ms ≡ wide kind.ListType (numberIn x ms)
     unfolding headOf formOf forms sees
     list-head d = refl
 
-    pub tuple-head : Amid x K N full left st l w ms m st₁ l₁ → decided x 6 w ms ≡ head 10 0 0
+    pub tuple-head : Amid x K N full left st l w ms m st₁ l₁ → decided x TupleTypeShape w ms ≡ head kind.TupleType 0 0
     unfolding headOf formOf forms
     tuple-head d = refl
 
-    pub array-head : Amid x K N full left st l w ms m st₁ l₁ → decided x 7 w ms ≡ wide 11 (numberIn x ms)
+    pub array-head : Amid x K N full left st l w ms m st₁ l₁ → decided x ArrayTypeShape w ms ≡ wide kind.ArrayType (numberIn x ms)
     unfolding headOf formOf forms
     array-head d = refl
 
@@ -239,19 +244,19 @@ zero-high = refl
 
 -- The refusal of a List's bound.
 module _ (draft : List ℕ) where
-  judged : (v : Value) (t : Tok) (b : Bool) → boundOk v ≡ b → earliest (unless b 9 t) ≡ fault (cond b 0 9) (t .start)
+  judged : (v : Value) (y : Tok) (b : Bool) → boundOk v ≡ b → earliest (unless b refusal.Bound y) ≡ fault (cond b 0 refusal.Bound) (y .start)
   unfolding unless earliest earlier fault
-  judged v t true e = refl
-  judged v t false e = refl
+  judged v y true e = refl
+  judged v y false e = refl
 
-  pub list-fault : (is : Items) {w : List Sort} (v : Value) (t : Tok) → sorts is ≡ word 43 ∷ word 26 ∷ w → firstOf 28 (marks is) ≡ t → v ≡ numberOf (textOf draft t) → earliest (faultsAt draft 4 is) ≡ fault (boundFault v) (t .start)
+  pub list-fault : (is : Items) {w : List Sort} (v : Value) (y : Tok) → sorts is ≡ word t.List ∷ word t.LAngle ∷ w → firstOf t.DecLiteral (marks is) ≡ y → v ≡ numberOf (textOf draft y) → earliest (faultsAt draft ListTypeShape is) ≡ fault (boundFault v) (y .start)
   unfolding faultsAt sees decimal boundFault
-  list-fault is {w} v t e f g =
-      (λ i. earliest (unless (not (sees 26 (e i)) || boundOk (numberOf (textOf draft (f i)))) 9 (f i))) ∙ (λ i. earliest (unless (boundOk (sym g i)) 9 t)) ∙ judged v t (boundOk v) refl
+  list-fault is {w} v y e f g =
+      (λ i. earliest (unless (not (sees t.LAngle (e i)) || boundOk (numberOf (textOf draft (f i)))) refusal.Bound (f i))) ∙ (λ i. earliest (unless (boundOk (sym g i)) refusal.Bound y)) ∙ judged v y (boundOk v) refl
 
-  pub list-alone-fault : (is : Items) → sorts is ≡ word 43 ∷ [] → earliest (faultsAt draft 4 is) ≡ fault 0 0
+  pub list-alone-fault : (is : Items) → sorts is ≡ word t.List ∷ [] → earliest (faultsAt draft ListTypeShape is) ≡ fault 0 0
   unfolding faultsAt sees decimal unless earliest fault
-  list-alone-fault is e = λ i. earliest (unless (not (sees 26 (e i)) || boundOk (numberOf (textOf draft (firstOf 28 (marks is))))) 9 (firstOf 28 (marks is)))
+  list-alone-fault is e = λ i. earliest (unless (not (sees t.LAngle (e i)) || boundOk (numberOf (textOf draft (firstOf t.DecLiteral (marks is))))) refusal.Bound (firstOf t.DecLiteral (marks is)))
 
 -- The refusal of a number stands at its token.
 pub judged-at : {outer inner r : State} {n n′ p p′ : ℕ} → Judged outer inner n p r → n ≡ n′ → p ≡ p′ → Judged outer inner n′ p′ r
@@ -259,46 +264,46 @@ judged-at {outer} {inner} {r} {n′ = n′} {p = p} j e f = subst (λ q. Judged 
 
 -- A name of a type: its class is not 0, and the head of its record.
 module _ (c : ℕ) where
-  pub named-pos : choose table 8 c ≡ 4 → 0 < c
+  pub named-pos : choose table n-type c ≡ choice.NamedType → 0 < c
   unfolding choose row table look
-  named-pos e = ltb→lt 0 c (where-chosen 8 4 (λ a. ltb 0 a) tt tt c e)
+  named-pos e = ltb→lt 0 c (where-chosen n-type choice.NamedType (λ a. ltb 0 a) tt tt c e)
 
-named-kinds : (f g : Found) (h : Found) → (4 ≤ boolType f (unsignedType g (builtinType h)) .kind) × (boolType f (unsignedType g (builtinType h)) .kind ≤ 7)
+named-kinds : (f g : Found) (h : Found) → (kind.Alias ≤ boolType f (unsignedType g (builtinType h)) .kind) × (boolType f (unsignedType g (builtinType h)) .kind ≤ kind.Unsigned)
 unfolding boolType unsignedType builtinType
 named-kinds (Word i) g h = (omega arith, omega arith)
 named-kinds Plain (Word i) h = (omega arith, omega arith)
 named-kinds Plain Plain (Word i) = (omega arith, omega arith)
 named-kinds Plain Plain Plain = (omega arith, omega arith)
 
-type-kind : (p : List ℕ) (c : ℕ) → (4 ≤ typeName p c .kind) × (typeName p c .kind ≤ 7)
+type-kind : (p : List ℕ) (c : ℕ) → (kind.Alias ≤ typeName p c .kind) × (typeName p c .kind ≤ kind.Unsigned)
 unfolding typeName
 type-kind p c = go (eqb c t.Ident)
   where
     h : Head
     h = boolType (wordOf BOOL p) (unsignedType (wordOf UINT_TYPES p) (builtinType (wordOf BUILTIN_ALIASES p)))
 
-    go : (b : Bool) → (4 ≤ cond b h (plain 4) .kind) × (cond b h (plain 4) .kind ≤ 7)
+    go : (b : Bool) → (kind.Alias ≤ cond b h (plain kind.Alias) .kind) × (cond b h (plain kind.Alias) .kind ≤ kind.Unsigned)
     go true = named-kinds (wordOf BOOL p) (wordOf UINT_TYPES p) (wordOf BUILTIN_ALIASES p)
     go false = (omega arith, omega arith)
 
 module _ {k low : ℕ} (p : List ℕ) (c : ℕ) (e : head k low 0 ≡ typeName p c) where
-  kind-is : (4 ≤ k) × (k ≤ 7)
+  kind-is : (kind.Alias ≤ k) × (k ≤ kind.Unsigned)
   kind-is = let h = type-kind p c in let f : k ≡ typeName p c .kind = ap (λ (u : Head). u .kind) e in (omega arith, omega arith)
 
-  pub named-kind : (4 ≤ k) × (k ≤ 12)
+  pub named-kind : (kind.Alias ≤ k) × (k ≤ kind.ListType)
   named-kind = (kind-is .0, omega (arith, kind-is .1))
 
-  pub named-unturned : T (not (eqb k 35))
-  named-unturned = rw (ne-eqb k 35 (λ f. omega (arith, kind-is .1))) tt
+  pub named-unturned : T (not (eqb k kind.Match))
+  named-unturned = rw (ne-eqb k kind.Match (λ f. omega (arith, kind-is .1))) tt
 
   keeping-kind : T (keeping k)
-  keeping-kind = rw (ne-eqb k 1 (λ f. omega (arith, kind-is .0)), ne-eqb k 3 (λ f. omega (arith, kind-is .0)), ne-eqb k 34 (λ f. omega (arith, kind-is .1)), ne-eqb k 38 (λ f. omega (arith, kind-is .1)), ne-eqb k 39 (λ f. omega (arith, kind-is .1))) tt
+  keeping-kind = keeps-between kind.Alias kind.Unsigned k tt (kind-is .0) (kind-is .1)
 
   pub named-role : (d : ℕ) → roleOf k d ≡ aMark
   named-role d = keeping-mark k d keeping-kind
 
 pub named-head : (d w : List ℕ) (n : ℕ) {st : State} (r : State) {k low : ℕ} → Stands (text d w n) st → r .at ≡ st .at → head k low 0 ≡ typeName (partOf d (st .start) (st .stop)) (st .class)
-    → decided (text d w n) 5 (word (st .class) ∷ []) (tokAt (text d w n) (r .at) ∷ []) ≡ head k low 0
+    → decided (text d w n) NamedTypeShape (word (st .class) ∷ []) (tokAt (text d w n) (r .at) ∷ []) ≡ head k low 0
 unfolding headOf formOf forms opening textOf firstTok text
 named-head d w n {st} r s a e =
     ap (λ (i : ℕ). typeName (partOf d (tokAt (text d w n) i .start) (tokAt (text d w n) i .stop)) (st .class)) a

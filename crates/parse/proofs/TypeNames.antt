@@ -15,6 +15,9 @@ use Rattle.words.specs.declared.Found.{Found}
 use Rattle.words.specs.declared.Found.the-variants.{Word, Plain}
 use Rattle.words.specs.declared.Table.the-variants.{TypeNames}
 use Rattle.grammar.specs.Records.{Head, head, plain, builtinType, unsignedType, boolType, typeName}
+use Rattle.lexer.specs.Classes as t
+use Rattle.own.specs.Kinds as kind
+use Rattle.parse.specs.Contract.{u32Count}
 use Rattle.parse.proofs.Sweep.{run-at}
 
 -- the first answer that is a word
@@ -71,8 +74,8 @@ within ws p Plain s = tt
 
 -- The head of a type's name by its place in the table.
 abbrev pub typeAt : Found → Head
-typeAt (Word k) = cond (eqb k 0) (head 6 0 0) (cond (ltb k 10) (head 7 (2 ^ (k - 1)) 0) (head 5 (k - 10) 0))
-typeAt Plain = head 4 0 0
+typeAt (Word k) = cond (eqb k 0) (head kind.BoolType 0 0) (cond (ltb k 10) (head kind.Unsigned (2 ^ (k - 1)) 0) (head kind.Builtin (k - 10) 0))
+typeAt Plain = head kind.Alias 0 0
 
 in-one : (b u a : Found) → Within 1 b → Within 9 u → boolType b (unsignedType u (builtinType a)) ≡ typeAt (either b (from 1 (either u (from 9 a))))
 unfolding boolType unsignedType builtinType either from Within
@@ -102,17 +105,17 @@ tables p =
     (word-append p UINT_TYPES BUILTIN_ALIASES ∙ ap (λ n. either (wordOf UINT_TYPES p) (from n (wordOf BUILTIN_ALIASES p))) nine-unsigned)
 
 -- What a plain name is as a type, by the table.
-pub by-table : (p : List ℕ) (c : ℕ) → c ≡ 32 → typeName p c ≡ typeAt (wordOf (wordsOf TypeNames) p)
+pub by-table : (p : List ℕ) (c : ℕ) → c ≡ t.Ident → typeName p c ≡ typeAt (wordOf (wordsOf TypeNames) p)
 unfolding typeName
 by-table p c e =
-    rw (eq-eqb c 32 e)
+    rw (eq-eqb c t.Ident e)
     (in-one (wordOf BOOL p) (wordOf UINT_TYPES p) (wordOf BUILTIN_ALIASES p) (subst (λ (n : ℕ). Within n (wordOf BOOL p)) one-bool (within BOOL p (wordOf BOOL p) (says BOOL p)))
     (subst (λ (n : ℕ). Within n (wordOf UINT_TYPES p)) nine-unsigned (within UINT_TYPES p (wordOf UINT_TYPES p) (says UINT_TYPES p))) ∙ ap typeAt (sym (tables p)))
 
 -- A name that is none.
-pub other-name : (p : List ℕ) (c : ℕ) → (c ≡ 32 → ⊥) → typeName p c ≡ head 4 0 0
+pub other-name : (p : List ℕ) (c : ℕ) → (c ≡ t.Ident → ⊥) → typeName p c ≡ head kind.Alias 0 0
 unfolding typeName
-other-name p c n = rw (ne-eqb c 32 n) refl
+other-name p c n = rw (ne-eqb c t.Ident n) refl
 
 -- There are 34 of them.
 pub few : (p : List ℕ) (k : ℕ) → wordOf (wordsOf TypeNames) p ≡ Word k → k < 34
@@ -120,5 +123,5 @@ unfolding wordsOf TYPE_NAMES BOOL UINT_TYPES BUILTIN_ALIASES
 few p k e = below (wordsOf TypeNames) p k e
 
 -- The shift of 1 by a small number is a power of two.
-pub shifted : (i : ℕ) → i < 9 → (1 * 2 ^ i) % 4294967296 ≡ 2 ^ i
-shifted i h = eqb→eq ((1 * 2 ^ i) % 4294967296) (2 ^ i) (run-at (λ i. eqb ((1 * 2 ^ i) % 4294967296) (2 ^ i)) 9 0 i tt (omega arith) (omega arith))
+pub shifted : (i : ℕ) → i < 9 → (1 * 2 ^ i) % u32Count ≡ 2 ^ i
+shifted i h = eqb→eq ((1 * 2 ^ i) % u32Count) (2 ^ i) (run-at (λ i. eqb ((1 * 2 ^ i) % u32Count) (2 ^ i)) 9 0 i tt (omega arith) (omega arith))

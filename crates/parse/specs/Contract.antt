@@ -12,7 +12,7 @@ use lib.Seq.{sets}
 use Rattle.num.specs.Value.{numberOf}
 use Rattle.num.specs.declared.Value.{Value}
 use Rattle.num.specs.Bound.{boundOk, sizeOk}
-use Rattle.theory.specs.Grammar.{Sym}
+use Rattle.theory.specs.Grammar.{Sym, nt}
 use Rattle.theory.specs.Machine.{choose}
 use Rattle.theory.specs.Ebnf as shape
 use Rattle.theory.specs.Walk.{Reads, Sticks}
@@ -21,11 +21,14 @@ use Rattle.own.specs.Tree.{Tok, Items, concat}
 use Rattle.own.specs.Flat.{no-token}
 use Rattle.own.specs.Law.{Sort, word, child}
 use Rattle.own.specs.Rules.{sorts}
-use Rattle.text.specs.Widths.{recWide}
+use Rattle.text.specs.Widths.{recWide, tokWide}
+use Rattle.text.specs.Refusals as refusal
 use Rattle.own.specs.Words.{recThen, toks, sizes, wordGroups}
+use Rattle.own.specs.Kinds as kind
 use Rattle.kinds.specs.Words.{classOf}
-use Rattle.kinds.specs.Shape.{has}
+use Rattle.kinds.specs.Shape.{has, halfRange}
 use Rattle.kinds.specs.Fields.{counted}
+use Rattle.kinds.specs.Families as family
 use Rattle.lexer.specs.Classes as t
 use Rattle.grammar.specs.Shapes.{shapes}
 use Rattle.grammar.specs.Tables.{means, table}
@@ -37,6 +40,15 @@ use Rattle.parse.specs.declared.State.{State}
 use Rattle.parse.specs.declared.token.Lexeme.{Lexeme}
 use Rattle.parse.specs.declared.Step.{Step}
 use Rattle.parse.specs.declared.Step.the-variants.{Next, Refused}
+use Rattle.parse.specs.Choice as choice
+
+-- So many numbers a u32 has.
+abbrev pub u32Count : ℕ
+u32Count = halfRange
+
+-- So many tokens at most: then neither their number nor that of the records' words leaves a u32.
+abbrev pub countable : ℕ
+countable = 16777216
 
 -- What is read: a draft and its tokens.
 pub record Text : Type 0 where
@@ -45,7 +57,7 @@ pub record Text : Type 0 where
 
 -- The draft with the first n tokens of a buffer, as far as it holds them.
 unfoldable pub text : List ℕ → List ℕ → ℕ → Text
-text draft words n = record { draft = draft; ts = toks (classOf draft) (cond (ltb n (length words / 3)) n (length words / 3)) words }
+text draft words n = record { draft = draft; ts = toks (classOf draft) (cond (ltb n (length words / tokWide)) n (length words / tokWide)) words }
 
 abbrev pub classes : Text → List ℕ
 classes x = classesOf (x .ts)
@@ -91,13 +103,13 @@ pub record Stands (x : Text) (st : State) : Type 0 where
 -- A state to parse from: as many records at most as tokens were passed, and few enough to be counted.
 pub record Ready (x : Text) (st : State) : Type 0 where
   pub stands : Stands x st
-  pub short : length (x .ts) ≤ 16777216
+  pub short : length (x .ts) ≤ countable
   pub few : st .out ≤ st .at
 
 -- A state where a record has just been reserved: there may be one record more than tokens were passed.
 pub record Near (x : Text) (st : State) : Type 0 where
   pub stands : Stands x st
-  pub short : length (x .ts) ≤ 16777216
+  pub short : length (x .ts) ≤ countable
   pub few : st .out ≤ st .at + 1
 
 -- The state at the next token.
@@ -165,7 +177,7 @@ pub data Parsed (x : Text) (σ : List Sym) (wrap : shape.Items → shape.Items) 
 -- The state with a record more.
 unfoldable pub reserved : State → State
 reserved st =
-    record { at = st .at; class = st .class; start = st .start; stop = st .stop; end = st .end; out = (st .out + 1) % 4294967296; fault = st .fault; place = st .place }
+    record { at = st .at; class = st .class; start = st .start; stop = st .stop; end = st .end; out = (st .out + 1) % u32Count; fault = st .fault; place = st .place }
 
 -- The state without a refusal.
 unfoldable pub cleaned : State → State
@@ -216,23 +228,27 @@ pub record Judged (outer inner : State) (number place : ℕ) (r : State) : Type 
 
 -- The refusal of a bound and of a size, or 0.
 unfoldable pub boundFault : Value → ℕ
-boundFault v = cond (boundOk v) 0 9
+boundFault v = cond (boundOk v) 0 refusal.Bound
 
 unfoldable pub sizeFault : Value → ℕ
-sizeFault v = cond (sizeOk v) 0 10
+sizeFault v = cond (sizeOk v) 0 refusal.Size
 
--- 2 for a name that a function may have, 1 for a reserved one, 0 for any other token.
+-- The sort of a name, one that a function may have or a reserved one, and 0 for any other token.
 unfoldable pub nameSort : ℕ → ℕ
-nameSort c = cond (has t.functionNames c) 2 (cond (has t.identifiers c) 1 0)
+nameSort c = cond (has t.functionNames c) choice.FunctionName (cond (has t.identifiers c) choice.ReservedName 0)
 
 -- The alternative of an arm's head, or 0 where no arm begins.
 unfoldable pub headSort : ℕ → ℕ
 headSort c = cond (eqb (choose table n-arm c) 0) 0 (choose table n-head c)
 
+-- The classes of a call's name that is a record: "a jet's token or a function name".
+abbrev pub callees : List ℕ
+callees = t.Jet ∷ t.functionNames
+
 -- The name of a call: a record where it is a jet's token or a function's name, otherwise nothing is written.
 pub data Called (st a : State) (l l′ : List ℕ) (r : State) : Type 0 where
-  named : has (t.Jet ∷ t.functionNames) (st .class) ≡ true → Put l (a .out) 2 (st .start) (st .stop) 0 0 1 l′ → r ≡ reserved a → Called st a l l′ r
-  marked : has (t.Jet ∷ t.functionNames) (st .class) ≡ false → l′ ≡ l → r ≡ a → Called st a l l′ r
+  named : has callees (st .class) ≡ true → Put l (a .out) kind.Name (st .start) (st .stop) 0 0 1 l′ → r ≡ reserved a → Called st a l l′ r
+  marked : has callees (st .class) ≡ false → l′ ≡ l → r ≡ a → Called st a l l′ r
 
 -- The number of the decimal at a place.
 abbrev pub valueAt : Text → ℕ → ℕ
@@ -240,25 +256,25 @@ valueAt x at = reads (numberOf (textOf (x .draft) (tokAt x at)))
 
 -- A decimal that is a record of its own.
 abbrev pub Decimal : Text → ℕ → Info
-Decimal x at = Named (tokAt x at) 40 (lowHalf (valueAt x at)) (highHalf (valueAt x at))
+Decimal x at = Named (tokAt x at) kind.Number (lowHalf (valueAt x at)) (highHalf (valueAt x at))
 
 -- Names joined by `::`, each a record where every name of the record above is one, and how many.
 pub record Names (J L : Items) (m a b : ℕ) : Type 0 where
   pub count-is : nameCount (sorts J) ≡ a
-  pub bounded : a ≤ 16777216
-  pub roles : (K n : ℕ) → has (1 ∷ 3 ∷ 34 ∷ 38 ∷ []) K ≡ true → arranged K n J ≡ L
+  pub bounded : a ≤ countable
+  pub roles : (K n : ℕ) → has family.namesKept K ≡ true → arranged K n J ≡ L
   pub others : (c : ℕ) → has t.identifiers c ≡ false → (c ≡ t.DoubleColon → ⊥) → sees c (sorts J) ≡ false
   pub no-parts : (ks : List ℕ) → counted ks (sorts J) ≡ 0
 
 -- Kinds of nodes: types, patterns, expressions.
 abbrev pub TypeKind : ℕ → Type 0
-TypeKind k = (4 ≤ k) × (k ≤ 12)
+TypeKind k = (kind.Alias ≤ k) × (k ≤ kind.ListType)
 
 abbrev pub PatternKind : ℕ → Type 0
-PatternKind k = (13 ≤ k) × (k ≤ 16)
+PatternKind k = (kind.IdentifierPattern ≤ k) × (k ≤ kind.ArrayPattern)
 
 abbrev pub ExprKind : ℕ → Type 0
-ExprKind k = (18 ≤ k) × (k ≤ 39) × (k ≡ 37 → ⊥) × (k ≡ 38 → ⊥)
+ExprKind k = (kind.Block ≤ k) × (k ≤ kind.Call) × (k ≡ kind.BuiltinArm → ⊥) × (k ≡ kind.EnumArm → ⊥)
 
 -- Every token among the pieces is of the class c.
 abbrev pub Only : ℕ → List Sort → Type 0
@@ -270,3 +286,12 @@ Only c (child k l h d ∷ w) = Only c w
 pub record Commas (J L : Items) (m a b : ℕ) : Type 0 where
   pub same : L ≡ J
   pub commas : Only t.Comma (sorts J)
+
+-- What a function says of a nonterminal, of all that it is lent: the draft, the words of its tokens and their number, the state from which
+-- it parses, and the tree buffer before and after.
+abbrev pub Parses : ℕ → Info → List ℕ → List ℕ → ℕ → State → List ℕ → List ℕ → Step → Type 0
+Parses A I draft words n st l l′ r = Parsed (text draft words n) (nt A ∷ []) asItems I st l l′ r
+
+-- The name at a token, as a record of its own.
+abbrev pub NameAt : List ℕ → List ℕ → ℕ → ℕ → Info
+NameAt draft words n at = Named (tokAt (text draft words n) at) kind.Name 0 0

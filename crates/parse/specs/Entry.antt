@@ -1,5 +1,5 @@
--- What `parse` hands over (document 01, "What the reader hands over", rows 8 to 15): from a draft and the words of its token buffer to
--- the answer and every word of the tree buffer. How many tokens there may be is a parameter.
+-- What `parse` hands over (document 01, "What the reader hands over", from row 8 on): from a draft and the words of its token buffer to
+-- the answer and every word of the tree buffer. What the draft is read as, and how many tokens there may be, are parameters.
 -- Assumes nothing: these are definitions.
 use mathlib.Core.Bool.{Bool, cond, _||_}
 use mathlib.Core.List.{List}
@@ -10,13 +10,14 @@ use lib.Dec.{eqb, ltb}
 use lib.ListN.{length, replicate}
 use Rattle.lexer.specs.Lexemes.{Token}
 use Rattle.lexer.specs.Buffer.{tokensIn}
-use Rattle.own.specs.Tree.{records}
-use Rattle.text.specs.Widths.{recWide}
+use Rattle.text.specs.Widths.{tokWide, recWide}
+use Rattle.text.specs.Refusals as refusal
 use Rattle.own.specs.Words.{recWords}
+use Rattle.grammar.specs.Entry.{Entry}
 use Rattle.grammar.specs.WellShaped.{shapeOf}
 use Rattle.grammar.specs.KeptTokens.{classesOf}
 use Rattle.grammar.specs.Answer as reader
-use Rattle.grammar.specs.Answer.{toksOf, startOf, Reading, shaped, fitted, content, treesRead}
+use Rattle.grammar.specs.Answer.{toksOf, startOf, Reading, shaped, fitted, content, recordsIn}
 use Rattle.parse.specs.Contract.{Text, kept, Stands}
 use Rattle.parse.specs.declared.State.{State}
 use Rattle.parse.specs.declared.Step as steps
@@ -26,11 +27,11 @@ use Rattle.parse.specs.declared.Answer.the-variants.{Records, Refused, T
 
 -- More tokens than there may be, or than the token buffer of so many words holds.
 unfoldable pub tooMany : ℕ → ℕ → ℕ → Bool
-tooMany most n tw = ltb most n || ltb tw (3 * n)
+tooMany most n tw = ltb most n || ltb tw (tokWide * n)
 
--- The reading of a draft with these tokens: refusal 8, then 9 to 14, or its tokens and its tree.
-unfoldable pub readingOf : List ℕ → List Token → Reading
-readingOf draft ts = shaped draft ts (shapeOf (classesOf (toksOf draft ts)))
+-- The reading of a draft with these tokens: refusal 8, then those of the shapes, or its tokens and its records.
+unfoldable pub readingOf : Entry → List ℕ → List Token → Reading
+readingOf en draft ts = shaped en draft ts (shapeOf en (classesOf (toksOf draft ts)))
 
 -- The reader's answer as that of the code.
 abbrev pub answered : reader.Answer → Answer
@@ -38,14 +39,14 @@ answered (reader.accepted n m) = Records m
 answered (reader.refused c p) = Refused c p
 
 -- The answer for a draft, its n tokens in these words, and a tree buffer of rw words.
-unfoldable pub answerOf : ℕ → List ℕ → List ℕ → ℕ → ℕ → Answer
-answerOf most draft words n rw = cond (tooMany most n (length words)) TooMany (answered (fitted rw (readingOf draft (tokensIn n words))))
+unfoldable pub answerOf : Entry → ℕ → List ℕ → List ℕ → ℕ → ℕ → Answer
+answerOf en most draft words n rw = cond (tooMany most n (length words)) TooMany (answered (fitted rw (readingOf en draft (tokensIn n words))))
 
 -- Every word of the tree buffer: six words a record and zeros behind them; otherwise zeros alone.
-unfoldable pub treeOf : ℕ → List ℕ → List ℕ → ℕ → ℕ → List ℕ
-treeOf most draft words n rw =
-    let r = readingOf draft (tokensIn n words) in
-    cond (tooMany most n (length words)) (replicate rw 0) (content (fitted rw r) (recWords (records (treesRead r))) rw)
+unfoldable pub treeOf : Entry → ℕ → List ℕ → List ℕ → ℕ → ℕ → List ℕ
+treeOf en most draft words n rw =
+    let r = readingOf en draft (tokensIn n words) in
+    cond (tooMany most n (length words)) (replicate rw 0) (content (fitted rw r) (recWords (recordsIn r)) rw)
 
 -- The first state: at the first token, with no records and no refusal.
 pub record Starts (x : Text) (st : State) : Type 0 where
@@ -54,13 +55,13 @@ pub record Starts (x : Text) (st : State) : Type 0 where
   pub out-is : st .out ≡ 0
   pub kept-is : kept st ≡ none
 
--- What the last state says: a token left over is refusal 8; then 9 to 14, then 15.
+-- What the last state says: a token left over is refusal 8; then those of the shapes, then 15.
 unfoldable pub ended : List ℕ → List ℕ → ℕ → ℕ → State → Answer
 ended draft words n rw z =
-    cond (ltb (z .at) n) (Refused 8 (startOf draft (tokensIn n words) (z .at)))
-    (cond (eqb (z .fault) 0) (cond (ltb rw (recWide * z .out)) (Refused 15 0) (Records (z .out))) (Refused (z .fault) (z .place)))
+    cond (ltb (z .at) n) (Refused refusal.Misshapen (startOf draft (tokensIn n words) (z .at)))
+    (cond (eqb (z .fault) 0) (cond (ltb rw (recWide * z .out)) (Refused refusal.NoRoom 0) (Records (z .out))) (Refused (z .fault) (z .place)))
 
 -- What the step of the whole function says.
 abbrev pub judged : List ℕ → List ℕ → ℕ → ℕ → steps.Step → Answer
 judged draft words n rw (step.Next z a b) = ended draft words n rw z
-judged draft words n rw (step.Refused p) = Refused 8 (startOf draft (tokensIn n words) p)
+judged draft words n rw (step.Refused p) = Refused refusal.Misshapen (startOf draft (tokensIn n words) p)

@@ -7,20 +7,28 @@ use mathlib.Core.Logic.{_⊎_}
 use mathlib.Core.Path.{_≡_}
 use Prim.Native.Nat.{ℕ, _+_, _≤_}
 use lib.Dec.{eqb, ltb}
+use Rattle.theory.specs.Machine.{choose}
 use Rattle.own.specs.Tree as own
 use Rattle.own.specs.Tree.{Items, partner}
 use Rattle.own.specs.Law.{Sort, word, child}
 use Rattle.own.specs.Rules.{sorts}
 use Rattle.own.specs.Words.{sizes}
-use Rattle.kinds.specs.Shape.{span}
+use Rattle.own.specs.Arms as arm
+use Rattle.own.specs.Kinds as kind
 use Rattle.kinds.specs.Fields.{counted}
+use Rattle.kinds.specs.Families as family
 use Rattle.lexer.specs.Classes as t
 use Rattle.grammar.specs.Records.{Head, head, sees, nameCount, lone, unended, armHead, arranged}
-use Rattle.parse.specs.Contract.{Text, Moved, Only, Turned}
+use Rattle.grammar.specs.Tables.{table}
+use Rattle.grammar.specs.TablesIndex.{n-single}
+use Rattle.text.specs.Refusals as refusal
+use Rattle.parse.specs.Contract.{Text, Moved, Only, Turned, countable}
+use Rattle.parse.specs.Choice as choice
 use Rattle.parse.specs.declared.State.{State}
+use Rattle.parse.specs.Orders as order
 
 abbrev pub LetKind : ℕ → Type 0
-LetKind k = k ≡ 17
+LetKind k = k ≡ kind.Let
 
 -- Elements of a block: a is 1 if the last has no `;`.
 pub record Elements (J L : Items) (m a b : ℕ) : Type 0 where
@@ -45,9 +53,9 @@ pub record Args (J L : Items) (m a b : ℕ) : Type 0 where
 
 -- What follows the first `::` of an enum construction: a names.
 pub record Path (J L : Items) (m a b : ℕ) : Type 0 where
-  pub roles : (n : ℕ) → arranged 34 n J ≡ L
+  pub roles : (n : ℕ) → arranged kind.EnumConstruction n J ≡ L
   pub count-is : nameCount (sorts J) ≡ a
-  pub bounded : a ≤ 16777216
+  pub bounded : a ≤ countable
   pub angles : sees t.LAngle (sorts J) ≡ false
 
 -- The state behind a name and `::`.
@@ -57,18 +65,29 @@ pub record Begun (x : Text) (st b : State) : Type 0 where
   pub colons : a .class ≡ t.DoubleColon
   pub second : Moved x a b
 
+-- A name of this class that `::<..>` may follow, by its rule.
+pub record Generic (c rule : ℕ) : Type 0 where
+  pub chosen : choose table n-single c ≡ rule
+  pub one-of : (rule ≡ choice.Typed) ⊎ (rule ≡ choice.Folding) ⊎ (rule ≡ choice.ForWhile)
+
+-- A name of the class c and `::`, with a token of the class b behind them, begin an enum construction.
+pub data Leads (c b : ℕ) : Type 0 where
+  named-leads : choose table n-single c ≡ choice.Named → Leads c b
+  bare-leads : choose table n-single c ≡ choice.Bare → Leads c b
+  generic-leads : {rule : ℕ} → Generic c rule → (b ≡ t.LAngle → ⊥) → Leads c b
+
 -- Pieces that say nothing of an arm's head: no `::`, no name, no pattern.
 pub record Quiet (w : List Sort) : Type 0 where
   pub paths : sees t.DoubleColon w ≡ false
   pub names : nameCount w ≡ 0
-  pub patterns : counted (span 13 16) w ≡ 0
+  pub patterns : counted family.patterns w ≡ 0
 
 -- `p: T`, and pairs with commas between them: as many patterns as said.
 pub record Pairs (n : ℕ) (J L : Items) (m a b : ℕ) : Type 0 where
   pub roles : (K i : ℕ) → arranged K i J ≡ L
   pub paths : sees t.DoubleColon (sorts J) ≡ false
   pub names : nameCount (sorts J) ≡ 0
-  pub patterns : counted (span 13 16) (sorts J) ≡ n
+  pub patterns : counted family.patterns (sorts J) ≡ n
 
 -- so many as the first number says, and one more than that before
 abbrev pub ManyPairs : Items → Items → ℕ → ℕ → ℕ → Type 0
@@ -81,15 +100,15 @@ pub record MorePairs (J L : Items) (m a b : ℕ) : Type 0 where
 
 -- An enum path in an arm's head, from its first `::` on: a names, b pairs.
 pub record HeadPath (J L : Items) (m a b : ℕ) : Type 0 where
-  pub roles : (n : ℕ) → arranged 38 n J ≡ L
+  pub roles : (n : ℕ) → arranged kind.EnumArm n J ≡ L
   pub count-is : nameCount (sorts J) ≡ a
-  pub bounded : a ≤ 16777216
+  pub bounded : a ≤ countable
   pub path : sees t.DoubleColon (sorts J) ≡ true
-  pub patterns : counted (span 13 16) (sorts J) ≡ b
+  pub patterns : counted family.patterns (sorts J) ≡ b
 
 -- Kind, low and high of an arm: a built-in one where there are no names (low b), otherwise an enum arm with a names and b pairs.
 unfoldable pub armKind : ℕ → ℕ
-armKind a = cond (eqb a 0) 37 38
+armKind a = cond (eqb a 0) kind.BuiltinArm kind.EnumArm
 
 unfoldable pub armLow : ℕ → ℕ → ℕ
 armLow a b = cond (eqb a 0) b a
@@ -101,7 +120,7 @@ armHigh a b = cond (eqb a 0) 0 b
 pub record ArmHead (J L : Items) (m a b : ℕ) : Type 0 where
   pub roles : (n : ℕ) → arranged (armKind a) n J ≡ L
   pub decides : (v : List Sort) → Quiet v → armHead (sorts J ++ v) ≡ head (armKind a) (armLow a b) (armHigh a b)
-  pub low-is : a ≡ 0 → (1 ≤ b) × (b ≤ 6)
+  pub low-is : a ≡ 0 → (arm.Left ≤ b) × (b ≤ arm.True)
 
 -- What an arm has behind its fat arrow.
 pub record Body (J L : Items) (m a b : ℕ) : Type 0 where
@@ -110,7 +129,7 @@ pub record Body (J L : Items) (m a b : ℕ) : Type 0 where
 
 -- Kind and low of an arm.
 abbrev pub ArmKind : ℕ → ℕ → Type 0
-ArmKind k l = ((k ≡ 37) × (1 ≤ l) × (l ≤ 6)) ⊎ (k ≡ 38)
+ArmKind k l = ((k ≡ kind.BuiltinArm) × (arm.Left ≤ l) × (l ≤ arm.True)) ⊎ (k ≡ kind.EnumArm)
 
 -- An arm: a is its kind, b its low.
 pub record Arm (J L : Items) (m a b : ℕ) : Type 0 where
@@ -121,14 +140,13 @@ pub record Arm (J L : Items) (m a b : ℕ) : Type 0 where
   pub none-left : m ≡ 0
   pub its-kind : ArmKind a b
 
--- The order of arms with one arm more, as a number. 0: none; 1 to 6: one built-in arm, by its low; 7: enum arms; 8 and 9: two built-in
--- arms that are partners, in the canonical order and the other way round; 10: two that are no partners; 11: more; 12: arms of both sorts.
+-- The order of arms with one arm more, as a number (Orders.antt): 0 is none, a built-in arm alone has its low.
 unfoldable pub pairArm : ℕ → ℕ → ℕ
-pairArm a b = cond (partner a b) 8 (cond (partner b a) 9 10)
+pairArm a b = cond (partner a b) order.Paired (cond (partner b a) order.Turned order.Unpaired)
 
 unfoldable pub afterArm : ℕ → ℕ → ℕ → ℕ
 afterArm o k l =
-    cond (eqb k 38) (cond (eqb o 0 || eqb o 7) 7 12) (cond (eqb o 0) l (cond (eqb o 7 || eqb o 12) 12 (cond (ltb 7 o) 11 (pairArm o l))))
+    cond (eqb k kind.EnumArm) (cond (eqb o 0 || eqb o order.Enums) order.Enums order.Mixed) (cond (eqb o 0) l (cond (eqb o order.Enums || eqb o order.Mixed) order.Mixed (cond (ltb order.Enums o) order.More (pairArm o l))))
 
 unfoldable pub orderFrom : ℕ → List Sort → ℕ
 orderFrom o [] = o
@@ -137,10 +155,10 @@ orderFrom o (child k l h c ∷ w) = orderFrom (afterArm o k l) w
 
 -- The kind of a match with arms in this order, and its refusal or 0.
 unfoldable pub orderKind : ℕ → ℕ
-orderKind o = cond (eqb o 7 || eqb o 12) 36 35
+orderKind o = cond (eqb o order.Enums || eqb o order.Mixed) kind.EnumMatch kind.Match
 
 unfoldable pub orderFault : ℕ → ℕ
-orderFault o = cond (eqb o 0) 11 (cond (eqb o 7 || (eqb o 8 || eqb o 9)) 0 (cond (eqb o 10) 14 (cond (eqb o 12) 12 13)))
+orderFault o = cond (eqb o 0) refusal.NoArms (cond (eqb o order.Enums || (eqb o order.Paired || eqb o order.Turned)) 0 (cond (eqb o order.Unpaired) refusal.NoPartners (cond (eqb o order.Mixed) refusal.MixedArms refusal.ArmCount)))
 
 -- Nothing but arms.
 abbrev pub Armed : List Sort → Type 0
@@ -161,26 +179,33 @@ pub record Arms (st : State) (J L : Items) (m a b : ℕ) : Type 0 where
   pub order-is : a ≡ orderFrom 0 (sorts J)
   pub mid-is : b ≡ st .out + sizes (firstNode J)
 
--- Arms in the order 9 are exchanged, others stay.
+-- Arms that are partners the other way round are exchanged, others stay.
 pub data Arranged (o : ℕ) (l : List ℕ) (from mid to : ℕ) (l′ : List ℕ) : Type 0 where
-  exchanged : o ≡ 9 → Turned l from mid to l′ → Arranged o l from mid to l′
-  stayed : (o ≡ 9 → ⊥) → l′ ≡ l → Arranged o l from mid to l′
+  exchanged : o ≡ order.Turned → Turned l from mid to l′ → Arranged o l from mid to l′
+  stayed : (o ≡ order.Turned → ⊥) → l′ ≡ l → Arranged o l from mid to l′
 
 abbrev pub ParameterKind : ℕ → Type 0
-ParameterKind k = k ≡ 3
+ParameterKind k = k ≡ kind.Parameter
 
 abbrev pub FunctionKind : ℕ → Type 0
-FunctionKind k = k ≡ 1
+FunctionKind k = k ≡ kind.Function
 
 -- Parameters with commas between them: a is how many.
 pub record Parameters (J L : Items) (m a b : ℕ) : Type 0 where
   pub same : L ≡ J
   pub commas : Only t.Comma (sorts J)
-  pub count-is : counted (3 ∷ []) (sorts J) ≡ a
+  pub count-is : counted (kind.Parameter ∷ []) (sorts J) ≡ a
+
+-- "low 1 for pub, plus 2 for a result type".
+abbrev pub public : ℕ
+public = 1
+
+abbrev pub result : ℕ
+result = 2
 
 -- Nothing, or what begins with a token of the class c, which is a mark: a is n if it is there.
 pub record Optional (c n : ℕ) (J L : Items) (m a b : ℕ) : Type 0 where
   pub roles : (K i : ℕ) → arranged K i J ≡ L
   pub there : a ≡ cond (sees c (sorts J)) n 0
   pub others : (d : ℕ) → (d ≡ c → ⊥) → sees d (sorts J) ≡ false
-  pub no-parameters : counted (3 ∷ []) (sorts J) ≡ 0
+  pub no-parameters : counted (kind.Parameter ∷ []) (sorts J) ≡ 0

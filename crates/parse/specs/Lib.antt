@@ -1,3 +1,5 @@
+pub mod Choice
+pub mod Orders
 pub mod Contract
 pub mod Infos
 pub mod Entry

@@ -1,391 +1,156 @@
-// Which rule reads on, by the class of the next token. The tables say what grammar's table says, class by class.
+// Which alternative reads on, by the class of the next token. The tables, written by tools/choice.py, say what grammar's table says, class by
+// class.
 ghost use mathlib.Core.Path.{_≡_};
 ghost use Rattle.theory.specs.Machine.{choose};
 ghost use Rattle.grammar.specs.Tables.{table};
 ghost use Rattle.grammar.specs.TablesIndex.{n-type, n-pattern, n-single};
 ghost use Rattle.parse.specs.Contract.{nameSort, headSort};
 
-// A type: 1 Either, 2 Option, 3 List, 4 a name, 5 a tuple, 6 an array; 0 for none.
-const TYPES: [u8; 63] = [
-    0,
-    0,
-    0,
-    0,
-    0,
-    0,
-    0,
-    0,
-    0,
-    0,
-    0,
-    0,
-    0,
-    0,
-    0,
-    0,
-    0,
-    0,
-    0,
-    0,
-    5,
-    0,
-    6,
-    0,
-    0,
-    0,
-    0,
-    0,
-    0,
-    0,
-    0,
-    0,
-    4,
-    0,
-    0,
-    0,
-    0,
-    4,
-    4,
-    4,
-    4,
-    1,
-    2,
-    3,
-    4,
-    4,
-    4,
-    4,
-    4,
-    4,
-    4,
-    4,
-    0,
-    4,
-    4,
-    4,
-    4,
-    0,
-    0,
-    0,
-    0,
-    0,
-    0,
-];
+// Written by tools/choice.py, to the second mark.
+// The classes are the numbers below this one.
+const CLASSES: u32 = 63;
 
-// A pattern: 1 a name, 2 a tuple, 3 an array; 0 for none.
-const PATTERNS: [u8; 63] = [
-    0,
-    0,
-    0,
-    0,
-    0,
-    0,
-    0,
-    0,
-    0,
-    0,
-    0,
-    0,
-    0,
-    0,
-    0,
-    0,
-    0,
-    0,
-    0,
-    0,
-    2,
-    0,
-    3,
-    0,
-    0,
-    0,
-    0,
-    0,
-    0,
-    0,
-    0,
-    0,
-    1,
-    0,
-    0,
-    0,
-    0,
-    1,
-    1,
-    1,
-    1,
-    1,
-    1,
-    1,
-    1,
-    1,
-    1,
-    1,
-    1,
-    1,
-    1,
-    1,
-    0,
-    1,
-    1,
-    1,
-    1,
-    0,
-    0,
-    0,
-    0,
-    0,
-    0,
-];
+// At a class that begins none of the alternatives.
+pub(crate) const ABSENT: u32 = 0;
 
-// An expression that is no block, in the order of the shapes: 1 a literal to 12 `for_while`; 0 for none.
-const SINGLES: [u8; 63] = [
-    0,
-    0,
-    0,
-    0,
-    0,
-    0,
-    0,
-    0,
-    0,
-    5,
-    0,
-    0,
-    0,
-    0,
-    0,
-    0,
-    0,
-    0,
-    0,
-    0,
-    2,
-    0,
-    3,
-    0,
-    0,
-    0,
-    7,
-    0,
-    1,
-    1,
-    1,
-    0,
-    8,
-    6,
-    1,
-    1,
-    0,
-    8,
-    8,
-    8,
-    9,
-    8,
-    8,
-    8,
-    10,
-    10,
-    11,
-    12,
-    10,
-    8,
-    9,
-    9,
-    0,
-    9,
-    11,
-    9,
-    10,
-    6,
-    6,
-    6,
-    4,
-    1,
-    1,
-];
+// A type.
+pub(crate) const EITHER_TYPE: u32 = 1;
 
-// A name: 1 for one that is reserved, 2 for one that may be a function's; 0 for none.
-const NAMES: [u8; 63] = [
-    0,
-    0,
-    0,
-    0,
-    0,
-    0,
-    0,
-    0,
-    0,
-    0,
-    0,
-    0,
-    0,
-    0,
-    0,
-    0,
-    0,
-    0,
-    0,
-    0,
-    0,
-    0,
-    0,
-    0,
-    0,
-    0,
-    0,
-    0,
-    0,
-    0,
-    0,
-    0,
-    2,
-    0,
-    0,
-    0,
-    0,
-    2,
-    2,
-    2,
-    2,
-    2,
-    2,
-    2,
-    1,
-    1,
-    1,
-    1,
-    1,
-    1,
-    1,
-    1,
-    0,
-    1,
-    1,
-    1,
-    1,
-    0,
-    0,
-    0,
-    0,
-    0,
-    0,
-];
+pub(crate) const OPTION_TYPE: u32 = 2;
 
-// An arm's head: 1 false, 2 true, 3 None, 4 Left, Right or Some, 5 any other name; 0 for none.
-const HEADS: [u8; 63] = [
-    0,
-    0,
-    0,
-    0,
-    0,
-    0,
-    0,
-    0,
-    0,
-    0,
-    0,
-    0,
-    0,
-    0,
-    0,
-    0,
-    0,
-    0,
-    0,
-    0,
-    0,
-    0,
-    0,
-    0,
-    0,
-    0,
-    0,
-    0,
-    0,
-    0,
-    0,
-    0,
-    5,
-    0,
-    0,
-    0,
-    0,
-    4,
-    4,
-    4,
-    3,
-    5,
-    5,
-    5,
-    5,
-    5,
-    5,
-    5,
-    5,
-    5,
-    5,
-    5,
-    0,
-    5,
-    5,
-    5,
-    5,
-    0,
-    0,
-    0,
-    0,
-    1,
-    2,
-];
+pub(crate) const LIST_TYPE: u32 = 3;
 
+pub(crate) const NAMED_TYPE: u32 = 4;
+
+pub(crate) const TUPLE_TYPE: u32 = 5;
+
+pub(crate) const ARRAY_TYPE: u32 = 6;
+
+const TYPES: [u8; 63] = *b"\
+    \0\0\0\0\0\0\0\0\0\0\0\0\0\0\0\0\
+    \0\0\0\0\x05\0\x06\0\0\0\0\0\0\0\0\0\
+    \x04\0\0\0\0\x04\x04\x04\x04\x01\x02\x03\x04\x04\x04\x04\
+    \x04\x04\x04\x04\0\x04\x04\x04\x04\0\0\0\0\0\0";
+
+// A pattern.
+pub(crate) const NAME_PATTERN: u32 = 1;
+
+pub(crate) const TUPLE_PATTERN: u32 = 2;
+
+pub(crate) const ARRAY_PATTERN: u32 = 3;
+
+const PATTERNS: [u8; 63] = *b"\
+    \0\0\0\0\0\0\0\0\0\0\0\0\0\0\0\0\
+    \0\0\0\0\x02\0\x03\0\0\0\0\0\0\0\0\0\
+    \x01\0\0\0\0\x01\x01\x01\x01\x01\x01\x01\x01\x01\x01\x01\
+    \x01\x01\x01\x01\0\x01\x01\x01\x01\0\0\0\0\0\0";
+
+// An expression that is no block.
+pub(crate) const LITERAL: u32 = 1;
+
+pub(crate) const PARENS: u32 = 2;
+
+pub(crate) const ARRAY: u32 = 3;
+
+pub(crate) const LIST: u32 = 4;
+
+pub(crate) const MATCH: u32 = 5;
+
+pub(crate) const SIMPLE_CALL: u32 = 6;
+
+pub(crate) const CAST_CALL: u32 = 7;
+
+pub(crate) const NAMED: u32 = 8;
+
+pub(crate) const BARE: u32 = 9;
+
+pub(crate) const TYPED: u32 = 10;
+
+pub(crate) const FOLDING: u32 = 11;
+
+pub(crate) const FOR_WHILE: u32 = 12;
+
+const SINGLES: [u8; 63] = *b"\
+    \0\0\0\0\0\0\0\0\0\x05\0\0\0\0\0\0\
+    \0\0\0\0\x02\0\x03\0\0\0\x07\0\x01\x01\x01\0\
+    \x08\x06\x01\x01\0\x08\x08\x08\x09\x08\x08\x08\x0a\x0a\x0b\x0c\
+    \x0a\x08\x09\x09\0\x09\x0b\x09\x0a\x06\x06\x06\x04\x01\x01";
+
+// A name.
+pub(crate) const RESERVED_NAME: u32 = 1;
+
+pub(crate) const FUNCTION_NAME: u32 = 2;
+
+const NAMES: [u8; 63] = *b"\
+    \0\0\0\0\0\0\0\0\0\0\0\0\0\0\0\0\
+    \0\0\0\0\0\0\0\0\0\0\0\0\0\0\0\0\
+    \x02\0\0\0\0\x02\x02\x02\x02\x02\x02\x02\x01\x01\x01\x01\
+    \x01\x01\x01\x01\0\x01\x01\x01\x01\0\0\0\0\0\0";
+
+// An arm's head, where an arm begins.
+pub(crate) const FALSE_HEAD: u32 = 1;
+
+pub(crate) const TRUE_HEAD: u32 = 2;
+
+pub(crate) const NONE_HEAD: u32 = 3;
+
+pub(crate) const WRAPPED_HEAD: u32 = 4;
+
+pub(crate) const NAMED_HEAD: u32 = 5;
+
+const HEADS: [u8; 63] = *b"\
+    \0\0\0\0\0\0\0\0\0\0\0\0\0\0\0\0\
+    \0\0\0\0\0\0\0\0\0\0\0\0\0\0\0\0\
+    \x05\0\0\0\0\x04\x04\x04\x03\x05\x05\x05\x05\x05\x05\x05\
+    \x05\x05\x05\x05\0\x05\x05\x05\x05\0\0\0\0\x01\x02";
+
+// The second mark: what follows is written by hand.
 pub(crate) fn types(class: u32) -> u32
     ensures { λ r. ⌜ r ≡ choose table n-type class ⌝ }
 {
-    if class < 63 {
+    if class < CLASSES {
         let i = class as usize;
         return TYPES[i] as u32;
     }
-    0
+    ABSENT
 }
 
 pub(crate) fn patterns(class: u32) -> u32
     ensures { λ r. ⌜ r ≡ choose table n-pattern class ⌝ }
 {
-    if class < 63 {
+    if class < CLASSES {
         let i = class as usize;
         return PATTERNS[i] as u32;
     }
-    0
+    ABSENT
 }
 
 pub(crate) fn singles(class: u32) -> u32
     ensures { λ r. ⌜ r ≡ choose table n-single class ⌝ }
 {
-    if class < 63 {
+    if class < CLASSES {
         let i = class as usize;
         return SINGLES[i] as u32;
     }
-    0
+    ABSENT
 }
 
 pub(crate) fn names(class: u32) -> u32
     ensures { λ r. ⌜ r ≡ nameSort class ⌝ }
 {
-    if class < 63 {
+    if class < CLASSES {
         let i = class as usize;
         return NAMES[i] as u32;
     }
-    0
+    ABSENT
 }
 
 pub(crate) fn heads(class: u32) -> u32
     ensures { λ r. ⌜ r ≡ headSort class ⌝ }
 {
-    if class < 63 {
+    if class < CLASSES {
         let i = class as usize;
         return HEADS[i] as u32;
     }
-    0
+    ABSENT
 }

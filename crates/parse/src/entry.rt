@@ -1,10 +1,12 @@
-// From the first token to the answer: refusals 8 to 15 in their order.
+// From the first token to the answer: the parser's refusals in their order.
 ghost use mathlib.Core.Path.{_≡_};
 ghost use Prim.Native.Nat.{_*_, _≤_};
 ghost use lib.ListN.{length};
+ghost use Rattle.text.specs.Widths.{tokWide};
 ghost use Rattle.lexer.specs.Buffer.{tokensIn};
+ghost use Rattle.grammar.specs.Entry.{oneFunction};
 ghost use Rattle.grammar.specs.Answer.{startOf};
-ghost use Rattle.parse.specs.Contract.{text};
+ghost use Rattle.parse.specs.Contract.{text, countable};
 ghost use Rattle.parse.specs.Entry.{tooMany, Starts, ended, judged, answerOf, treeOf};
 use crate::Answer;
 use crate::State;
@@ -12,6 +14,8 @@ use crate::Step;
 use crate::program;
 use crate::token;
 use text::RECORD_WORDS;
+use text::TOKEN_WORDS;
+use text::refusal;
 
 // Whether there are more tokens than there may be, or than so many words hold.
 fn too_many(most: usize, count: usize, words: usize) -> bool
@@ -20,7 +24,7 @@ fn too_many(most: usize, count: usize, words: usize) -> bool
     if most < count {
         return true;
     }
-    words / 3 < count
+    words / TOKEN_WORDS < count
 }
 
 // The state at the first token.
@@ -42,7 +46,7 @@ fn start(draft: &[u8], tokens: &[u32], count: usize) -> State
 
 // Where the token of this number starts, or the length at the end.
 fn place(draft: &[u8], tokens: &[u32], count: usize, at: usize) -> usize
-    requires { ⌜ 3 * count ≤ length (now tokens) ⌝ }
+    requires { ⌜ tokWide * count ≤ length (now tokens) ⌝ }
     ensures { λ r. ⌜ r ≡ startOf (now (draft .entry)) (tokensIn count (now (tokens .entry))) at ⌝ }
 {
     if at < count {
@@ -54,12 +58,12 @@ fn place(draft: &[u8], tokens: &[u32], count: usize, at: usize) -> usize
 
 // The answer of the last state, with so many words for the records.
 fn end(draft: &[u8], tokens: &[u32], count: usize, room: usize, z: State) -> Answer
-    requires { ⌜ 3 * count ≤ length (now tokens) ⌝ }
+    requires { ⌜ tokWide * count ≤ length (now tokens) ⌝ }
     ensures { λ r. ⌜ r ≡ ended (now (draft .entry)) (now (tokens .entry)) count room z ⌝ }
 {
     if z.at < count {
         return Answer::Refused {
-            number: 8,
+            number: refusal::MISSHAPEN,
             place: place(draft, tokens, count, z.at),
         };
     }
@@ -72,7 +76,7 @@ fn end(draft: &[u8], tokens: &[u32], count: usize, room: usize, z: State) -> Ans
     let records = z.out as usize;
     if room < RECORD_WORDS * records {
         return Answer::Refused {
-            number: 15,
+            number: refusal::NO_ROOM,
             place: 0,
         };
     }
@@ -81,13 +85,13 @@ fn end(draft: &[u8], tokens: &[u32], count: usize, room: usize, z: State) -> Ans
 
 // The answer of a step, likewise.
 fn judge(draft: &[u8], tokens: &[u32], count: usize, room: usize, step: Step) -> Answer
-    requires { ⌜ 3 * count ≤ length (now tokens) ⌝ }
+    requires { ⌜ tokWide * count ≤ length (now tokens) ⌝ }
     ensures { λ r. ⌜ r ≡ judged (now (draft .entry)) (now (tokens .entry)) count room step ⌝ }
 {
     match step {
         Step::Next(z, _, _) => end(draft, tokens, count, room, z),
         Step::Refused(at) => Answer::Refused {
-            number: 8,
+            number: refusal::MISSHAPEN,
             place: place(draft, tokens, count, at),
         },
     }
@@ -101,9 +105,9 @@ pub(crate) fn parse_within(
     tree: &mut [u32],
     most: usize,
 ) -> Answer
-    requires { ⌜ most ≤ 16777216 ⌝ }
-    ensures { λ r. ⌜ r ≡ answerOf most (now (draft .entry)) (now (tokens .entry)) count (length (now (tree .entry))) ⌝ }
-    ensures { λ _. ⌜ now (tree .exit) ≡ treeOf most (now (draft .entry)) (now (tokens .entry)) count (length (now (tree .entry))) ⌝ }
+    requires { ⌜ most ≤ countable ⌝ }
+    ensures { λ r. ⌜ r ≡ answerOf oneFunction most (now (draft .entry)) (now (tokens .entry)) count (length (now (tree .entry))) ⌝ }
+    ensures { λ _. ⌜ now (tree .exit) ≡ treeOf oneFunction most (now (draft .entry)) (now (tokens .entry)) count (length (now (tree .entry))) ⌝ }
 {
     text::clear(tree);
     if too_many(most, count, tokens.len()) {

@@ -2,15 +2,14 @@
 // which file of the Rust each function comes from.
 ghost use mathlib.Core.Bool.{cond};
 ghost use lib.Dec.{eqb};
-ghost use mathlib.Core.List.{[], _∷_};
 ghost use mathlib.Core.Path.{_≡_};
 ghost use Prim.Native.Nat.{_<_};
 ghost use Rattle.lexer.specs.Classes as t;
-ghost use Rattle.theory.specs.Grammar.{nt};
 ghost use Rattle.theory.specs.Machine.{choose};
 ghost use Rattle.grammar.specs.Tables.{table};
 ghost use Rattle.grammar.specs.TablesIndex.{n-expression, n-block, n-elements, n-assignment, n-single, n-list-expression, n-many-arm, n-arm, n-arm-choice};
-ghost use Rattle.parse.specs.Contract.{text, Ready, Parsed, asItems, Node, ExprKind};
+ghost use Rattle.parse.specs.Choice as rule;
+ghost use Rattle.parse.specs.Contract.{text, Ready, Parses, Node, ExprKind};
 ghost use Rattle.parse.specs.Infos.{LetKind, Elements, Lone, Arms, Arm, Body};
 
 mod c;
@@ -26,6 +25,8 @@ use crate::pattern;
 use crate::token;
 use crate::tree;
 use crate::types;
+use lexer::classes as class;
+use own::kind;
 
 // The first kind for one expression without a comma, otherwise the second.
 fn only(lone: u32, a: u32, b: u32) -> u32
@@ -44,8 +45,8 @@ fn first(lone: u32) -> u32
 // A boolean, a number, a witness or a parameter.
 fn literal(draft: &[u8], tokens: &[u32], count: usize, tree: &mut [u32], st: State) -> Step
     requires { ⌜ Ready (text (now draft) (now tokens) count) st ⌝ }
-    requires { ⌜ choose table n-single (st .class) ≡ 1 ⌝ }
-    ensures { λ r. ⌜ Parsed (text (now (draft .entry)) (now (tokens .entry)) count) (nt n-single ∷ []) asItems (Node ExprKind) st (now (tree .entry)) (now (tree .exit)) r ⌝ }
+    requires { ⌜ choose table n-single (st .class) ≡ rule.Literal ⌝ }
+    ensures { λ r. ⌜ Parses n-single (Node ExprKind) (now (draft .entry)) (now (tokens .entry)) count st (now (tree .entry)) (now (tree .exit)) r ⌝ }
 {
     let a = token::advance(draft, tokens, count, tree::reserve(st));
     tree::close(
@@ -62,9 +63,9 @@ fn literal(draft: &[u8], tokens: &[u32], count: usize, tree: &mut [u32], st: Sta
 // An expression: a block or any other. `Expression::parser`.
 pub(crate) fn expr(draft: &[u8], tokens: &[u32], count: usize, tree: &mut [u32], st: State) -> Step
     requires { ⌜ Ready (text (now draft) (now tokens) count) st ⌝ }
-    ensures { λ r. ⌜ Parsed (text (now (draft .entry)) (now (tokens .entry)) count) (nt n-expression ∷ []) asItems (Node ExprKind) st (now (tree .entry)) (now (tree .exit)) r ⌝ }
+    ensures { λ r. ⌜ Parses n-expression (Node ExprKind) (now (draft .entry)) (now (tokens .entry)) count st (now (tree .entry)) (now (tree .exit)) r ⌝ }
 {
-    if st.class == 24 {
+    if st.class == class::LBRACE {
         return block(draft, tokens, count, tree, st);
     }
     single(draft, tokens, count, tree, st)
@@ -74,34 +75,34 @@ pub(crate) fn expr(draft: &[u8], tokens: &[u32], count: usize, tree: &mut [u32],
 pub(crate) fn block(draft: &[u8], tokens: &[u32], count: usize, tree: &mut [u32], st: State) -> Step
     requires { ⌜ Ready (text (now draft) (now tokens) count) st ⌝ }
     requires { ⌜ st .class ≡ t.LBrace ⌝ }
-    ensures { λ r. ⌜ Parsed (text (now (draft .entry)) (now (tokens .entry)) count) (nt n-block ∷ []) asItems (Node ExprKind) st (now (tree .entry)) (now (tree .exit)) r ⌝ }
+    ensures { λ r. ⌜ Parses n-block (Node ExprKind) (now (draft .entry)) (now (tokens .entry)) count st (now (tree .entry)) (now (tree .exit)) r ⌝ }
 {
     let a = token::advance(draft, tokens, count, tree::reserve(st));
     let inner = elems(draft, tokens, count, tree, a);
     let Step::Next(b, last, _) = inner else {
         return inner;
     };
-    let brace = token::eat(draft, tokens, count, b, 25);
+    let brace = token::eat(draft, tokens, count, b, class::RBRACE);
     let Step::Next(z, _, _) = brace else {
         return brace;
     };
-    tree::close(tree, st, z, 18, last, 0);
+    tree::close(tree, st, z, kind::BLOCK, last, 0);
     Step::Next(z, 0, 0)
 }
 
 // What stands between the braces of a block, and 1 if its last element is an expression without `;`. `split_block_body`, `Statement::parser`.
 fn elems(draft: &[u8], tokens: &[u32], count: usize, tree: &mut [u32], st: State) -> Step
     requires { ⌜ Ready (text (now draft) (now tokens) count) st ⌝ }
-    ensures { λ r. ⌜ Parsed (text (now (draft .entry)) (now (tokens .entry)) count) (nt n-elements ∷ []) asItems Elements st (now (tree .entry)) (now (tree .exit)) r ⌝ }
+    ensures { λ r. ⌜ Parses n-elements Elements (now (draft .entry)) (now (tokens .entry)) count st (now (tree .entry)) (now (tree .exit)) r ⌝ }
 {
     let mut here = st;
-    while here.class != 25 {
-        if here.class == 5 {
+    while here.class != class::RBRACE {
+        if here.class == class::LET {
             let statement = assign(draft, tokens, count, tree, here);
             let Step::Next(a, _, _) = statement else {
                 return statement;
             };
-            let semi = token::eat(draft, tokens, count, a, 16);
+            let semi = token::eat(draft, tokens, count, a, class::SEMI);
             let Step::Next(b, _, _) = semi else {
                 return semi;
             };
@@ -111,7 +112,7 @@ fn elems(draft: &[u8], tokens: &[u32], count: usize, tree: &mut [u32], st: State
             let Step::Next(d, _, _) = inner else {
                 return inner;
             };
-            if d.class != 16 {
+            if d.class != class::SEMI {
                 return Step::Next(d, 1, 0);
             }
             here = token::advance(draft, tokens, count, d);
@@ -124,14 +125,14 @@ fn elems(draft: &[u8], tokens: &[u32], count: usize, tree: &mut [u32], st: State
 fn assign(draft: &[u8], tokens: &[u32], count: usize, tree: &mut [u32], st: State) -> Step
     requires { ⌜ Ready (text (now draft) (now tokens) count) st ⌝ }
     requires { ⌜ st .class ≡ t.Let ⌝ }
-    ensures { λ r. ⌜ Parsed (text (now (draft .entry)) (now (tokens .entry)) count) (nt n-assignment ∷ []) asItems (Node LetKind) st (now (tree .entry)) (now (tree .exit)) r ⌝ }
+    ensures { λ r. ⌜ Parses n-assignment (Node LetKind) (now (draft .entry)) (now (tokens .entry)) count st (now (tree .entry)) (now (tree .exit)) r ⌝ }
 {
     let a = token::advance(draft, tokens, count, tree::reserve(st));
     let left = pattern::pattern(draft, tokens, count, tree, a);
     let Step::Next(b, _, _) = left else {
         return left;
     };
-    let colon = token::eat(draft, tokens, count, b, 15);
+    let colon = token::eat(draft, tokens, count, b, class::COLON);
     let Step::Next(d, _, _) = colon else {
         return colon;
     };
@@ -139,7 +140,7 @@ fn assign(draft: &[u8], tokens: &[u32], count: usize, tree: &mut [u32], st: Stat
     let Step::Next(f, _, _) = middle else {
         return middle;
     };
-    let equal = token::eat(draft, tokens, count, f, 18);
+    let equal = token::eat(draft, tokens, count, f, class::EQ);
     let Step::Next(g, _, _) = equal else {
         return equal;
     };
@@ -147,7 +148,7 @@ fn assign(draft: &[u8], tokens: &[u32], count: usize, tree: &mut [u32], st: Stat
     let Step::Next(z, _, _) = right else {
         return right;
     };
-    tree::close(tree, st, z, 17, 0, 0);
+    tree::close(tree, st, z, kind::LET, 0, 0);
     Step::Next(z, 0, 0)
 }
 
@@ -160,21 +161,21 @@ pub(crate) fn single(
     st: State,
 ) -> Step
     requires { ⌜ Ready (text (now draft) (now tokens) count) st ⌝ }
-    ensures { λ r. ⌜ Parsed (text (now (draft .entry)) (now (tokens .entry)) count) (nt n-single ∷ []) asItems (Node ExprKind) st (now (tree .entry)) (now (tree .exit)) r ⌝ }
+    ensures { λ r. ⌜ Parses n-single (Node ExprKind) (now (draft .entry)) (now (tokens .entry)) count st (now (tree .entry)) (now (tree .exit)) r ⌝ }
 {
     match choice::singles(st.class) {
-        1 => literal(draft, tokens, count, tree, st),
-        2 => parens(draft, tokens, count, tree, st),
-        3 => array(draft, tokens, count, tree, st),
-        4 => list(draft, tokens, count, tree, st),
-        5 => cases(draft, tokens, count, tree, st),
-        6 => c::simple(draft, tokens, count, tree, st),
-        7 => c::cast(draft, tokens, count, tree, st),
-        8 => c::named(draft, tokens, count, tree, st),
-        9 => c::bare(draft, tokens, count, tree, st),
-        10 => c::typed(draft, tokens, count, tree, st),
-        11 => c::fold(draft, tokens, count, tree, st),
-        12 => c::whiles(draft, tokens, count, tree, st),
+        choice::LITERAL => literal(draft, tokens, count, tree, st),
+        choice::PARENS => parens(draft, tokens, count, tree, st),
+        choice::ARRAY => array(draft, tokens, count, tree, st),
+        choice::LIST => list(draft, tokens, count, tree, st),
+        choice::MATCH => cases(draft, tokens, count, tree, st),
+        choice::SIMPLE_CALL => c::simple(draft, tokens, count, tree, st),
+        choice::CAST_CALL => c::cast(draft, tokens, count, tree, st),
+        choice::NAMED => c::named(draft, tokens, count, tree, st),
+        choice::BARE => c::bare(draft, tokens, count, tree, st),
+        choice::TYPED => c::generic(draft, tokens, count, tree, st, choice::TYPED),
+        choice::FOLDING => c::generic(draft, tokens, count, tree, st, choice::FOLDING),
+        choice::FOR_WHILE => c::generic(draft, tokens, count, tree, st, choice::FOR_WHILE),
         _ => Step::Refused(st.at),
     }
 }
@@ -182,49 +183,56 @@ pub(crate) fn single(
 // `(e)`, or a tuple.
 fn parens(draft: &[u8], tokens: &[u32], count: usize, tree: &mut [u32], st: State) -> Step
     requires { ⌜ Ready (text (now draft) (now tokens) count) st ⌝ }
-    requires { ⌜ choose table n-single (st .class) ≡ 2 ⌝ }
-    ensures { λ r. ⌜ Parsed (text (now (draft .entry)) (now (tokens .entry)) count) (nt n-single ∷ []) asItems (Node ExprKind) st (now (tree .entry)) (now (tree .exit)) r ⌝ }
+    requires { ⌜ choose table n-single (st .class) ≡ rule.Parens ⌝ }
+    ensures { λ r. ⌜ Parses n-single (Node ExprKind) (now (draft .entry)) (now (tokens .entry)) count st (now (tree .entry)) (now (tree .exit)) r ⌝ }
 {
     let a = token::advance(draft, tokens, count, tree::reserve(st));
     let inner = exprs(draft, tokens, count, tree, a);
     let Step::Next(b, lone, _) = inner else {
         return inner;
     };
-    let paren = token::eat(draft, tokens, count, b, 21);
+    let paren = token::eat(draft, tokens, count, b, class::RPAREN);
     let Step::Next(z, _, _) = paren else {
         return paren;
     };
-    tree::close(tree, st, z, only(lone, 30, 31), 0, 0);
+    tree::close(
+        tree,
+        st,
+        z,
+        only(lone, kind::PARENTHESISED, kind::TUPLE),
+        0,
+        0,
+    );
     Step::Next(z, 0, 0)
 }
 
 // `[e, …]`
 fn array(draft: &[u8], tokens: &[u32], count: usize, tree: &mut [u32], st: State) -> Step
     requires { ⌜ Ready (text (now draft) (now tokens) count) st ⌝ }
-    requires { ⌜ choose table n-single (st .class) ≡ 3 ⌝ }
-    ensures { λ r. ⌜ Parsed (text (now (draft .entry)) (now (tokens .entry)) count) (nt n-single ∷ []) asItems (Node ExprKind) st (now (tree .entry)) (now (tree .exit)) r ⌝ }
+    requires { ⌜ choose table n-single (st .class) ≡ rule.Array ⌝ }
+    ensures { λ r. ⌜ Parses n-single (Node ExprKind) (now (draft .entry)) (now (tokens .entry)) count st (now (tree .entry)) (now (tree .exit)) r ⌝ }
 {
     let a = token::advance(draft, tokens, count, tree::reserve(st));
     let inner = exprs(draft, tokens, count, tree, a);
     let Step::Next(b, _, _) = inner else {
         return inner;
     };
-    let bracket = token::eat(draft, tokens, count, b, 23);
+    let bracket = token::eat(draft, tokens, count, b, class::RBRACKET);
     let Step::Next(z, _, _) = bracket else {
         return bracket;
     };
-    tree::close(tree, st, z, 32, 0, 0);
+    tree::close(tree, st, z, kind::ARRAY, 0, 0);
     Step::Next(z, 0, 0)
 }
 
 // `list![e, …]`
 fn list(draft: &[u8], tokens: &[u32], count: usize, tree: &mut [u32], st: State) -> Step
     requires { ⌜ Ready (text (now draft) (now tokens) count) st ⌝ }
-    requires { ⌜ choose table n-single (st .class) ≡ 4 ⌝ }
-    ensures { λ r. ⌜ Parsed (text (now (draft .entry)) (now (tokens .entry)) count) (nt n-single ∷ []) asItems (Node ExprKind) st (now (tree .entry)) (now (tree .exit)) r ⌝ }
+    requires { ⌜ choose table n-single (st .class) ≡ rule.List ⌝ }
+    ensures { λ r. ⌜ Parses n-single (Node ExprKind) (now (draft .entry)) (now (tokens .entry)) count st (now (tree .entry)) (now (tree .exit)) r ⌝ }
 {
     let a = token::advance(draft, tokens, count, tree::reserve(st));
-    let open = token::eat(draft, tokens, count, a, 22);
+    let open = token::eat(draft, tokens, count, a, class::LBRACKET);
     let Step::Next(b, _, _) = open else {
         return open;
     };
@@ -232,18 +240,18 @@ fn list(draft: &[u8], tokens: &[u32], count: usize, tree: &mut [u32], st: State)
     let Step::Next(d, _, _) = inner else {
         return inner;
     };
-    let bracket = token::eat(draft, tokens, count, d, 23);
+    let bracket = token::eat(draft, tokens, count, d, class::RBRACKET);
     let Step::Next(z, _, _) = bracket else {
         return bracket;
     };
-    tree::close(tree, st, z, 33, 0, 0);
+    tree::close(tree, st, z, kind::LIST, 0, 0);
     Step::Next(z, 0, 0)
 }
 
 // Expressions with commas between them, up to what closes them; and 1 if it is one without a comma.
 pub(crate) fn exprs(draft: &[u8], tokens: &[u32], count: usize, tree: &mut [u32], st: State) -> Step
     requires { ⌜ Ready (text (now draft) (now tokens) count) st ⌝ }
-    ensures { λ r. ⌜ Parsed (text (now (draft .entry)) (now (tokens .entry)) count) (nt n-list-expression ∷ []) asItems Lone st (now (tree .entry)) (now (tree .exit)) r ⌝ }
+    ensures { λ r. ⌜ Parses n-list-expression Lone (now (draft .entry)) (now (tokens .entry)) count st (now (tree .entry)) (now (tree .exit)) r ⌝ }
 {
     let mut here = st;
     let mut lone = 0;
@@ -252,7 +260,7 @@ pub(crate) fn exprs(draft: &[u8], tokens: &[u32], count: usize, tree: &mut [u32]
         let Step::Next(a, _, _) = inner else {
             return inner;
         };
-        if a.class != 17 {
+        if a.class != class::COMMA {
             return Step::Next(a, first(lone), 0);
         }
         here = token::advance(draft, tokens, count, a);
@@ -264,15 +272,15 @@ pub(crate) fn exprs(draft: &[u8], tokens: &[u32], count: usize, tree: &mut [u32]
 // `match e { arms }`. `match_expr_parser`, `assemble_match_arms`.
 fn cases(draft: &[u8], tokens: &[u32], count: usize, tree: &mut [u32], st: State) -> Step
     requires { ⌜ Ready (text (now draft) (now tokens) count) st ⌝ }
-    requires { ⌜ choose table n-single (st .class) ≡ 5 ⌝ }
-    ensures { λ r. ⌜ Parsed (text (now (draft .entry)) (now (tokens .entry)) count) (nt n-single ∷ []) asItems (Node ExprKind) st (now (tree .entry)) (now (tree .exit)) r ⌝ }
+    requires { ⌜ choose table n-single (st .class) ≡ rule.Match ⌝ }
+    ensures { λ r. ⌜ Parses n-single (Node ExprKind) (now (draft .entry)) (now (tokens .entry)) count st (now (tree .entry)) (now (tree .exit)) r ⌝ }
 {
     let a = token::advance(draft, tokens, count, tree::reserve(fault::clean(st)));
     let inner = expr(draft, tokens, count, tree, a);
     let Step::Next(b, _, _) = inner else {
         return inner;
     };
-    let open = token::eat(draft, tokens, count, b, 24);
+    let open = token::eat(draft, tokens, count, b, class::LBRACE);
     let Step::Next(d, _, _) = open else {
         return open;
     };
@@ -280,7 +288,7 @@ fn cases(draft: &[u8], tokens: &[u32], count: usize, tree: &mut [u32], st: State
     let Step::Next(f, order, mid) = rest else {
         return rest;
     };
-    let brace = token::eat(draft, tokens, count, f, 25);
+    let brace = token::eat(draft, tokens, count, f, class::RBRACE);
     let Step::Next(g, _, _) = brace else {
         return brace;
     };
@@ -294,12 +302,12 @@ fn cases(draft: &[u8], tokens: &[u32], count: usize, tree: &mut [u32], st: State
 fn arms(draft: &[u8], tokens: &[u32], count: usize, tree: &mut [u32], st: State) -> Step
     requires { ⌜ Ready (text (now draft) (now tokens) count) st ⌝ }
     requires { ⌜ st .out < st .at ⌝ }
-    ensures { λ r. ⌜ Parsed (text (now (draft .entry)) (now (tokens .entry)) count) (nt n-many-arm ∷ []) asItems (Arms st) st (now (tree .entry)) (now (tree .exit)) r ⌝ }
+    ensures { λ r. ⌜ Parses n-many-arm (Arms st) (now (draft .entry)) (now (tokens .entry)) count st (now (tree .entry)) (now (tree .exit)) r ⌝ }
 {
     let mut here = st;
     let mut order = 0;
     let mut mid = st.out;
-    while here.class != 25 {
+    while here.class != class::RBRACE {
         let inner = arm(draft, tokens, count, tree, here);
         let Step::Next(a, kind, low) = inner else {
             return inner;
@@ -315,13 +323,13 @@ fn arms(draft: &[u8], tokens: &[u32], count: usize, tree: &mut [u32], st: State)
 fn arm(draft: &[u8], tokens: &[u32], count: usize, tree: &mut [u32], st: State) -> Step
     requires { ⌜ Ready (text (now draft) (now tokens) count) st ⌝ }
     requires { ⌜ st .out < st .at ⌝ }
-    ensures { λ r. ⌜ Parsed (text (now (draft .entry)) (now (tokens .entry)) count) (nt n-arm ∷ []) asItems Arm st (now (tree .entry)) (now (tree .exit)) r ⌝ }
+    ensures { λ r. ⌜ Parses n-arm Arm (now (draft .entry)) (now (tokens .entry)) count st (now (tree .entry)) (now (tree .exit)) r ⌝ }
 {
     let head = heads::head(draft, tokens, count, tree, tree::reserve(st));
     let Step::Next(a, number, other) = head else {
         return head;
     };
-    let arrow = token::eat(draft, tokens, count, a, 19);
+    let arrow = token::eat(draft, tokens, count, a, class::FAT_ARROW);
     let Step::Next(b, _, _) = arrow else {
         return arrow;
     };
@@ -337,14 +345,14 @@ fn arm(draft: &[u8], tokens: &[u32], count: usize, tree: &mut [u32], st: State) 
 // What an arm has behind its fat arrow: a block, or an expression and a comma; after a block the comma may be missing.
 fn body(draft: &[u8], tokens: &[u32], count: usize, tree: &mut [u32], st: State) -> Step
     requires { ⌜ Ready (text (now draft) (now tokens) count) st ⌝ }
-    ensures { λ r. ⌜ Parsed (text (now (draft .entry)) (now (tokens .entry)) count) (nt n-arm-choice ∷ []) asItems Body st (now (tree .entry)) (now (tree .exit)) r ⌝ }
+    ensures { λ r. ⌜ Parses n-arm-choice Body (now (draft .entry)) (now (tokens .entry)) count st (now (tree .entry)) (now (tree .exit)) r ⌝ }
 {
-    if st.class == 24 {
+    if st.class == class::LBRACE {
         let inner = block(draft, tokens, count, tree, st);
         let Step::Next(a, _, _) = inner else {
             return inner;
         };
-        if a.class == 17 {
+        if a.class == class::COMMA {
             let b = token::advance(draft, tokens, count, a);
             return Step::Next(b, 0, 0);
         }
@@ -354,7 +362,7 @@ fn body(draft: &[u8], tokens: &[u32], count: usize, tree: &mut [u32], st: State)
     let Step::Next(d, _, _) = other else {
         return other;
     };
-    let comma = token::eat(draft, tokens, count, d, 17);
+    let comma = token::eat(draft, tokens, count, d, class::COMMA);
     let Step::Next(z, _, _) = comma else {
         return comma;
     };

@@ -1,22 +1,17 @@
-// Refusals 9 to 14: the earliest is kept.
+// The refusals of shapes: the earliest is kept.
 ghost use mathlib.Core.Path.{_≡_};
 ghost use Rattle.parse.specs.Contract.{cleaned, fault, sooner, Judged, boundFault, sizeFault};
 use crate::State;
+use text::refusal;
 
 // The state without a refusal.
 pub(crate) fn clean(st: State) -> State
     ensures { λ r. ⌜ r ≡ cleaned st ⌝ }
 {
-    State {
-        at: st.at,
-        class: st.class,
-        start: st.start,
-        stop: st.stop,
-        end: st.end,
-        out: st.out,
-        fault: 0,
-        place: 0,
-    }
+    let mut none = st;
+    none.fault = 0;
+    none.place = 0;
+    none
 }
 
 struct Fault {
@@ -51,28 +46,22 @@ pub(crate) fn judged(outer: State, inner: State, number: u32, place: u32) -> Sta
         place: inner.place,
     };
     let f = earlier(a, earlier(b, c));
-    State {
-        at: inner.at,
-        class: inner.class,
-        start: inner.start,
-        stop: inner.stop,
-        end: inner.end,
-        out: inner.out,
-        fault: f.number,
-        place: f.place,
-    }
+    let mut all = inner;
+    all.fault = f.number;
+    all.place = f.place;
+    all
 }
 
-// Refusal 9 of a bound, or 0.
+// The refusal of a bound, or 0.
 pub(crate) fn bound(v: num::Value) -> u32
     ensures { λ r. ⌜ r ≡ boundFault v ⌝ }
 {
-    if num::is_bound(v) { 0 } else { 9 }
+    if num::is_bound(v) { 0 } else { refusal::BOUND }
 }
 
-// Refusal 10 of a size, or 0.
+// The refusal of a size, or 0.
 pub(crate) fn size(v: num::Value) -> u32
     ensures { λ r. ⌜ r ≡ sizeFault v ⌝ }
 {
-    if num::is_size(v) { 0 } else { 10 }
+    if num::is_size(v) { 0 } else { refusal::SIZE }
 }

@@ -1,13 +1,13 @@
 // Heads of arms: `MatchPattern::parser` and `enum_arm_head_parser` of src/parse/grammar/matching.rs. A step has two numbers: 0 and which of
 // the six built-in heads it is; or, of an enum path, how many names and how many pairs it has.
 ghost use mathlib.Core.Bool.{cond};
-ghost use mathlib.Core.List.{[], _∷_};
 ghost use mathlib.Core.Path.{_≡_};
 ghost use lib.Dec.{eqb};
 ghost use Rattle.lexer.specs.Classes as t;
-ghost use Rattle.theory.specs.Grammar.{nt};
 ghost use Rattle.grammar.specs.TablesIndex.{n-head, n-headPath, n-pair, n-headPath-optional-LParen, n-tail-pair};
-ghost use Rattle.parse.specs.Contract.{text, Ready, Moved, Parsed, asItems, headSort};
+ghost use Rattle.own.specs.Arms as arm;
+ghost use Rattle.parse.specs.Choice as rule;
+ghost use Rattle.parse.specs.Contract.{text, Ready, Moved, Parses, headSort};
 ghost use Rattle.parse.specs.Infos.{ArmHead, HeadPath, Pairs, ManyPairs, MorePairs};
 use crate::State;
 use crate::Step;
@@ -17,24 +17,27 @@ use crate::pattern;
 use crate::token;
 use crate::tree;
 use crate::types;
+use lexer::classes as class;
+use own::arm;
+use own::kind;
 
 // The head of an arm.
 pub(crate) fn head(draft: &[u8], tokens: &[u32], count: usize, tree: &mut [u32], st: State) -> Step
     requires { ⌜ Ready (text (now draft) (now tokens) count) st ⌝ }
-    ensures { λ r. ⌜ Parsed (text (now (draft .entry)) (now (tokens .entry)) count) (nt n-head ∷ []) asItems ArmHead st (now (tree .entry)) (now (tree .exit)) r ⌝ }
+    ensures { λ r. ⌜ Parses n-head ArmHead (now (draft .entry)) (now (tokens .entry)) count st (now (tree .entry)) (now (tree .exit)) r ⌝ }
 {
     match choice::heads(st.class) {
-        1 => {
+        choice::FALSE_HEAD => {
             let a = token::advance(draft, tokens, count, st);
-            Step::Next(a, 0, 5)
+            Step::Next(a, 0, arm::FALSE)
         }
-        2 => {
+        choice::TRUE_HEAD => {
             let b = token::advance(draft, tokens, count, st);
-            Step::Next(b, 0, 6)
+            Step::Next(b, 0, arm::TRUE)
         }
-        3 => none(draft, tokens, count, tree, st),
-        4 => wrapped(draft, tokens, count, tree, st),
-        5 => other(draft, tokens, count, tree, st),
+        choice::NONE_HEAD => none(draft, tokens, count, tree, st),
+        choice::WRAPPED_HEAD => wrapped(draft, tokens, count, tree, st),
+        choice::NAMED_HEAD => other(draft, tokens, count, tree, st),
         _ => Step::Refused(st.at),
     }
 }
@@ -42,14 +45,14 @@ pub(crate) fn head(draft: &[u8], tokens: &[u32], count: usize, tree: &mut [u32],
 // `None`, or an enum path that begins with it.
 fn none(draft: &[u8], tokens: &[u32], count: usize, tree: &mut [u32], st: State) -> Step
     requires { ⌜ Ready (text (now draft) (now tokens) count) st ⌝ }
-    requires { ⌜ headSort (st .class) ≡ 3 ⌝ }
-    ensures { λ r. ⌜ Parsed (text (now (draft .entry)) (now (tokens .entry)) count) (nt n-head ∷ []) asItems ArmHead st (now (tree .entry)) (now (tree .exit)) r ⌝ }
+    requires { ⌜ headSort (st .class) ≡ rule.NoneHead ⌝ }
+    ensures { λ r. ⌜ Parses n-head ArmHead (now (draft .entry)) (now (tokens .entry)) count st (now (tree .entry)) (now (tree .exit)) r ⌝ }
 {
     let a = token::advance(draft, tokens, count, st);
-    if a.class != 14 {
-        return Step::Next(a, 0, 3);
+    if a.class != class::DOUBLE_COLON {
+        return Step::Next(a, 0, arm::NONE);
     }
-    let c = tree::child(tree, st, a, 2, 0, 0);
+    let c = tree::child(tree, st, a, kind::NAME, 0, 0);
     let rest = path(draft, tokens, count, tree, c);
     let Step::Next(z, number, many) = rest else {
         return rest;
@@ -59,23 +62,23 @@ fn none(draft: &[u8], tokens: &[u32], count: usize, tree: &mut [u32], st: State)
 
 // Which built-in head Left, Right or Some is.
 fn wrapper(class: u32) -> u32
-    ensures { λ r. ⌜ r ≡ cond (eqb class t.Left) 1 (cond (eqb class t.Right) 2 4) ⌝ }
+    ensures { λ r. ⌜ r ≡ cond (eqb class t.Left) arm.Left (cond (eqb class t.Right) arm.Right arm.Some) ⌝ }
 {
     match class {
-        37 => 1,
-        38 => 2,
-        _ => 4,
+        class::LEFT => arm::LEFT,
+        class::RIGHT => arm::RIGHT,
+        _ => arm::SOME,
     }
 }
 
 // `Left(p: T)` and kin, or an enum path that begins with such a word.
 fn wrapped(draft: &[u8], tokens: &[u32], count: usize, tree: &mut [u32], st: State) -> Step
     requires { ⌜ Ready (text (now draft) (now tokens) count) st ⌝ }
-    requires { ⌜ headSort (st .class) ≡ 4 ⌝ }
-    ensures { λ r. ⌜ Parsed (text (now (draft .entry)) (now (tokens .entry)) count) (nt n-head ∷ []) asItems ArmHead st (now (tree .entry)) (now (tree .exit)) r ⌝ }
+    requires { ⌜ headSort (st .class) ≡ rule.WrappedHead ⌝ }
+    ensures { λ r. ⌜ Parses n-head ArmHead (now (draft .entry)) (now (tokens .entry)) count st (now (tree .entry)) (now (tree .exit)) r ⌝ }
 {
     let a = token::advance(draft, tokens, count, st);
-    if a.class != 20 {
+    if a.class != class::LPAREN {
         return paths(draft, tokens, count, tree, st, a);
     }
     let b = token::advance(draft, tokens, count, a);
@@ -83,7 +86,7 @@ fn wrapped(draft: &[u8], tokens: &[u32], count: usize, tree: &mut [u32], st: Sta
     let Step::Next(d, _, _) = inner else {
         return inner;
     };
-    let paren = token::eat(draft, tokens, count, d, 21);
+    let paren = token::eat(draft, tokens, count, d, class::RPAREN);
     let Step::Next(z, _, _) = paren else {
         return paren;
     };
@@ -93,12 +96,12 @@ fn wrapped(draft: &[u8], tokens: &[u32], count: usize, tree: &mut [u32], st: Sta
 // An enum path that begins with Left, Right or Some.
 fn paths(draft: &[u8], tokens: &[u32], count: usize, tree: &mut [u32], st: State, a: State) -> Step
     requires { ⌜ Ready (text (now draft) (now tokens) count) st ⌝ }
-    requires { ⌜ headSort (st .class) ≡ 4 ⌝ }
+    requires { ⌜ headSort (st .class) ≡ rule.WrappedHead ⌝ }
     requires { ⌜ Moved (text (now draft) (now tokens) count) st a ⌝ }
     requires { ⌜ (a .class ≡ t.LParen → ⊥) ⌝ }
-    ensures { λ r. ⌜ Parsed (text (now (draft .entry)) (now (tokens .entry)) count) (nt n-head ∷ []) asItems ArmHead st (now (tree .entry)) (now (tree .exit)) r ⌝ }
+    ensures { λ r. ⌜ Parses n-head ArmHead (now (draft .entry)) (now (tokens .entry)) count st (now (tree .entry)) (now (tree .exit)) r ⌝ }
 {
-    let c = tree::child(tree, st, a, 2, 0, 0);
+    let c = tree::child(tree, st, a, kind::NAME, 0, 0);
     let rest = path(draft, tokens, count, tree, c);
     let Step::Next(z, number, many) = rest else {
         return rest;
@@ -109,11 +112,11 @@ fn paths(draft: &[u8], tokens: &[u32], count: usize, tree: &mut [u32], st: State
 // An enum path that begins with any other name.
 fn other(draft: &[u8], tokens: &[u32], count: usize, tree: &mut [u32], st: State) -> Step
     requires { ⌜ Ready (text (now draft) (now tokens) count) st ⌝ }
-    requires { ⌜ headSort (st .class) ≡ 5 ⌝ }
-    ensures { λ r. ⌜ Parsed (text (now (draft .entry)) (now (tokens .entry)) count) (nt n-head ∷ []) asItems ArmHead st (now (tree .entry)) (now (tree .exit)) r ⌝ }
+    requires { ⌜ headSort (st .class) ≡ rule.NamedHead ⌝ }
+    ensures { λ r. ⌜ Parses n-head ArmHead (now (draft .entry)) (now (tokens .entry)) count st (now (tree .entry)) (now (tree .exit)) r ⌝ }
 {
     let a = token::advance(draft, tokens, count, st);
-    let c = tree::child(tree, st, a, 2, 0, 0);
+    let c = tree::child(tree, st, a, kind::NAME, 0, 0);
     let rest = path(draft, tokens, count, tree, c);
     let Step::Next(z, number, many) = rest else {
         return rest;
@@ -124,9 +127,9 @@ fn other(draft: &[u8], tokens: &[u32], count: usize, tree: &mut [u32], st: State
 // An enum path from its first `::` on; how many names and how many pairs.
 fn path(draft: &[u8], tokens: &[u32], count: usize, tree: &mut [u32], st: State) -> Step
     requires { ⌜ Ready (text (now draft) (now tokens) count) st ⌝ }
-    ensures { λ r. ⌜ Parsed (text (now (draft .entry)) (now (tokens .entry)) count) (nt n-headPath ∷ []) asItems HeadPath st (now (tree .entry)) (now (tree .exit)) r ⌝ }
+    ensures { λ r. ⌜ Parses n-headPath HeadPath (now (draft .entry)) (now (tokens .entry)) count st (now (tree .entry)) (now (tree .exit)) r ⌝ }
 {
-    let colons = token::eat(draft, tokens, count, st, 14);
+    let colons = token::eat(draft, tokens, count, st, class::DOUBLE_COLON);
     let Step::Next(a, _, _) = colons else {
         return colons;
     };
@@ -144,13 +147,13 @@ fn path(draft: &[u8], tokens: &[u32], count: usize, tree: &mut [u32], st: State)
 // `p: T`
 fn pair(draft: &[u8], tokens: &[u32], count: usize, tree: &mut [u32], st: State) -> Step
     requires { ⌜ Ready (text (now draft) (now tokens) count) st ⌝ }
-    ensures { λ r. ⌜ Parsed (text (now (draft .entry)) (now (tokens .entry)) count) (nt n-pair ∷ []) asItems (Pairs 1) st (now (tree .entry)) (now (tree .exit)) r ⌝ }
+    ensures { λ r. ⌜ Parses n-pair (Pairs 1) (now (draft .entry)) (now (tokens .entry)) count st (now (tree .entry)) (now (tree .exit)) r ⌝ }
 {
     let left = pattern::pattern(draft, tokens, count, tree, st);
     let Step::Next(a, _, _) = left else {
         return left;
     };
-    let colon = token::eat(draft, tokens, count, a, 15);
+    let colon = token::eat(draft, tokens, count, a, class::COLON);
     let Step::Next(b, _, _) = colon else {
         return colon;
     };
@@ -164,9 +167,9 @@ fn pair(draft: &[u8], tokens: &[u32], count: usize, tree: &mut [u32], st: State)
 // Nothing, or `(p: T, …)` with one pair at least; and how many.
 fn pairs(draft: &[u8], tokens: &[u32], count: usize, tree: &mut [u32], st: State) -> Step
     requires { ⌜ Ready (text (now draft) (now tokens) count) st ⌝ }
-    ensures { λ r. ⌜ Parsed (text (now (draft .entry)) (now (tokens .entry)) count) (nt n-headPath-optional-LParen ∷ []) asItems ManyPairs st (now (tree .entry)) (now (tree .exit)) r ⌝ }
+    ensures { λ r. ⌜ Parses n-headPath-optional-LParen ManyPairs (now (draft .entry)) (now (tokens .entry)) count st (now (tree .entry)) (now (tree .exit)) r ⌝ }
 {
-    if st.class != 20 {
+    if st.class != class::LPAREN {
         return Step::Next(st, 0, 0);
     }
     let a = token::advance(draft, tokens, count, st);
@@ -178,7 +181,7 @@ fn pairs(draft: &[u8], tokens: &[u32], count: usize, tree: &mut [u32], st: State
     let Step::Next(d, many, _) = rest else {
         return rest;
     };
-    let paren = token::eat(draft, tokens, count, d, 21);
+    let paren = token::eat(draft, tokens, count, d, class::RPAREN);
     let Step::Next(z, _, _) = paren else {
         return paren;
     };
@@ -188,13 +191,13 @@ fn pairs(draft: &[u8], tokens: &[u32], count: usize, tree: &mut [u32], st: State
 // What follows the first pair, up to the parenthesis; and how many pairs there are with it.
 fn more(draft: &[u8], tokens: &[u32], count: usize, tree: &mut [u32], st: State) -> Step
     requires { ⌜ Ready (text (now draft) (now tokens) count) st ⌝ }
-    ensures { λ r. ⌜ Parsed (text (now (draft .entry)) (now (tokens .entry)) count) (nt n-tail-pair ∷ []) asItems MorePairs st (now (tree .entry)) (now (tree .exit)) r ⌝ }
+    ensures { λ r. ⌜ Parses n-tail-pair MorePairs (now (draft .entry)) (now (tokens .entry)) count st (now (tree .entry)) (now (tree .exit)) r ⌝ }
 {
     let mut here = st;
     let mut number = 1;
-    while here.class == 17 {
+    while here.class == class::COMMA {
         let a = token::advance(draft, tokens, count, here);
-        if a.class == 21 {
+        if a.class == class::RPAREN {
             return Step::Next(a, number, 0);
         }
         let next = pair(draft, tokens, count, tree, a);

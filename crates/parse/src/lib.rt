@@ -2,6 +2,7 @@
 ghost use mathlib.Core.Path.{_≡_};
 ghost use lib.ListN.{length};
 ghost use Rattle.lexer.specs.Limits.{draftLimits};
+ghost use Rattle.grammar.specs.Entry.{oneFunction};
 ghost use Rattle.parse.specs.Entry.{answerOf, treeOf};
 
 mod arms;
@@ -18,7 +19,7 @@ mod tree;
 mod types;
 
 // Where the parser stands: the number of the next token with its class, start and end; the end of the token before it; how many records
-// there are so far; and the earliest refusal of 9 to 14, its number (0 for none) and place.
+// there are so far; and the earliest refusal of a shape, its number (0 for none) and place.
 pub struct State {
     at: usize,
     class: u32,
@@ -45,8 +46,8 @@ pub enum Answer {
 
 // Writes the records of a draft with so many tokens, `RECORD_WORDS` words each, and zeros behind them; on a refusal every word is 0.
 pub fn parse(draft: &[u8], tokens: &[u32], count: usize, tree: &mut [u32]) -> Answer
-    ensures { λ r. ⌜ r ≡ answerOf (draftLimits .tokens) (now (draft .entry)) (now (tokens .entry)) count (length (now (tree .entry))) ⌝ }
-    ensures { λ _. ⌜ now (tree .exit) ≡ treeOf (draftLimits .tokens) (now (draft .entry)) (now (tokens .entry)) count (length (now (tree .entry))) ⌝ }
+    ensures { λ r. ⌜ r ≡ answerOf oneFunction (draftLimits .tokens) (now (draft .entry)) (now (tokens .entry)) count (length (now (tree .entry))) ⌝ }
+    ensures { λ _. ⌜ now (tree .exit) ≡ treeOf oneFunction (draftLimits .tokens) (now (draft .entry)) (now (tokens .entry)) count (length (now (tree .entry))) ⌝ }
 {
-    entry::parse_within(draft, tokens, count, tree, 2048)
+    entry::parse_within(draft, tokens, count, tree, lexer::DRAFT_TOKENS)
 }

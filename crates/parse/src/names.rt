@@ -9,17 +9,29 @@ ghost use Rattle.theory.specs.Grammar.{tok, nt};
 ghost use Rattle.lexer.specs.Classes as t;
 ghost use Rattle.grammar.specs.TablesIndex.{n-identifier, n-functionName, n-path-many-DoubleColon};
 ghost use Rattle.grammar.specs.Records.{head, plain, typeName, patternName, literalHead, callHead, wrapperHead, aloneHead, placeIn, reads, lowHalf, highHalf};
-ghost use Rattle.parse.specs.Contract.{text, tokAt, Ready, Near, Parsed, asItems, Named, Decimal, Names, Called, boundFault, sizeFault};
+ghost use Rattle.parse.specs.Contract.{text, Ready, Near, Parsed, Parses, asItems, NameAt, Decimal, Names, Called, boundFault, sizeFault};
 use crate::State;
 use crate::Step;
 use crate::choice;
 use crate::fault;
 use crate::token;
 use crate::tree;
+use lexer::classes as class;
+use own::kind;
 use words::Found;
 use words::Table;
 
-// An identifier, as a record of kind 2.
+// The words of `TypeNames`: `bool`, then the unsigned types, and the built-in aliases behind them.
+const BOOL: usize = 0;
+
+const UNSIGNED: usize = 1;
+
+const BUILTIN: usize = 10;
+
+// How many numbers one of the two halves of a number may be.
+const HALF_RANGE: u64 = 4294967296;
+
+// An identifier, as a record.
 pub(crate) fn identifier(
     draft: &[u8],
     tokens: &[u32],
@@ -28,17 +40,17 @@ pub(crate) fn identifier(
     st: State,
 ) -> Step
     requires { ⌜ Near (text (now draft) (now tokens) count) st ⌝ }
-    ensures { λ r. ⌜ Parsed (text (now (draft .entry)) (now (tokens .entry)) count) (nt n-identifier ∷ []) asItems (Named (tokAt (text (now (draft .entry)) (now (tokens .entry)) count) (st .at)) 2 0 0) st (now (tree .entry)) (now (tree .exit)) r ⌝ }
+    ensures { λ r. ⌜ Parses n-identifier (NameAt (now (draft .entry)) (now (tokens .entry)) count (st .at)) (now (draft .entry)) (now (tokens .entry)) count st (now (tree .entry)) (now (tree .exit)) r ⌝ }
 {
-    if choice::names(st.class) == 0 {
+    if choice::names(st.class) == choice::ABSENT {
         return Step::Refused(st.at);
     }
     let a = token::advance(draft, tokens, count, st);
-    let b = tree::child(tree, st, a, 2, 0, 0);
+    let b = tree::child(tree, st, a, kind::NAME, 0, 0);
     Step::Next(b, 0, 0)
 }
 
-// A function's name, as a record of kind 2.
+// A function's name, as a record.
 pub(crate) fn function_name(
     draft: &[u8],
     tokens: &[u32],
@@ -47,13 +59,13 @@ pub(crate) fn function_name(
     st: State,
 ) -> Step
     requires { ⌜ Ready (text (now draft) (now tokens) count) st ⌝ }
-    ensures { λ r. ⌜ Parsed (text (now (draft .entry)) (now (tokens .entry)) count) (nt n-functionName ∷ []) asItems (Named (tokAt (text (now (draft .entry)) (now (tokens .entry)) count) (st .at)) 2 0 0) st (now (tree .entry)) (now (tree .exit)) r ⌝ }
+    ensures { λ r. ⌜ Parses n-functionName (NameAt (now (draft .entry)) (now (tokens .entry)) count (st .at)) (now (draft .entry)) (now (tokens .entry)) count st (now (tree .entry)) (now (tree .exit)) r ⌝ }
 {
-    if choice::names(st.class) != 2 {
+    if choice::names(st.class) != choice::FUNCTION_NAME {
         return Step::Refused(st.at);
     }
     let a = token::advance(draft, tokens, count, st);
-    let b = tree::child(tree, st, a, 2, 0, 0);
+    let b = tree::child(tree, st, a, kind::NAME, 0, 0);
     Step::Next(b, 0, 0)
 }
 
@@ -68,7 +80,7 @@ pub(crate) fn names(draft: &[u8], tokens: &[u32], count: usize, tree: &mut [u32]
     };
     let mut here = a;
     let mut number = 1;
-    while here.class == 14 {
+    while here.class == class::DOUBLE_COLON {
         let b = token::advance(draft, tokens, count, here);
         let next = identifier(draft, tokens, count, tree, b);
         let Step::Next(c, _, _) = next else {
@@ -86,46 +98,55 @@ pub(crate) struct Head {
     pub(crate) low: u32,
 }
 
-// What a name is as a type: 4 an alias, 5 a built-in alias, 6 `bool`, 7 an unsigned type.
+// What a name is as a type: an alias, a built-in alias, `bool` or an unsigned type.
 pub(crate) fn type_name(draft: &[u8], st: State) -> Head
     ensures { λ r. ⌜ head (r .kind) (r .low) 0 ≡ typeName (partOf (now (draft .entry)) (st .start) (st .stop)) (st .class) ⌝ }
 {
-    if st.class != 32 {
-        return Head { kind: 4, low: 0 };
+    if st.class != class::IDENT {
+        return Head {
+            kind: kind::ALIAS,
+            low: 0,
+        };
     }
     let f = words::word(Table::TypeNames, draft, st.start as usize, st.stop as usize);
     let Found::Word(k) = f else {
-        return Head { kind: 4, low: 0 };
-    };
-    if k == 0 {
-        return Head { kind: 6, low: 0 };
-    }
-    if k < 10 {
         return Head {
-            kind: 7,
-            low: 1 << (k - 1),
+            kind: kind::ALIAS,
+            low: 0,
+        };
+    };
+    if k == BOOL {
+        return Head {
+            kind: kind::BOOL_TYPE,
+            low: 0,
+        };
+    }
+    if k < BUILTIN {
+        return Head {
+            kind: kind::UNSIGNED,
+            low: 1 << (k - UNSIGNED),
         };
     }
     Head {
-        kind: 5,
-        low: (k - 10) as u32,
+        kind: kind::BUILTIN,
+        low: (k - BUILTIN) as u32,
     }
 }
 
-// What a name is as a pattern: 13, or 14 for `_`.
+// What a name is as a pattern: an identifier, or `_`.
 pub(crate) fn pattern_name(draft: &[u8], st: State) -> u32
     ensures { λ r. ⌜ plain r ≡ patternName (partOf (now (draft .entry)) (st .start) (st .stop)) (st .class) ⌝ }
 {
-    if st.class != 32 {
-        return 13;
+    if st.class != class::IDENT {
+        return kind::IDENTIFIER_PATTERN;
     }
     let t = text::part(draft, st.start as usize, st.stop as usize);
     if t.len() == 1 {
         if t[0] == b'_' {
-            return 14;
+            return kind::IGNORE_PATTERN;
         }
     }
-    13
+    kind::IDENTIFIER_PATTERN
 }
 
 // The kind of a literal.
@@ -133,13 +154,13 @@ pub(crate) fn literal(class: u32) -> u32
     ensures { λ r. ⌜ r ≡ literalHead class .kind ⌝ }
 {
     match class {
-        61 => 23,
-        62 => 23,
-        28 => 24,
-        29 => 25,
-        30 => 26,
-        34 => 27,
-        _ => 28,
+        class::FALSE => kind::BOOLEAN,
+        class::TRUE => kind::BOOLEAN,
+        class::DEC_LITERAL => kind::DECIMAL,
+        class::HEX_LITERAL => kind::HEXADECIMAL,
+        class::BIN_LITERAL => kind::BINARY,
+        class::WITNESS => kind::WITNESS,
+        _ => kind::PARAMETER_VALUE,
     }
 }
 
@@ -147,36 +168,40 @@ pub(crate) fn literal(class: u32) -> u32
 pub(crate) fn truth(class: u32) -> u32
     ensures { λ r. ⌜ r ≡ literalHead class .low ⌝ }
 {
-    if class == 62 { 1 } else { 0 }
+    if class == class::TRUE { 1 } else { 0 }
 }
 
-// Which of the fourteen calls begins with a token of this class: 10 for a custom function.
+// Which of the fourteen calls begins with a token of this class: a custom function where no other does.
 pub(crate) fn call(class: u32) -> u32
     ensures { λ r. ⌜ r ≡ callHead class .low ⌝ }
 {
     match class {
-        33 => 1,
-        44 => 2,
-        45 => 3,
-        49 => 4,
-        48 => 5,
-        57 => 6,
-        58 => 7,
-        59 => 8,
-        26 => 9,
-        54 => 11,
-        46 => 12,
-        47 => 13,
-        56 => 14,
-        _ => 10,
+        class::JET => own::call::JET,
+        class::UNWRAP_LEFT => own::call::UNWRAP_LEFT,
+        class::UNWRAP_RIGHT => own::call::UNWRAP_RIGHT,
+        class::UNWRAP => own::call::UNWRAP,
+        class::IS_NONE => own::call::IS_NONE,
+        class::ASSERT_MACRO => own::call::ASSERT,
+        class::PANIC_MACRO => own::call::PANIC,
+        class::DBG_MACRO => own::call::DEBUG,
+        class::LANGLE => own::call::TYPE_CAST,
+        class::FOLD => own::call::FOLD,
+        class::ARRAY_FOLD => own::call::ARRAY_FOLD,
+        class::FOR_WHILE => own::call::FOR_WHILE,
+        class::RAW_HASH => own::call::RAW_HASH,
+        _ => own::call::CUSTOM,
     }
 }
 
-// The kind of a name that stands alone: 22 for `None`, otherwise a variable.
+// The kind of a name that stands alone: `None`, otherwise a variable.
 pub(crate) fn alone(class: u32) -> u32
     ensures { λ r. ⌜ plain r ≡ aloneHead class ⌝ }
 {
-    if class == 40 { 22 } else { 29 }
+    if class == class::NONE {
+        kind::NONE
+    } else {
+        kind::VARIABLE
+    }
 }
 
 // 1 for Left, 2 for Right, 3 for Some; 0 for any other.
@@ -184,21 +209,21 @@ pub(crate) fn wrapper(class: u32) -> u32
     ensures { λ r. ⌜ r ≡ placeIn 0 1 (t.Left ∷ t.Right ∷ t.Some ∷ []) class ⌝ }
 {
     match class {
-        37 => 1,
-        38 => 2,
-        39 => 3,
+        class::LEFT => 1,
+        class::RIGHT => 2,
+        class::SOME => 3,
         _ => 0,
     }
 }
 
-// The kind of a wrapper: 19 for Left, 20 for Right, 21 for Some.
+// The kind of a wrapper.
 pub(crate) fn wrapping(class: u32) -> u32
     ensures { λ r. ⌜ r ≡ wrapperHead class .kind ⌝ }
 {
     match class {
-        37 => 19,
-        38 => 20,
-        39 => 21,
+        class::LEFT => kind::LEFT,
+        class::RIGHT => kind::RIGHT,
+        class::SOME => kind::SOME,
         _ => 0,
     }
 }
@@ -207,11 +232,11 @@ pub(crate) fn wrapping(class: u32) -> u32
 pub(crate) fn callee(tree: &mut [u32], st: State, a: State) -> State
     ensures { λ r. ⌜ Called st a (now (tree .entry)) (now (tree .exit)) r ⌝ }
 {
-    if st.class == 33 {
-        return tree::child(tree, st, a, 2, 0, 0);
+    if st.class == class::JET {
+        return tree::child(tree, st, a, kind::NAME, 0, 0);
     }
-    if choice::names(st.class) == 2 {
-        return tree::child(tree, st, a, 2, 0, 0);
+    if choice::names(st.class) == choice::FUNCTION_NAME {
+        return tree::child(tree, st, a, kind::NAME, 0, 0);
     }
     a
 }
@@ -228,7 +253,7 @@ pub(crate) fn low(v: num::Value) -> u32
     ensures { λ r. ⌜ r ≡ lowHalf (reads v) ⌝ }
 {
     match v {
-        num::Value::Number(n) => (n % 4294967296) as u32,
+        num::Value::Number(n) => (n % HALF_RANGE) as u32,
         num::Value::TooLarge => 0,
     }
 }
@@ -237,12 +262,12 @@ pub(crate) fn high(v: num::Value) -> u32
     ensures { λ r. ⌜ r ≡ highHalf (reads v) ⌝ }
 {
     match v {
-        num::Value::Number(n) => (n / 4294967296) as u32,
+        num::Value::Number(n) => (n / HALF_RANGE) as u32,
         num::Value::TooLarge => 0,
     }
 }
 
-// A decimal, as a record of kind 40 that holds its number.
+// A decimal, as a record that holds its number.
 pub(crate) fn decimal(
     draft: &[u8],
     tokens: &[u32],
@@ -253,20 +278,20 @@ pub(crate) fn decimal(
     requires { ⌜ Ready (text (now draft) (now tokens) count) st ⌝ }
     ensures { λ r. ⌜ Parsed (text (now (draft .entry)) (now (tokens .entry)) count) (tok t.DecLiteral ∷ []) asItems (Decimal (text (now (draft .entry)) (now (tokens .entry)) count) (st .at)) st (now (tree .entry)) (now (tree .exit)) r ⌝ }
 {
-    if st.class != 28 {
+    if st.class != class::DEC_LITERAL {
         return Step::Refused(st.at);
     }
     let a = token::advance(draft, tokens, count, st);
     let v = number(draft, st);
-    let b = tree::child(tree, st, a, 40, low(v), high(v));
+    let b = tree::child(tree, st, a, kind::NUMBER, low(v), high(v));
     Step::Next(b, 0, 0)
 }
 
-// The refusal of the number of a fold (9) or an `array_fold` (10), or 0.
+// The refusal of the number of a fold or an `array_fold`, or 0.
 pub(crate) fn size_fault(class: u32, v: num::Value) -> u32
     ensures { λ r. ⌜ r ≡ cond (eqb class t.array-fold) (sizeFault v) (boundFault v) ⌝ }
 {
-    if class == 46 {
+    if class == class::ARRAY_FOLD {
         return fault::size(v);
     }
     fault::bound(v)

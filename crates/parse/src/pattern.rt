@@ -1,17 +1,18 @@
 // Patterns: `Pattern::parser` of src/parse/grammar/types.rs.
-ghost use mathlib.Core.List.{[], _∷_};
 ghost use mathlib.Core.Path.{_≡_};
-ghost use Rattle.theory.specs.Grammar.{nt};
 ghost use Rattle.theory.specs.Machine.{choose};
 ghost use Rattle.grammar.specs.Tables.{table};
 ghost use Rattle.grammar.specs.TablesIndex.{n-pattern, n-list-pattern};
-ghost use Rattle.parse.specs.Contract.{text, Ready, Parsed, asItems, Node, PatternKind, Commas};
+ghost use Rattle.parse.specs.Choice as rule;
+ghost use Rattle.parse.specs.Contract.{text, Ready, Parses, Node, PatternKind, Commas};
 use crate::State;
 use crate::Step;
 use crate::choice;
 use crate::names;
 use crate::token;
 use crate::tree;
+use lexer::classes as class;
+use own::kind;
 
 pub(crate) fn pattern(
     draft: &[u8],
@@ -21,12 +22,12 @@ pub(crate) fn pattern(
     st: State,
 ) -> Step
     requires { ⌜ Ready (text (now draft) (now tokens) count) st ⌝ }
-    ensures { λ r. ⌜ Parsed (text (now (draft .entry)) (now (tokens .entry)) count) (nt n-pattern ∷ []) asItems (Node PatternKind) st (now (tree .entry)) (now (tree .exit)) r ⌝ }
+    ensures { λ r. ⌜ Parses n-pattern (Node PatternKind) (now (draft .entry)) (now (tokens .entry)) count st (now (tree .entry)) (now (tree .exit)) r ⌝ }
 {
     match choice::patterns(st.class) {
-        1 => named(draft, tokens, count, tree, st),
-        2 => tuple(draft, tokens, count, tree, st),
-        3 => array(draft, tokens, count, tree, st),
+        choice::NAME_PATTERN => named(draft, tokens, count, tree, st),
+        choice::TUPLE_PATTERN => tuple(draft, tokens, count, tree, st),
+        choice::ARRAY_PATTERN => array(draft, tokens, count, tree, st),
         _ => Step::Refused(st.at),
     }
 }
@@ -34,8 +35,8 @@ pub(crate) fn pattern(
 // A name, or `_`.
 fn named(draft: &[u8], tokens: &[u32], count: usize, tree: &mut [u32], st: State) -> Step
     requires { ⌜ Ready (text (now draft) (now tokens) count) st ⌝ }
-    requires { ⌜ choose table n-pattern (st .class) ≡ 1 ⌝ }
-    ensures { λ r. ⌜ Parsed (text (now (draft .entry)) (now (tokens .entry)) count) (nt n-pattern ∷ []) asItems (Node PatternKind) st (now (tree .entry)) (now (tree .exit)) r ⌝ }
+    requires { ⌜ choose table n-pattern (st .class) ≡ rule.NamePattern ⌝ }
+    ensures { λ r. ⌜ Parses n-pattern (Node PatternKind) (now (draft .entry)) (now (tokens .entry)) count st (now (tree .entry)) (now (tree .exit)) r ⌝ }
 {
     let a = token::advance(draft, tokens, count, tree::reserve(st));
     let kind = names::pattern_name(draft, st);
@@ -46,45 +47,45 @@ fn named(draft: &[u8], tokens: &[u32], count: usize, tree: &mut [u32], st: State
 // `(p, …)`
 fn tuple(draft: &[u8], tokens: &[u32], count: usize, tree: &mut [u32], st: State) -> Step
     requires { ⌜ Ready (text (now draft) (now tokens) count) st ⌝ }
-    requires { ⌜ choose table n-pattern (st .class) ≡ 2 ⌝ }
-    ensures { λ r. ⌜ Parsed (text (now (draft .entry)) (now (tokens .entry)) count) (nt n-pattern ∷ []) asItems (Node PatternKind) st (now (tree .entry)) (now (tree .exit)) r ⌝ }
+    requires { ⌜ choose table n-pattern (st .class) ≡ rule.TuplePattern ⌝ }
+    ensures { λ r. ⌜ Parses n-pattern (Node PatternKind) (now (draft .entry)) (now (tokens .entry)) count st (now (tree .entry)) (now (tree .exit)) r ⌝ }
 {
     let a = token::advance(draft, tokens, count, tree::reserve(st));
     let inner = patterns(draft, tokens, count, tree, a);
     let Step::Next(b, _, _) = inner else {
         return inner;
     };
-    let paren = token::eat(draft, tokens, count, b, 21);
+    let paren = token::eat(draft, tokens, count, b, class::RPAREN);
     let Step::Next(c, _, _) = paren else {
         return paren;
     };
-    tree::close(tree, st, c, 15, 0, 0);
+    tree::close(tree, st, c, kind::TUPLE_PATTERN, 0, 0);
     Step::Next(c, 0, 0)
 }
 
 // `[p, …]`
 fn array(draft: &[u8], tokens: &[u32], count: usize, tree: &mut [u32], st: State) -> Step
     requires { ⌜ Ready (text (now draft) (now tokens) count) st ⌝ }
-    requires { ⌜ choose table n-pattern (st .class) ≡ 3 ⌝ }
-    ensures { λ r. ⌜ Parsed (text (now (draft .entry)) (now (tokens .entry)) count) (nt n-pattern ∷ []) asItems (Node PatternKind) st (now (tree .entry)) (now (tree .exit)) r ⌝ }
+    requires { ⌜ choose table n-pattern (st .class) ≡ rule.ArrayPattern ⌝ }
+    ensures { λ r. ⌜ Parses n-pattern (Node PatternKind) (now (draft .entry)) (now (tokens .entry)) count st (now (tree .entry)) (now (tree .exit)) r ⌝ }
 {
     let a = token::advance(draft, tokens, count, tree::reserve(st));
     let inner = patterns(draft, tokens, count, tree, a);
     let Step::Next(b, _, _) = inner else {
         return inner;
     };
-    let bracket = token::eat(draft, tokens, count, b, 23);
+    let bracket = token::eat(draft, tokens, count, b, class::RBRACKET);
     let Step::Next(c, _, _) = bracket else {
         return bracket;
     };
-    tree::close(tree, st, c, 16, 0, 0);
+    tree::close(tree, st, c, kind::ARRAY_PATTERN, 0, 0);
     Step::Next(c, 0, 0)
 }
 
 // Patterns with commas between them, up to what closes them.
 fn patterns(draft: &[u8], tokens: &[u32], count: usize, tree: &mut [u32], st: State) -> Step
     requires { ⌜ Ready (text (now draft) (now tokens) count) st ⌝ }
-    ensures { λ r. ⌜ Parsed (text (now (draft .entry)) (now (tokens .entry)) count) (nt n-list-pattern ∷ []) asItems Commas st (now (tree .entry)) (now (tree .exit)) r ⌝ }
+    ensures { λ r. ⌜ Parses n-list-pattern Commas (now (draft .entry)) (now (tokens .entry)) count st (now (tree .entry)) (now (tree .exit)) r ⌝ }
 {
     let mut here = st;
     while !token::closes(here.class) {
@@ -92,7 +93,7 @@ fn patterns(draft: &[u8], tokens: &[u32], count: usize, tree: &mut [u32], st: St
         let Step::Next(a, _, _) = inner else {
             return inner;
         };
-        if a.class != 17 {
+        if a.class != class::COMMA {
             return Step::Next(a, 0, 0);
         }
         here = token::advance(draft, tokens, count, a);

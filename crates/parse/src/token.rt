@@ -2,9 +2,12 @@
 ghost use mathlib.Core.Bool.{_||_};
 ghost use mathlib.Core.Path.{_≡_};
 ghost use lib.Dec.{eqb};
+ghost use Rattle.lexer.specs.Classes as t;
 ghost use Rattle.parse.specs.Contract.{text, tokAt, Gives, next, Moved, Eaten};
 use crate::State;
 use crate::Step;
+use lexer::classes as class;
+use text::TOKEN_WORDS;
 
 pub(crate) struct Lexeme {
     pub(crate) class: u32,
@@ -17,10 +20,10 @@ pub(crate) fn token(draft: &[u8], tokens: &[u32], count: usize, at: usize) -> Le
     ensures { λ r. ⌜ Gives r (tokAt (text (now (draft .entry)) (now (tokens .entry)) count) at) ⌝ }
 {
     if at < count {
-        if at < tokens.len() / 3 {
-            let kind = tokens[3 * at];
-            let start = tokens[3 * at + 1];
-            let stop = tokens[3 * at + 2];
+        if at < tokens.len() / TOKEN_WORDS {
+            let kind = tokens[TOKEN_WORDS * at];
+            let start = tokens[TOKEN_WORDS * at + 1];
+            let stop = tokens[TOKEN_WORDS * at + 2];
             let class = lexer::class(draft, kind, start as usize, stop as usize);
             return Lexeme { class, start, stop };
         }
@@ -45,16 +48,13 @@ pub(crate) fn advance(draft: &[u8], tokens: &[u32], count: usize, st: State) -> 
 {
     let at = after(st.at, count);
     let t = token(draft, tokens, count, at);
-    State {
-        at,
-        class: t.class,
-        start: t.start,
-        stop: t.stop,
-        end: st.stop,
-        out: st.out,
-        fault: st.fault,
-        place: st.place,
-    }
+    let mut next = st;
+    next.at = at;
+    next.class = t.class;
+    next.start = t.start;
+    next.stop = t.stop;
+    next.end = st.stop;
+    next
 }
 
 // The token of this class, or a refusal at the token that stands there.
@@ -70,11 +70,11 @@ pub(crate) fn eat(draft: &[u8], tokens: &[u32], count: usize, st: State, class: 
 
 // Whether a token of this class closes a list: `)` or `]`.
 pub(crate) fn closes(class: u32) -> bool
-    ensures { λ r. ⌜ r ≡ (eqb class 21 || eqb class 23) ⌝ }
+    ensures { λ r. ⌜ r ≡ (eqb class t.RParen || eqb class t.RBracket) ⌝ }
 {
     match class {
-        21 => true,
-        23 => true,
+        class::RPAREN => true,
+        class::RBRACKET => true,
         _ => false,
     }
 }

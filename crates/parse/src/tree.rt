@@ -16,17 +16,9 @@ fn less(a: u32, b: u32) -> u32
 pub(crate) fn reserve(st: State) -> State
     ensures { λ r. ⌜ r ≡ reserved st ⌝ }
 {
-    let out = std::num::wrapping_add_u32(st.out, 1);
-    State {
-        at: st.at,
-        class: st.class,
-        start: st.start,
-        stop: st.stop,
-        end: st.end,
-        out,
-        fault: st.fault,
-        place: st.place,
-    }
+    let mut more = st;
+    more.out = std::num::wrapping_add_u32(st.out, 1);
+    more
 }
 
 // Writes the record of this number, if it fits.

@@ -1,4 +1,4 @@
--- A buffer of 36 bytes for each of 2,048 records has room for the listing of every draft, and no more bytes are used than there are.
+-- A buffer of a line for each of 2,048 records has room for the listing of every draft, and no more bytes are used than there are.
 -- Assumes nothing.
 use mathlib.Core.Bool.{Bool, true, false, cond}
 use mathlib.Core.List.{List}
@@ -9,34 +9,41 @@ use borrow.Author.Tests.{ltb-false, le-ltb}
 use lib.Dec.{ltb}
 use lib.ListN.{length}
 use Rattle.lexer.specs.Limits.{draftLimits}
-use Rattle.own.specs.Tree.{Rec, records}
-use Rattle.text.specs.Widths.{recWide}
-use Rattle.grammar.specs.Answer.{Answer, accepted, refused, Reading, refusal, read, reading, answer, fitted, treesRead, recordsRead}
-use Rattle.grammar.specs.Lines.{lines, listed, listing, lines-length}
-use Rattle.reader.specs.Listed.{used, listingOf, usedOf}
+use Rattle.own.specs.Tree.{Rec}
+use Rattle.text.specs.Widths.{tokWide, recWide}
+use Rattle.text.specs.Refusals as refusal
+use Rattle.grammar.specs.Entry.{oneFunction}
+use Rattle.grammar.specs.Answer.{Answer, accepted, refused, Reading, unread, read, reading, answer, fitted, recordsIn, recordsRead}
+use Rattle.lines.specs.Lines.{lineBytes, lines, lines-length}
+use Rattle.grammar.specs.Lines.{listed, listing}
+use Rattle.reader.specs.Listed.{listingOf, usedOf}
 
--- The bytes of the most lines that there can be.
+-- As many records as there may be tokens,
+abbrev most : ℕ
+most = draftLimits .tokens
+
+-- and the bytes of as many lines, the most that there can be.
 abbrev pub enough : ℕ
-enough = 36 * 2048
+enough = lineBytes * most
 
 one-line : (c p : ℕ) (rs : List Rec) → length (lines (listed (refused c p) rs)) ≤ enough
 one-line c p rs = let h = lines-length (listed (refused c p) rs) in omega (arith, h)
 
-by-room : (n : ℕ) (rs : List Rec) (b : Bool) → ltb (recWide * 2048) (recWide * length rs) ≡ b → length (lines (listed (cond b (refused 15 0) (accepted n (length rs))) rs)) ≤ enough
-by-room n rs true e = one-line 15 0 rs
+by-room : (n : ℕ) (rs : List Rec) (b : Bool) → ltb (recWide * most) (recWide * length rs) ≡ b → length (lines (listed (cond b (refused refusal.NoRoom 0) (accepted n (length rs))) rs)) ≤ enough
+by-room n rs true e = one-line refusal.NoRoom 0 rs
 by-room n rs false e =
     let h = lines-length rs in
-    let k : recWide * length rs ≤ recWide * 2048 = ltb-false (recWide * 2048) (recWide * length rs) e in
+    let k : recWide * length rs ≤ recWide * most = ltb-false (recWide * most) (recWide * length rs) e in
     omega (arith, h, k)
 
-lines-fit : (r : Reading) → length (lines (listed (fitted (recWide * 2048) r) (records (treesRead r)))) ≤ enough
-lines-fit (refusal c p) = one-line c p (records (treesRead (refusal c p)))
-lines-fit (read ts ns) = by-room (length ts) (records ns) (ltb (recWide * 2048) (recWide * length (records ns))) refl
+lines-fit : (r : Reading) → length (lines (listed (fitted (recWide * most) r) (recordsIn r))) ≤ enough
+lines-fit (unread c p) = one-line c p (recordsIn (unread c p))
+lines-fit (read ts rs) = by-room (length ts) rs (ltb (recWide * most) (recWide * length rs)) refl
 
 -- The listing of every draft fits,
 pub listing-fits : (draft : List ℕ) → length (listingOf draft) ≤ enough
 unfolding listing answer recordsRead
-listing-fits draft = lines-fit (reading draftLimits draft 6144)
+listing-fits draft = lines-fit (reading oneFunction draftLimits draft (tokWide * most))
 
 -- so that a buffer of that many bytes or more has all of it;
 pub all-listed : (draft : List ℕ) (size : ℕ) → enough ≤ size → usedOf draft size ≡ length (listingOf draft)

@@ -3,12 +3,13 @@ ghost use mathlib.Core.Path.{_≡_};
 ghost use lib.ListN.{length};
 ghost use Rattle.lexer.specs.Limits.{draftLimits, lexedOf, bufferOf};
 ghost use Rattle.lexer.specs.declared.Lexed.the-variants.{Tokens};
+ghost use Rattle.grammar.specs.Entry.{oneFunction};
 ghost use Rattle.grammar.specs.Answer.{answer, tokenBuffer, treeBuffer};
 ghost use Rattle.reader.specs.Read.{handed, Promised};
 use lexer::Lexed;
+use text::refusal;
 
 pub mod entry;
-mod lines;
 
 // What is handed over: the numbers of tokens and records, or the refusal by its number, at a place.
 pub enum Reading {
@@ -18,10 +19,10 @@ pub enum Reading {
 
 // Reads a draft: three words a token, six words a record, zeros behind them; on a refusal every word of both buffers is 0.
 pub fn read(draft: &[u8], tokens: &mut [u32], tree: &mut [u32]) -> Reading
-    ensures answer { λ r. ⌜ r ≡ handed (answer draftLimits (now (draft .entry)) (length (now (tokens .entry))) (length (now (tree .entry)))) ⌝ }
-    ensures tokens { λ _. ⌜ now (tokens .exit) ≡ tokenBuffer draftLimits (now (draft .entry)) (length (now (tokens .entry))) (length (now (tree .entry))) ⌝ }
-    ensures tree { λ _. ⌜ now (tree .exit) ≡ treeBuffer draftLimits (now (draft .entry)) (length (now (tokens .entry))) (length (now (tree .entry))) ⌝ }
-    ensures laws { λ r. ⌜ Promised draftLimits (now (draft .entry)) (length (now (tokens .entry))) (length (now (tree .entry))) r (now (tokens .exit)) (now (tree .exit)) ⌝ }
+    ensures answer { λ r. ⌜ r ≡ handed (answer oneFunction draftLimits (now (draft .entry)) (length (now (tokens .entry))) (length (now (tree .entry)))) ⌝ }
+    ensures tokens { λ _. ⌜ now (tokens .exit) ≡ tokenBuffer oneFunction draftLimits (now (draft .entry)) (length (now (tokens .entry))) (length (now (tree .entry))) ⌝ }
+    ensures tree { λ _. ⌜ now (tree .exit) ≡ treeBuffer oneFunction draftLimits (now (draft .entry)) (length (now (tokens .entry))) (length (now (tree .entry))) ⌝ }
+    ensures laws { λ r. ⌜ Promised oneFunction draftLimits (now (draft .entry)) (length (now (tokens .entry))) (length (now (tree .entry))) r (now (tokens .exit)) (now (tree .exit)) ⌝ }
 {
     let lexed = lexer::lex(draft, tokens);
     match lexed {
@@ -37,9 +38,9 @@ pub fn read(draft: &[u8], tokens: &mut [u32], tree: &mut [u32]) -> Reading
 fn parsed(draft: &[u8], tokens: &mut [u32], count: usize, tree: &mut [u32]) -> Reading
     requires { ⌜ lexedOf draftLimits (now draft) (length (now tokens)) ≡ Tokens count ⌝ }
     requires { ⌜ now tokens ≡ bufferOf draftLimits (now draft) (length (now tokens)) ⌝ }
-    ensures answer { λ r. ⌜ r ≡ handed (answer draftLimits (now (draft .entry)) (length (now (tokens .entry))) (length (now (tree .entry)))) ⌝ }
-    ensures tokens { λ _. ⌜ now (tokens .exit) ≡ tokenBuffer draftLimits (now (draft .entry)) (length (now (tokens .entry))) (length (now (tree .entry))) ⌝ }
-    ensures tree { λ _. ⌜ now (tree .exit) ≡ treeBuffer draftLimits (now (draft .entry)) (length (now (tokens .entry))) (length (now (tree .entry))) ⌝ }
+    ensures answer { λ r. ⌜ r ≡ handed (answer oneFunction draftLimits (now (draft .entry)) (length (now (tokens .entry))) (length (now (tree .entry)))) ⌝ }
+    ensures tokens { λ _. ⌜ now (tokens .exit) ≡ tokenBuffer oneFunction draftLimits (now (draft .entry)) (length (now (tokens .entry))) (length (now (tree .entry))) ⌝ }
+    ensures tree { λ _. ⌜ now (tree .exit) ≡ treeBuffer oneFunction draftLimits (now (draft .entry)) (length (now (tokens .entry))) (length (now (tree .entry))) ⌝ }
 {
     let answer = parse::parse(draft, tokens, count, tree);
     match answer {
@@ -54,7 +55,7 @@ fn parsed(draft: &[u8], tokens: &mut [u32], count: usize, tree: &mut [u32]) -> R
         parse::Answer::TooMany => {
             text::clear(tokens);
             Reading::Refused {
-                number: 6,
+                number: refusal::TOO_MANY,
                 place: 0,
             }
         }

@@ -101,9 +101,9 @@ fn write_owned(all: bool) {
 
 // What is found of an accepted draft; numbers that the buffers cannot hold are wrong at once.
 fn write_accepted(draft: &[u8], tokens: &[u32], count: usize, tree: &[u32], records: usize) {
-    if count <= tokens.len() / 3 {
+    if count <= tokens.len() / text::TOKEN_WORDS {
         if records <= tree.len() / text::RECORD_WORDS {
-            let e = 3 * count;
+            let e = text::TOKEN_WORDS * count;
             let f = text::RECORD_WORDS * records;
             let good = owned::owned(draft, &tokens[..e], &tree[..f]);
             write_owned(good);

@@ -1,5 +1,5 @@
 // Whether the records of an accepted draft own its tokens (document 01, "Records and the marks they own"), by trying every place.
-// A record owns what its place holds and no child's does. Three words a token and `RECORD_WORDS` a record, with no words behind them.
+// A record owns what its place holds and no child's does. `TOKEN_WORDS` a token and `RECORD_WORDS` a record, with no words behind them.
 // Check 1: one record alone owns each token; no other that holds it has as few bytes; its kind may own the token's class.
 // Check 2: a child is of a kind that its record may hold, and in its place; the children's sizes and one more are the record's size.
 // Check 3: the tokens that each record owns add up to the tokens.
@@ -7,12 +7,10 @@
 ghost use Prim.Native.Nat.{_+_, _*_, _≤_, _<_};
 ghost use lib.ListN.{length};
 ghost use Rattle.text.specs.Widths.{recWide};
+use own::arm;
+use own::kind;
 use text::RECORD_WORDS;
-
-// The kinds of check 4: a match and a built-in arm.
-const MATCH: u32 = 35;
-
-const ARM: u32 = 37;
+use text::TOKEN_WORDS;
 
 fn wide(w: u32) -> usize
     ensures { λ r. ⌜ r < 4294967296 ⌝ }
@@ -124,13 +122,13 @@ fn token_owned(draft: &[u8], tree: &[u32], kind: u32, start: u32, end: u32) -> b
 // Check 1 of every token.
 fn tokens_owned(draft: &[u8], tokens: &[u32], tree: &[u32]) -> bool {
     let mut t = 0;
-    while t < tokens.len() / 3 {
+    while t < tokens.len() / TOKEN_WORDS {
         if !token_owned(
             draft,
             tree,
-            tokens[3 * t],
-            tokens[3 * t + 1],
-            tokens[3 * t + 2],
+            tokens[TOKEN_WORDS * t],
+            tokens[TOKEN_WORDS * t + 1],
+            tokens[TOKEN_WORDS * t + 2],
         ) {
             return false;
         }
@@ -174,11 +172,11 @@ fn children_fit(tree: &[u32], i: usize) -> bool
 fn arms_paired(tree: &[u32], c: usize, d: usize) -> bool
     requires { ⌜ (recWide * c + recWide ≤ length (now tree)) × (recWide * d + recWide ≤ length (now tree)) ⌝ }
 {
-    if tree[RECORD_WORDS * c] != ARM || tree[RECORD_WORDS * d] != ARM {
+    if tree[RECORD_WORDS * c] != kind::BUILTIN_ARM || tree[RECORD_WORDS * d] != kind::BUILTIN_ARM {
         return true;
     }
     let low = tree[RECORD_WORDS * c + 3];
-    if low > 5 {
+    if low > arm::FALSE {
         return false;
     }
     low % 2 == 1 && tree[RECORD_WORDS * d + 3] == low + 1
@@ -209,7 +207,7 @@ fn records_fit(tree: &[u32]) -> bool {
         if !children_fit(tree, i) {
             return false;
         }
-        if tree[RECORD_WORDS * i] == MATCH && !arms_in_order(tree, i) {
+        if tree[RECORD_WORDS * i] == kind::MATCH && !arms_in_order(tree, i) {
             return false;
         }
         i += 1;
@@ -223,8 +221,13 @@ fn owned_by(tokens: &[u32], tree: &[u32], i: usize) -> usize
 {
     let mut n: usize = 0;
     let mut t = 0;
-    while t < tokens.len() / 3 {
-        if owns(tree, i, tokens[3 * t + 1], tokens[3 * t + 2]) {
+    while t < tokens.len() / TOKEN_WORDS {
+        if owns(
+            tree,
+            i,
+            tokens[TOKEN_WORDS * t + 1],
+            tokens[TOKEN_WORDS * t + 2],
+        ) {
             n += 1;
         }
         t += 1;
@@ -234,7 +237,7 @@ fn owned_by(tokens: &[u32], tree: &[u32], i: usize) -> usize
 
 // Check 3.
 fn counts_agree(tokens: &[u32], tree: &[u32]) -> bool {
-    let mut left = tokens.len() / 3;
+    let mut left = tokens.len() / TOKEN_WORDS;
     let mut i = 0;
     while i < tree.len() / RECORD_WORDS {
         let n = owned_by(tokens, tree, i);

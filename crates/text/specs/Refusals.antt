@@ -1,8 +1,10 @@
 -- The numbers of refusals by name (document 01, "What the reader hands over"), each under its row; and the two families of which "the earliest
 -- place" wins.
 -- Assumes nothing.
-use mathlib.Core.List.{List, [], _∷_}
+use mathlib.Core.Bool.{Bool, true, false, _&&_, _||_, not}
+use mathlib.Core.List.{List, [], _∷_, _++_}
 use Prim.Native.Nat.{ℕ}
+use lib.Dec.{T, eqb}
 
 -- "draft over 16,384 bytes"
 abbrev pub TooLong : ℕ
@@ -71,3 +73,22 @@ ofBytes = NotAscii ∷ NoLexeme ∷ Unclosed ∷ Simc ∷ []
 -- "of 9 to 14 the earliest place": those of the shapes, which a well-shaped draft may have.
 abbrev pub ofShapes : List ℕ
 ofShapes = Bound ∷ Size ∷ NoArms ∷ MixedArms ∷ ArmCount ∷ NoPartners ∷ []
+
+-- a number is one of a family's
+abbrev pub oneOf : List ℕ → ℕ → Bool
+oneOf [] c = false
+oneOf (n ∷ ns) c = eqb c n || oneOf ns c
+
+-- Every number, in the order of the tests: "Refusal 1 is tested first; of 2 to 5 the earliest place wins; then 6, 7 and 8 in turn [..]; of 9 to 14
+-- the earliest place; last 15."
+abbrev pub inOrder : List ℕ
+inOrder = TooLong ∷ (ofBytes ++ (TooMany ∷ TooDeep ∷ Misshapen ∷ (ofShapes ++ (NoRoom ∷ []))))
+
+-- no number stands twice
+abbrev pub distinct : List ℕ → Bool
+distinct [] = true
+distinct (n ∷ ns) = not (oneOf ns n) && distinct ns
+
+-- Each refusal has a number of its own, none is in both families, and none is 0, which stands for no refusal: computed.
+pub numbers-distinct : T (distinct (0 ∷ inOrder))
+numbers-distinct = tt

@@ -91,17 +91,17 @@ pub data Match (t : Ebnf) : List Ex → Items → Type 0 where
   m-sub : {C k : ℕ} {es : List Ex} {js r : Items} (i : ℕ) → getElem? (kindsOf t C) i ≡ some k → Match t (bodyOf t k) js → Match t es r → Match t (child C ∷ es) (sub k js r)
   m-choice : {e : Ex} {es α : List Ex} {r : Items} (i : ℕ) → getElem? (choices t e) i ≡ some α → Match t (α ++ es) r → Match t (e ∷ es) r
 
--- A tree of a node of the category C, with the tokens ts.
-abbrev pub Tree : Ebnf → ℕ → List ℕ → Type 0
-Tree t C ts = (r : Items) × Match t (child C ∷ []) r × (yield r ≡ ts)
+-- Trees side by side of the expression e, with the tokens ts.
+abbrev pub Tree : Ebnf → Ex → List ℕ → Type 0
+Tree t e ts = (r : Items) × Match t (e ∷ []) r × (yield r ≡ ts)
 
 -- The tokens s are first wrong at the place p: those before it begin some tree's; with the token there they begin no tree's; and if
 -- there is none, at the end, they are no tree's.
-pub record FirstWrong (t : Ebnf) (C : ℕ) (s : List ℕ) (p : ℕ) : Type 0 where
+pub record FirstWrong (t : Ebnf) (e : Ex) (s : List ℕ) (p : ℕ) : Type 0 where
   pub within : p ≤ length s
-  pub before : (more : List ℕ) × Tree t C (take p s ++ more)
-  pub further : p < length s → (more : List ℕ) → Tree t C (take (suc p) s ++ more) → ⊥
-  pub ended : p ≡ length s → Tree t C s → ⊥
+  pub before : (more : List ℕ) × Tree t e (take p s ++ more)
+  pub further : p < length s → (more : List ℕ) → Tree t e (take (suc p) s ++ more) → ⊥
+  pub ended : p ≡ length s → Tree t e s → ⊥
 
 -- The three sorts of expressions: a token, a node, or one that is replaced by others.
 pub data Sort : Type 0 where

@@ -15,7 +15,7 @@ use Rattle.theory.specs.Grammar.{nt, Row, row, Der}
 use Rattle.theory.specs.Machine.{Same, same-end, same-head}
 use Rattle.theory.specs.Check.{good, mem}
 use Rattle.theory.specs.Predict.{start-ok}
-use Rattle.theory.specs.Ebnf.{Ex, child, Ebnf, Items, yield, Match, Tree, FirstWrong}
+use Rattle.theory.specs.Ebnf.{Ex, Ebnf, Items, yield, Match, Tree, FirstWrong}
 use Rattle.theory.specs.Same.{ex, sames, to-der, from-der}
 use Rattle.theory.specs.Walk.{Reads, reads-match, reads-yield, Sticks, Stops, sticks-stops, long-stops}
 use Rattle.theory.specs.Unique.{unique}
@@ -38,36 +38,36 @@ unfoldable pub parse : Ebnf → List Ex → List Row → ℕ → List ℕ → Fo
 parse t m g S s = judge (exec t m g s (64 * length s + need t m g (nt S ∷ [])) (nt S ∷ []) 0) (length s)
 
 -- What antt computes of a grammar t, of its productions with their table g, of the column m that says what each nonterminal stands
--- for, and of the nonterminal S that stands for the category C.
-pub record Checked (t : Ebnf) (m : List Ex) (g : List Row) (S C : ℕ) : Type 0 where
+-- for, and of the nonterminal S that stands for the expression E.
+pub record Checked (t : Ebnf) (m : List Ex) (g : List Row) (S : ℕ) (E : Ex) : Type 0 where
   pub right : T (good g)
   pub same : T (sames t m g m)
   pub pays : T (paid t m g)
-  pub start : ex m (nt S) ≡ child C
+  pub start : ex m (nt S) ≡ E
   pub ends : T (mem 0 (row g S .follow))
 
-module _ (t : Ebnf) (m : List Ex) (g : List Row) (S C : ℕ) (ok : Checked t m g S C) where
-  starts-map : map (ex m) (nt S ∷ []) ≡ child C ∷ []
+module _ (t : Ebnf) (m : List Ex) (g : List Row) (S : ℕ) (E : Ex) (ok : Checked t m g S E) where
+  starts-map : map (ex m) (nt S ∷ []) ≡ E ∷ []
   starts-map = rw (ok .start) refl
 
   -- A tree's tokens are derived.
-  pub tree-der : {ts : List ℕ} → Tree t C ts → Der g (nt S ∷ []) ts
+  pub tree-der : {ts : List ℕ} → Tree t E ts → Der g (nt S ∷ []) ts
   tree-der r = subst (λ (l : List ℕ). Der g (nt S ∷ []) l) (r .2) (to-der t m g (ok .same) (r .1) (nt S ∷ []) starts-map)
 
   -- What is derived are a tree's tokens.
-  pub der-tree : {ts : List ℕ} → Der g (nt S ∷ []) ts → Tree t C ts
+  pub der-tree : {ts : List ℕ} → Der g (nt S ∷ []) ts → Tree t E ts
   der-tree d = let h = from-der t m g (ok .same) d in (h .0, subst (λ (l : List Ex). Match t l (h .0)) starts-map (h .1), h .2)
 
   -- Two trees with the same tokens are one.
-  pub one-tree : {r u : Items} → Match t (child C ∷ []) r → Match t (child C ∷ []) u → yield r ≡ yield u → r ≡ u
+  pub one-tree : {r u : Items} → Match t (E ∷ []) r → Match t (E ∷ []) u → yield r ≡ yield u → r ≡ u
   one-tree {r} {u} a b e =
-      let f : (x : Items) → Match t (child C ∷ []) x → Match t (map (ex m) (nt S ∷ [])) x = λ x y. subst (λ (l : List Ex). Match t l x) (sym starts-map) y in
+      let f : (x : Items) → Match t (E ∷ []) x → Match t (map (ex m) (nt S ∷ [])) x = λ x y. subst (λ (l : List Ex). Match t l x) (sym starts-map) y in
       unique t m g (ok .same) (ok .right) (nt S ∷ []) r u (start-ok g S (ok .ends)) (f r a) (f u b) e
 
   module _ (s : List ℕ) where
     -- What an answer says: a tree with just these tokens, or a first place where they are wrong.
     abbrev pub Says : Found → Type 0
-    Says (found r) = Match t (child C ∷ []) r × (yield r ≡ s)
+    Says (found r) = Match t (E ∷ []) r × (yield r ≡ s)
     Says (stuck p) = Stops t m g s S p
 
     -- What is read to the end is a tree with just these tokens.
@@ -109,7 +109,7 @@ module _ (t : Ebnf) (m : List Ex) (g : List Row) (S C : ℕ) (ok : Checked t m g
     same-self (a ∷ x) = same-head
 
     -- Tokens that stop are no tree's.
-    pub stops-no-tree : {p : ℕ} → Says (stuck p) → Tree t C s → ⊥
+    pub stops-no-tree : {p : ℕ} → Says (stuck p) → Tree t E s → ⊥
     stops-no-tree {p} w r =
         w .after (drop p s) (same-self (drop p s)) (tree-der (r .0, r .1, r .2 ∙ sym (take-append-drop p s)))
 
@@ -117,32 +117,32 @@ module _ (t : Ebnf) (m : List Ex) (g : List Row) (S C : ℕ) (ok : Checked t m g
     with-token p h more = ap (λ (l : List ℕ). l ++ more) (take-suc s p 0 h) ∙ append-assoc (take p s) (getD s p 0 ∷ []) more
 
     -- Nor does any tree begin with them and go on with the token where they stop.
-    pub stops-no-further : {p : ℕ} → Says (stuck p) → p < length s → (more : List ℕ) → Tree t C (take (suc p) s ++ more) → ⊥
+    pub stops-no-further : {p : ℕ} → Says (stuck p) → p < length s → (more : List ℕ) → Tree t E (take (suc p) s ++ more) → ⊥
     stops-no-further {p} w h more r =
         let d : Same (drop p s) (getD s p 0 ∷ more) = rw (drop-cons s p 0 h) same-head in
         w .after (getD s p 0 ∷ more) d (tree-der (r .0, r .1, r .2 ∙ with-token p h more))
 
     -- The place where they stop is where they are first wrong,
-    pub stops-wrong : {p : ℕ} → Says (stuck p) → FirstWrong t C s p
+    pub stops-wrong : {p : ℕ} → Says (stuck p) → FirstWrong t E s p
     stops-wrong w = record { within = w .within; before = (w .before .0, der-tree (w .before .1)); further = stops-no-further w; ended = λ e. stops-no-tree w }
 
-    ahead : (p : ℕ) (r x : List ℕ) → FirstWrong t C s p → drop p s ≡ r → Same r x → Der g (nt S ∷ []) (take p s ++ x) → ⊥
+    ahead : (p : ℕ) (r x : List ℕ) → FirstWrong t E s p → drop p s ≡ r → Same r x → Der g (nt S ∷ []) (take p s ++ x) → ⊥
     ahead p r x w e same-end d =
         let n = length-drop p s in
         let l : length (drop p s) ≡ 0 = ap length e in
         let h = w .within in
         let q : take p s ≡ s = take-all p s (omega arith) in
-        w .ended (omega arith) (subst (λ (l : List ℕ). Tree t C l) (append-nil (take p s) ∙ q) (der-tree d))
+        w .ended (omega arith) (subst (λ (l : List ℕ). Tree t E l) (append-nil (take p s) ∙ q) (der-tree d))
     ahead p r x w e (same-head {x = a} {r = u} {s = v}) d =
         let n = length-drop p s in
         let l : length (drop p s) ≡ suc (length u) = ap length e in
         let h : p < length s = omega arith in
         let c = drop-cons s p 0 h in
         let b : a ≡ getD s p 0 = cc in
-        w .further h v (subst (λ (l : List ℕ). Tree t C l) (ap (λ (y : ℕ). take p s ++ (y ∷ v)) b ∙ sym (with-token p h v)) (der-tree d))
+        w .further h v (subst (λ (l : List ℕ). Tree t E l) (ap (λ (y : ℕ). take p s ++ (y ∷ v)) b ∙ sym (with-token p h v)) (der-tree d))
 
     -- and the other way round.
-    pub wrong-stops : {p : ℕ} → FirstWrong t C s p → Says (stuck p)
+    pub wrong-stops : {p : ℕ} → FirstWrong t E s p → Says (stuck p)
     wrong-stops {p} w = record { within = w .within; before = (w .before .0, tree-der (w .before .1)); after = λ x h d. ahead p (drop p s) x w refl h d }
 
     -- They stop at one place only.

@@ -3,6 +3,7 @@
 use mathlib.Core.List.{List, [], _∷_}
 use Prim.Native.Nat.{ℕ}
 use native.Mathlib.Omega.{arith}
+use Rattle.own.specs.Kinds as kind
 use Rattle.kinds.proofs.Laws.{keyed, between, upward}
 use Rattle.kinds.proofs.Tables.{category-table}
 use Rattle.kinds.proofs.category.Statement.{statement}
@@ -11,54 +12,54 @@ use Rattle.kinds.proofs.category.Tie as tie
 -- The keys of the arms, the last arm first.
 abbrev keys : List (List ℕ)
 keys =
-    (40 ∷ [])
-    ∷ (38 ∷ [])
-    ∷ (37 ∷ [])
-    ∷ (39 ∷ [])
-    ∷ (18 ∷ [])
-    ∷ (17 ∷ [])
-    ∷ (3 ∷ [])
-    ∷ (2 ∷ [])
+    (kind.Number ∷ [])
+    ∷ (kind.EnumArm ∷ [])
+    ∷ (kind.BuiltinArm ∷ [])
+    ∷ (kind.Call ∷ [])
+    ∷ (kind.Block ∷ [])
+    ∷ (kind.Let ∷ [])
+    ∷ (kind.Parameter ∷ [])
+    ∷ (kind.Name ∷ [])
     ∷ []
 
 returns : tie.Need-returns
-returns c = keyed category-table (2 ∷ []) tt (c .match .keys1)
+returns c = keyed category-table (kind.Name ∷ []) tt (c .match .keys1)
 
 returns-2 : tie.Need-returns-2
-returns-2 c = keyed category-table (3 ∷ []) tt (c .match .keys2)
+returns-2 c = keyed category-table (kind.Parameter ∷ []) tt (c .match .keys2)
 
 returns-3 : tie.Need-returns-3
-returns-3 c = keyed category-table (17 ∷ []) tt (c .match .keys3)
+returns-3 c = keyed category-table (kind.Let ∷ []) tt (c .match .keys3)
 
 returns-4 : tie.Need-returns-4
-returns-4 c = keyed category-table (18 ∷ []) tt (c .match .keys4)
+returns-4 c = keyed category-table (kind.Block ∷ []) tt (c .match .keys4)
 
 returns-5 : tie.Need-returns-5
-returns-5 c = keyed category-table (37 ∷ []) tt (c .match .keys6)
+returns-5 c = keyed category-table (kind.BuiltinArm ∷ []) tt (c .match .keys6)
 
 returns-6 : tie.Need-returns-6
-returns-6 c = keyed category-table (38 ∷ []) tt (c .match .keys7)
+returns-6 c = keyed category-table (kind.EnumArm ∷ []) tt (c .match .keys7)
 
 returns-7 : tie.Need-returns-7
-returns-7 c = keyed category-table (40 ∷ []) tt (c .match .keys8)
+returns-7 c = keyed category-table (kind.Number ∷ []) tt (c .match .keys8)
 
 returns-8 : tie.Need-returns-8
-returns-8 c = between category-table keys 2 13 tt (c .before .before .match .rest) (omega arith) (omega arith)
+returns-8 c = between category-table keys kind.Name kind.IdentifierPattern tt (c .before .before .match .rest) (omega arith) (omega arith)
 
 returns-9 : tie.Need-returns-9
-returns-9 c = between category-table keys 13 17 tt (c .before .before .before .match .rest) (omega arith) (omega arith)
+returns-9 c = between category-table keys kind.IdentifierPattern kind.Let tt (c .before .before .before .match .rest) (omega arith) (omega arith)
 
 returns-10 : tie.Need-returns-10
-returns-10 c = between category-table keys 0 2 tt (c .before .match .rest) (omega arith) (omega arith)
+returns-10 c = between category-table keys 0 kind.Name tt (c .before .match .rest) (omega arith) (omega arith)
 
 returns-11 : tie.Need-returns-11
-returns-11 c = upward category-table keys 37 tt (c .before .before .before .before .match .rest) (omega arith)
+returns-11 c = upward category-table keys kind.BuiltinArm tt (c .before .before .before .before .match .rest) (omega arith)
 
 returns-12 : tie.Need-returns-12
-returns-12 c = keyed category-table (39 ∷ []) tt (c .match .keys5)
+returns-12 c = keyed category-table (kind.Call ∷ []) tt (c .match .keys5)
 
 returns-13 : tie.Need-returns-13
-returns-13 c = between category-table keys 17 37 tt (c .before .before .before .before .match .rest) (omega arith) (omega arith)
+returns-13 c = between category-table keys kind.Let kind.BuiltinArm tt (c .before .before .before .before .match .rest) (omega arith) (omega arith)
 
 pub category-spec : {M : Type 1} → statement M
 category-spec =

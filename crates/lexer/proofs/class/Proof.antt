@@ -25,11 +25,11 @@ returns : tie.Need-returns
 unfolding classOf wordsOf
 returns c = rw (sym (c .before .before .before .before .may-be-word .ensures) ∙ c .before .before .before .if1 .taken, sym (c .before .before .word .ensures) ∙ c .enum-told .given .1)
 
-add-result : tie.Need-add-result
-add-result c = let h = few-words _ _ (sym (c .before .before .before .word .ensures) ∙ c .before .f .given .1) in omega arith
-
 cast-result : tie.Need-cast-result
 cast-result c = let h = few-words _ _ (sym (c .before .before .before .word .ensures) ∙ c .before .f .given .1) in omega arith
+
+add-result : tie.Need-add-result
+add-result c = let h = few-words _ _ (sym (c .before .before .before .word .ensures) ∙ c .before .f .given .1) in omega arith
 
 returns-2 : tie.Need-returns-2
 unfolding classOf wordsOf
@@ -48,7 +48,7 @@ class-spec =
     enum-known-f
     enum-told
     returns
-    add-result
     cast-result
+    add-result
     returns-2
     returns-3)

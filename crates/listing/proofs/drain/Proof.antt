@@ -57,17 +57,4 @@ returns-2 c =
     search needs
 
 pub drain-spec : {M : Type 1} → statement M
-drain-spec =
-    tie.close
-    (tie.spec
-    Inv-loop
-    μ-loop
-    loop-holds
-    read-requires
-    same-length
-    returns
-    sub-turns
-    loop-less
-    loop-again
-    same-length-2
-    returns-2)
+drain-spec = tie.close (tie.spec Inv-loop μ-loop loop-holds read-requires same-length returns sub-turns loop-less loop-again same-length-2 returns-2)

@@ -82,23 +82,5 @@ returns-3 c =
     search needs
 
 pub fill-spec : {M : Type 1} → statement M
-fill-spec =
-    tie.close
-    (tie.spec
-    Inv-loop
-    μ-loop
-    loop-holds
-    sub-part
-    part-part-start
-    part-part-end
-    read-requires
-    same-length
-    returns
-    count-requires
-    same-length-2
-    returns-2
-    add-done
-    loop-less
-    loop-again
-    same-length-3
-    returns-3)
+fill-spec = tie.close (tie.spec Inv-loop μ-loop loop-holds sub-part part-part-start part-part-end read-requires same-length returns count-requires
+    same-length-2 returns-2 add-done loop-less loop-again same-length-3 returns-3)

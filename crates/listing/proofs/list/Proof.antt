@@ -5,9 +5,9 @@ use mathlib.Core.Path.{_≡_, sym}
 use lib.ListN.{length}
 use lib.Seq.{length-take-le}
 use native.Mathlib.Omega.{arith}
+use borrow.Author.Needs.{needs}
 use Rattle.reader.specs.Fits.{used-within}
 use Rattle.listing.specs.Within.{bytes-within}
-use borrow.Author.Needs.{needs}
 use Rattle.listing.proofs.list.Statement.{statement}
 use Rattle.listing.proofs.list.Tie as tie
 use Rattle.listing.proofs.list.Reads as reads
@@ -60,16 +60,5 @@ returns-2 c =
     search needs
 
 pub list-spec : {M : Type 1} → statement M
-list-spec =
-    tie.close
-    (tie.spec
-    line-buffer-requires
-    slice-aggregate-togmelic-list
-    togmelic-list-requires
-    array-share-prefix-lines
-    slice-aggregate-write-all
-    write-all-requires
-    slice-aggregate-fail
-    fail-requires
-    returns
-    returns-2)
+list-spec = tie.close (tie.spec line-buffer-requires slice-aggregate-togmelic-list togmelic-list-requires array-share-prefix-lines
+    slice-aggregate-write-all write-all-requires slice-aggregate-fail fail-requires returns returns-2)

@@ -68,18 +68,5 @@ returns-2 c =
     search needs
 
 pub main-spec : {M : Type 1} → statement M
-main-spec =
-    tie.close
-    (tie.spec
-    draft-buffer-requires
-    slice-aggregate-read-draft
-    read-draft-requires
-    enum-known-input
-    array-share-prefix-draft
-    slice-aggregate-list
-    list-requires
-    enum-told
-    slice-aggregate-fail
-    fail-requires
-    returns
-    returns-2)
+main-spec = tie.close (tie.spec draft-buffer-requires slice-aggregate-read-draft read-draft-requires enum-known-input array-share-prefix-draft
+    slice-aggregate-list list-requires enum-told slice-aggregate-fail fail-requires returns returns-2)

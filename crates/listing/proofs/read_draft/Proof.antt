@@ -64,18 +64,5 @@ returns-4 c =
     bytes-within (c .before .before .input .given .1) (c .before .before .before .before .before .before .fill .ensures)
 
 pub read-draft-spec : {M : Type 1} → statement M
-read-draft-spec =
-    tie.close
-    (tie.spec
-    fill-requires
-    enum-known-input
-    enum-told
-    same-length
-    returns
-    drain-requires
-    same-length-2
-    returns-2
-    same-length-3
-    returns-3
-    same-length-4
-    returns-4)
+read-draft-spec = tie.close (tie.spec fill-requires enum-known-input enum-told same-length returns drain-requires same-length-2 returns-2
+    same-length-3 returns-3 same-length-4 returns-4)

@@ -3,28 +3,32 @@ ghost use mathlib.Core.Bool.{true};
 ghost use mathlib.Core.List.{[], _∷_};
 ghost use mathlib.Core.Path.{_≡_};
 ghost use Rattle.lexer.specs.Classes as t;
-ghost use Rattle.theory.specs.Grammar.{nt};
 ghost use Rattle.theory.specs.Machine.{choose};
 ghost use Rattle.grammar.specs.Tables.{table};
 ghost use Rattle.kinds.specs.Shape.{has};
 ghost use Rattle.grammar.specs.TablesIndex.{n-single, n-arguments, n-path};
-ghost use Rattle.parse.specs.Contract.{text, Ready, Near, Moved, reserved, cleaned, Parsed, asItems, Node, ExprKind};
-ghost use Rattle.parse.specs.Infos.{Begun, Args, Path};
+ghost use Rattle.parse.specs.Choice as rule;
+ghost use Rattle.parse.specs.Contract.{text, Ready, Near, Moved, reserved, Parses, Node, ExprKind};
+ghost use Rattle.parse.specs.Infos.{Begun, Generic, Leads, Args, Path};
 use crate::State;
 use crate::Step;
+use crate::choice;
 use crate::expr;
 use crate::fault;
 use crate::names;
 use crate::token;
 use crate::tree;
 use crate::types;
+use lexer::classes as class;
+use own::call;
+use own::kind;
 
 // `(e, …)`; and 1 if it is one expression without a comma.
 fn args(draft: &[u8], tokens: &[u32], count: usize, tree: &mut [u32], st: State) -> Step
     requires { ⌜ Near (text (now draft) (now tokens) count) st ⌝ }
-    ensures { λ r. ⌜ Parsed (text (now (draft .entry)) (now (tokens .entry)) count) (nt n-arguments ∷ []) asItems Args st (now (tree .entry)) (now (tree .exit)) r ⌝ }
+    ensures { λ r. ⌜ Parses n-arguments Args (now (draft .entry)) (now (tokens .entry)) count st (now (tree .entry)) (now (tree .exit)) r ⌝ }
 {
-    let open = token::eat(draft, tokens, count, st, 20);
+    let open = token::eat(draft, tokens, count, st, class::LPAREN);
     let Step::Next(a, _, _) = open else {
         return open;
     };
@@ -32,7 +36,7 @@ fn args(draft: &[u8], tokens: &[u32], count: usize, tree: &mut [u32], st: State)
     let Step::Next(b, lone, _) = inner else {
         return inner;
     };
-    let paren = token::eat(draft, tokens, count, b, 21);
+    let paren = token::eat(draft, tokens, count, b, class::RPAREN);
     let Step::Next(z, _, _) = paren else {
         return paren;
     };
@@ -48,8 +52,8 @@ pub(crate) fn simple(
     st: State,
 ) -> Step
     requires { ⌜ Ready (text (now draft) (now tokens) count) st ⌝ }
-    requires { ⌜ choose table n-single (st .class) ≡ 6 ⌝ }
-    ensures { λ r. ⌜ Parsed (text (now (draft .entry)) (now (tokens .entry)) count) (nt n-single ∷ []) asItems (Node ExprKind) st (now (tree .entry)) (now (tree .exit)) r ⌝ }
+    requires { ⌜ choose table n-single (st .class) ≡ rule.SimpleCall ⌝ }
+    ensures { λ r. ⌜ Parses n-single (Node ExprKind) (now (draft .entry)) (now (tokens .entry)) count st (now (tree .entry)) (now (tree .exit)) r ⌝ }
 {
     let a = token::advance(draft, tokens, count, tree::reserve(st));
     let b = names::callee(tree, st, a);
@@ -57,30 +61,30 @@ pub(crate) fn simple(
     let Step::Next(z, _, _) = inner else {
         return inner;
     };
-    tree::close(tree, st, z, 39, names::call(st.class), 0);
+    tree::close(tree, st, z, kind::CALL, names::call(st.class), 0);
     Step::Next(z, 0, 0)
 }
 
 // `<T>::into(e, …)`
 pub(crate) fn cast(draft: &[u8], tokens: &[u32], count: usize, tree: &mut [u32], st: State) -> Step
     requires { ⌜ Ready (text (now draft) (now tokens) count) st ⌝ }
-    requires { ⌜ choose table n-single (st .class) ≡ 7 ⌝ }
-    ensures { λ r. ⌜ Parsed (text (now (draft .entry)) (now (tokens .entry)) count) (nt n-single ∷ []) asItems (Node ExprKind) st (now (tree .entry)) (now (tree .exit)) r ⌝ }
+    requires { ⌜ choose table n-single (st .class) ≡ rule.CastCall ⌝ }
+    ensures { λ r. ⌜ Parses n-single (Node ExprKind) (now (draft .entry)) (now (tokens .entry)) count st (now (tree .entry)) (now (tree .exit)) r ⌝ }
 {
     let a = token::advance(draft, tokens, count, tree::reserve(st));
     let inner = types::ty(draft, tokens, count, tree, a);
     let Step::Next(b, _, _) = inner else {
         return inner;
     };
-    let angle = token::eat(draft, tokens, count, b, 27);
+    let angle = token::eat(draft, tokens, count, b, class::RANGLE);
     let Step::Next(d, _, _) = angle else {
         return angle;
     };
-    let colons = token::eat(draft, tokens, count, d, 14);
+    let colons = token::eat(draft, tokens, count, d, class::DOUBLE_COLON);
     let Step::Next(f, _, _) = colons else {
         return colons;
     };
-    let into = token::eat(draft, tokens, count, f, 53);
+    let into = token::eat(draft, tokens, count, f, class::INTO);
     let Step::Next(g, _, _) = into else {
         return into;
     };
@@ -88,23 +92,26 @@ pub(crate) fn cast(draft: &[u8], tokens: &[u32], count: usize, tree: &mut [u32],
     let Step::Next(z, _, _) = rest else {
         return rest;
     };
-    tree::close(tree, st, z, 39, 9, 0);
+    tree::close(tree, st, z, kind::CALL, call::TYPE_CAST, 0);
     Step::Next(z, 0, 0)
 }
 
 // A name: a call, a wrapper, an enum construction or a variable.
 pub(crate) fn named(draft: &[u8], tokens: &[u32], count: usize, tree: &mut [u32], st: State) -> Step
     requires { ⌜ Ready (text (now draft) (now tokens) count) st ⌝ }
-    requires { ⌜ choose table n-single (st .class) ≡ 8 ⌝ }
-    ensures { λ r. ⌜ Parsed (text (now (draft .entry)) (now (tokens .entry)) count) (nt n-single ∷ []) asItems (Node ExprKind) st (now (tree .entry)) (now (tree .exit)) r ⌝ }
+    requires { ⌜ choose table n-single (st .class) ≡ rule.Named ⌝ }
+    ensures { λ r. ⌜ Parses n-single (Node ExprKind) (now (draft .entry)) (now (tokens .entry)) count st (now (tree .entry)) (now (tree .exit)) r ⌝ }
 {
     let a = token::advance(draft, tokens, count, tree::reserve(st));
     let class = a.class;
     match class {
-        20 => called(draft, tokens, count, tree, st, a),
-        14 => built(draft, tokens, count, tree, st, a),
+        class::LPAREN => called(draft, tokens, count, tree, st, a),
+        class::DOUBLE_COLON => {
+            let b = token::advance(draft, tokens, count, a);
+            built(draft, tokens, count, tree, st, b)
+        }
         _ => {
-            tree::close(tree, st, a, 29, 0, 0);
+            tree::close(tree, st, a, kind::VARIABLE, 0, 0);
             Step::Next(a, 0, 0)
         }
     }
@@ -113,10 +120,10 @@ pub(crate) fn named(draft: &[u8], tokens: &[u32], count: usize, tree: &mut [u32]
 // A call of a name, from its arguments on; a wrapper where it is one expression and no comma.
 fn called(draft: &[u8], tokens: &[u32], count: usize, tree: &mut [u32], st: State, a: State) -> Step
     requires { ⌜ Ready (text (now draft) (now tokens) count) st ⌝ }
-    requires { ⌜ choose table n-single (st .class) ≡ 8 ⌝ }
+    requires { ⌜ choose table n-single (st .class) ≡ rule.Named ⌝ }
     requires { ⌜ Moved (text (now draft) (now tokens) count) (reserved st) a ⌝ }
     requires { ⌜ a .class ≡ t.LParen ⌝ }
-    ensures { λ r. ⌜ Parsed (text (now (draft .entry)) (now (tokens .entry)) count) (nt n-single ∷ []) asItems (Node ExprKind) st (now (tree .entry)) (now (tree .exit)) r ⌝ }
+    ensures { λ r. ⌜ Parses n-single (Node ExprKind) (now (draft .entry)) (now (tokens .entry)) count st (now (tree .entry)) (now (tree .exit)) r ⌝ }
 {
     if names::wrapper(st.class) != 0 {
         return wrap(draft, tokens, count, tree, st, a);
@@ -126,18 +133,18 @@ fn called(draft: &[u8], tokens: &[u32], count: usize, tree: &mut [u32], st: Stat
     let Step::Next(z, _, _) = inner else {
         return inner;
     };
-    tree::close(tree, st, z, 39, names::call(st.class), 0);
+    tree::close(tree, st, z, kind::CALL, names::call(st.class), 0);
     Step::Next(z, 0, 0)
 }
 
 // `Left(e)` and kin; or a call of that name, whose record is put before the arguments.
 fn wrap(draft: &[u8], tokens: &[u32], count: usize, tree: &mut [u32], st: State, a: State) -> Step
     requires { ⌜ Ready (text (now draft) (now tokens) count) st ⌝ }
-    requires { ⌜ choose table n-single (st .class) ≡ 8 ⌝ }
+    requires { ⌜ choose table n-single (st .class) ≡ rule.Named ⌝ }
     requires { ⌜ has (t.Left ∷ t.Right ∷ t.Some ∷ []) (st .class) ≡ true ⌝ }
     requires { ⌜ Moved (text (now draft) (now tokens) count) (reserved st) a ⌝ }
     requires { ⌜ a .class ≡ t.LParen ⌝ }
-    ensures { λ r. ⌜ Parsed (text (now (draft .entry)) (now (tokens .entry)) count) (nt n-single ∷ []) asItems (Node ExprKind) st (now (tree .entry)) (now (tree .exit)) r ⌝ }
+    ensures { λ r. ⌜ Parses n-single (Node ExprKind) (now (draft .entry)) (now (tokens .entry)) count st (now (tree .entry)) (now (tree .exit)) r ⌝ }
 {
     let inner = args(draft, tokens, count, tree, a);
     let Step::Next(b, lone, _) = inner else {
@@ -147,40 +154,38 @@ fn wrap(draft: &[u8], tokens: &[u32], count: usize, tree: &mut [u32], st: State,
         tree::close(tree, st, b, names::wrapping(st.class), 0, 0);
         return Step::Next(b, 0, 0);
     }
-    let z = tree::child(tree, st, b, 2, 0, 0);
+    let z = tree::child(tree, st, b, kind::NAME, 0, 0);
     tree::exchange(tree, a.out, b.out, z.out);
-    tree::close(tree, st, z, 39, 10, 0);
+    tree::close(tree, st, z, kind::CALL, call::CUSTOM, 0);
     Step::Next(z, 0, 0)
 }
 
-// An enum construction, from its first `::` on.
-fn built(draft: &[u8], tokens: &[u32], count: usize, tree: &mut [u32], st: State, a: State) -> Step
+// An enum construction, from behind its first `::` on: the name before that is a record too.
+fn built(draft: &[u8], tokens: &[u32], count: usize, tree: &mut [u32], st: State, b: State) -> Step
     requires { ⌜ Ready (text (now draft) (now tokens) count) st ⌝ }
-    requires { ⌜ choose table n-single (st .class) ≡ 8 ⌝ }
-    requires { ⌜ Moved (text (now draft) (now tokens) count) (reserved st) a ⌝ }
-    requires { ⌜ a .class ≡ t.DoubleColon ⌝ }
-    ensures { λ r. ⌜ Parsed (text (now (draft .entry)) (now (tokens .entry)) count) (nt n-single ∷ []) asItems (Node ExprKind) st (now (tree .entry)) (now (tree .exit)) r ⌝ }
+    requires { ⌜ Leads (st .class) (b .class) ⌝ }
+    requires { ⌜ Begun (text (now draft) (now tokens) count) (reserved st) b ⌝ }
+    ensures { λ r. ⌜ Parses n-single (Node ExprKind) (now (draft .entry)) (now (tokens .entry)) count st (now (tree .entry)) (now (tree .exit)) r ⌝ }
 {
-    let b = token::advance(draft, tokens, count, a);
-    let d = tree::child(tree, st, b, 2, 0, 0);
+    let d = tree::child(tree, st, b, kind::NAME, 0, 0);
     let rest = path(draft, tokens, count, tree, d);
     let Step::Next(z, number, _) = rest else {
         return rest;
     };
-    tree::close(tree, st, z, 34, number + 1, 0);
+    tree::close(tree, st, z, kind::ENUM_CONSTRUCTION, number + 1, 0);
     Step::Next(z, 0, 0)
 }
 
 // What follows the first `::` of an enum construction; and how many names.
 fn path(draft: &[u8], tokens: &[u32], count: usize, tree: &mut [u32], st: State) -> Step
     requires { ⌜ Ready (text (now draft) (now tokens) count) st ⌝ }
-    ensures { λ r. ⌜ Parsed (text (now (draft .entry)) (now (tokens .entry)) count) (nt n-path ∷ []) asItems Path st (now (tree .entry)) (now (tree .exit)) r ⌝ }
+    ensures { λ r. ⌜ Parses n-path Path (now (draft .entry)) (now (tokens .entry)) count st (now (tree .entry)) (now (tree .exit)) r ⌝ }
 {
     let inner = names::names(draft, tokens, count, tree, st);
     let Step::Next(a, number, _) = inner else {
         return inner;
     };
-    if a.class != 20 {
+    if a.class != class::LPAREN {
         return Step::Next(a, number, 0);
     }
     let rest = args(draft, tokens, count, tree, a);
@@ -193,49 +198,48 @@ fn path(draft: &[u8], tokens: &[u32], count: usize, tree: &mut [u32], st: State)
 // A name that is no call: `None`, a variable or the beginning of an enum construction.
 pub(crate) fn bare(draft: &[u8], tokens: &[u32], count: usize, tree: &mut [u32], st: State) -> Step
     requires { ⌜ Ready (text (now draft) (now tokens) count) st ⌝ }
-    requires { ⌜ choose table n-single (st .class) ≡ 9 ⌝ }
-    ensures { λ r. ⌜ Parsed (text (now (draft .entry)) (now (tokens .entry)) count) (nt n-single ∷ []) asItems (Node ExprKind) st (now (tree .entry)) (now (tree .exit)) r ⌝ }
+    requires { ⌜ choose table n-single (st .class) ≡ rule.Bare ⌝ }
+    ensures { λ r. ⌜ Parses n-single (Node ExprKind) (now (draft .entry)) (now (tokens .entry)) count st (now (tree .entry)) (now (tree .exit)) r ⌝ }
 {
     let a = token::advance(draft, tokens, count, tree::reserve(st));
-    if a.class != 14 {
+    if a.class != class::DOUBLE_COLON {
         tree::close(tree, st, a, names::alone(st.class), 0, 0);
         return Step::Next(a, 0, 0);
     }
     let b = token::advance(draft, tokens, count, a);
-    let d = tree::child(tree, st, b, 2, 0, 0);
-    let rest = path(draft, tokens, count, tree, d);
-    let Step::Next(z, number, _) = rest else {
-        return rest;
-    };
-    tree::close(tree, st, z, 34, number + 1, 0);
-    Step::Next(z, 0, 0)
+    built(draft, tokens, count, tree, st, b)
 }
 
-// `unwrap_left::<T>(e, …)` and kin, an enum construction or a variable.
-pub(crate) fn typed(draft: &[u8], tokens: &[u32], count: usize, tree: &mut [u32], st: State) -> Step
+// A name that `::<..>` may follow, by its rule: a call with that, an enum construction or a variable.
+pub(crate) fn generic(
+    draft: &[u8],
+    tokens: &[u32],
+    count: usize,
+    tree: &mut [u32],
+    st: State,
+    rule: u32,
+) -> Step
     requires { ⌜ Ready (text (now draft) (now tokens) count) st ⌝ }
-    requires { ⌜ choose table n-single (st .class) ≡ 10 ⌝ }
-    ensures { λ r. ⌜ Parsed (text (now (draft .entry)) (now (tokens .entry)) count) (nt n-single ∷ []) asItems (Node ExprKind) st (now (tree .entry)) (now (tree .exit)) r ⌝ }
+    requires { ⌜ Generic (st .class) rule ⌝ }
+    ensures { λ r. ⌜ Parses n-single (Node ExprKind) (now (draft .entry)) (now (tokens .entry)) count st (now (tree .entry)) (now (tree .exit)) r ⌝ }
 {
     let a = token::advance(draft, tokens, count, tree::reserve(st));
-    if a.class != 14 {
-        tree::close(tree, st, a, 29, 0, 0);
+    if a.class != class::DOUBLE_COLON {
+        tree::close(tree, st, a, kind::VARIABLE, 0, 0);
         return Step::Next(a, 0, 0);
     }
     let b = token::advance(draft, tokens, count, a);
-    if b.class == 26 {
-        return of_type(draft, tokens, count, tree, st, b);
+    if b.class != class::LANGLE {
+        return built(draft, tokens, count, tree, st, b);
     }
-    let d = tree::child(tree, st, b, 2, 0, 0);
-    let rest = path(draft, tokens, count, tree, d);
-    let Step::Next(z, number, _) = rest else {
-        return rest;
-    };
-    tree::close(tree, st, z, 34, number + 1, 0);
-    Step::Next(z, 0, 0)
+    match rule {
+        choice::TYPED => of_type(draft, tokens, count, tree, st, b),
+        choice::FOLDING => bound(draft, tokens, count, tree, st, b),
+        _ => loops(draft, tokens, count, tree, st, b),
+    }
 }
 
-// The same, from `<` on.
+// `unwrap_left::<T>(e, …)` and kin, from `<` on.
 fn of_type(
     draft: &[u8],
     tokens: &[u32],
@@ -245,17 +249,17 @@ fn of_type(
     b: State,
 ) -> Step
     requires { ⌜ Ready (text (now draft) (now tokens) count) st ⌝ }
-    requires { ⌜ choose table n-single (st .class) ≡ 10 ⌝ }
+    requires { ⌜ choose table n-single (st .class) ≡ rule.Typed ⌝ }
     requires { ⌜ Begun (text (now draft) (now tokens) count) (reserved st) b ⌝ }
     requires { ⌜ b .class ≡ t.LAngle ⌝ }
-    ensures { λ r. ⌜ Parsed (text (now (draft .entry)) (now (tokens .entry)) count) (nt n-single ∷ []) asItems (Node ExprKind) st (now (tree .entry)) (now (tree .exit)) r ⌝ }
+    ensures { λ r. ⌜ Parses n-single (Node ExprKind) (now (draft .entry)) (now (tokens .entry)) count st (now (tree .entry)) (now (tree .exit)) r ⌝ }
 {
     let d = token::advance(draft, tokens, count, b);
     let inner = types::ty(draft, tokens, count, tree, d);
     let Step::Next(f, _, _) = inner else {
         return inner;
     };
-    let angle = token::eat(draft, tokens, count, f, 27);
+    let angle = token::eat(draft, tokens, count, f, class::RANGLE);
     let Step::Next(g, _, _) = angle else {
         return angle;
     };
@@ -263,50 +267,24 @@ fn of_type(
     let Step::Next(z, _, _) = rest else {
         return rest;
     };
-    tree::close(tree, st, z, 39, names::call(st.class), 0);
+    tree::close(tree, st, z, kind::CALL, names::call(st.class), 0);
     Step::Next(z, 0, 0)
 }
 
-// `fold::<f, n>(e, …)`, `array_fold::<f, n>(e, …)`, an enum construction or a variable.
-pub(crate) fn fold(draft: &[u8], tokens: &[u32], count: usize, tree: &mut [u32], st: State) -> Step
-    requires { ⌜ Ready (text (now draft) (now tokens) count) st ⌝ }
-    requires { ⌜ choose table n-single (st .class) ≡ 11 ⌝ }
-    ensures { λ r. ⌜ Parsed (text (now (draft .entry)) (now (tokens .entry)) count) (nt n-single ∷ []) asItems (Node ExprKind) st (now (tree .entry)) (now (tree .exit)) r ⌝ }
-{
-    let a = token::advance(draft, tokens, count, tree::reserve(fault::clean(st)));
-    if a.class != 14 {
-        tree::close(tree, st, a, 29, 0, 0);
-        let y = fault::judged(st, a, 0, 0);
-        return Step::Next(y, 0, 0);
-    }
-    let b = token::advance(draft, tokens, count, a);
-    if b.class == 26 {
-        return bound(draft, tokens, count, tree, st, b);
-    }
-    let d = tree::child(tree, st, b, 2, 0, 0);
-    let rest = path(draft, tokens, count, tree, d);
-    let Step::Next(z, number, _) = rest else {
-        return rest;
-    };
-    tree::close(tree, st, z, 34, number + 1, 0);
-    let y = fault::judged(st, z, 0, 0);
-    Step::Next(y, 0, 0)
-}
-
-// The same, from `<` on.
+// `fold::<f, n>(e, …)` and `array_fold::<f, n>(e, …)`, from `<` on. What is refused inside is kept apart.
 fn bound(draft: &[u8], tokens: &[u32], count: usize, tree: &mut [u32], st: State, b: State) -> Step
     requires { ⌜ Ready (text (now draft) (now tokens) count) st ⌝ }
-    requires { ⌜ choose table n-single (st .class) ≡ 11 ⌝ }
-    requires { ⌜ Begun (text (now draft) (now tokens) count) (reserved (cleaned st)) b ⌝ }
+    requires { ⌜ choose table n-single (st .class) ≡ rule.Folding ⌝ }
+    requires { ⌜ Begun (text (now draft) (now tokens) count) (reserved st) b ⌝ }
     requires { ⌜ b .class ≡ t.LAngle ⌝ }
-    ensures { λ r. ⌜ Parsed (text (now (draft .entry)) (now (tokens .entry)) count) (nt n-single ∷ []) asItems (Node ExprKind) st (now (tree .entry)) (now (tree .exit)) r ⌝ }
+    ensures { λ r. ⌜ Parses n-single (Node ExprKind) (now (draft .entry)) (now (tokens .entry)) count st (now (tree .entry)) (now (tree .exit)) r ⌝ }
 {
-    let d = token::advance(draft, tokens, count, b);
+    let d = token::advance(draft, tokens, count, fault::clean(b));
     let inner = names::function_name(draft, tokens, count, tree, d);
     let Step::Next(f, _, _) = inner else {
         return inner;
     };
-    let comma = token::eat(draft, tokens, count, f, 17);
+    let comma = token::eat(draft, tokens, count, f, class::COMMA);
     let Step::Next(g, _, _) = comma else {
         return comma;
     };
@@ -314,7 +292,7 @@ fn bound(draft: &[u8], tokens: &[u32], count: usize, tree: &mut [u32], st: State
     let Step::Next(h, _, _) = size else {
         return size;
     };
-    let angle = token::eat(draft, tokens, count, h, 27);
+    let angle = token::eat(draft, tokens, count, h, class::RANGLE);
     let Step::Next(i, _, _) = angle else {
         return angle;
     };
@@ -322,56 +300,26 @@ fn bound(draft: &[u8], tokens: &[u32], count: usize, tree: &mut [u32], st: State
     let Step::Next(y, _, _) = rest else {
         return rest;
     };
-    tree::close(tree, st, y, 39, names::call(st.class), 0);
+    tree::close(tree, st, y, kind::CALL, names::call(st.class), 0);
     let n = names::number(draft, g);
     let z = fault::judged(st, y, names::size_fault(st.class, n), g.start);
     Step::Next(z, 0, 0)
 }
 
-// `for_while::<f>(e, …)`, an enum construction or a variable.
-pub(crate) fn whiles(
-    draft: &[u8],
-    tokens: &[u32],
-    count: usize,
-    tree: &mut [u32],
-    st: State,
-) -> Step
-    requires { ⌜ Ready (text (now draft) (now tokens) count) st ⌝ }
-    requires { ⌜ choose table n-single (st .class) ≡ 12 ⌝ }
-    ensures { λ r. ⌜ Parsed (text (now (draft .entry)) (now (tokens .entry)) count) (nt n-single ∷ []) asItems (Node ExprKind) st (now (tree .entry)) (now (tree .exit)) r ⌝ }
-{
-    let a = token::advance(draft, tokens, count, tree::reserve(st));
-    if a.class != 14 {
-        tree::close(tree, st, a, 29, 0, 0);
-        return Step::Next(a, 0, 0);
-    }
-    let b = token::advance(draft, tokens, count, a);
-    if b.class == 26 {
-        return loops(draft, tokens, count, tree, st, b);
-    }
-    let d = tree::child(tree, st, b, 2, 0, 0);
-    let rest = path(draft, tokens, count, tree, d);
-    let Step::Next(z, number, _) = rest else {
-        return rest;
-    };
-    tree::close(tree, st, z, 34, number + 1, 0);
-    Step::Next(z, 0, 0)
-}
-
-// The same, from `<` on.
+// `for_while::<f>(e, …)`, from `<` on.
 fn loops(draft: &[u8], tokens: &[u32], count: usize, tree: &mut [u32], st: State, b: State) -> Step
     requires { ⌜ Ready (text (now draft) (now tokens) count) st ⌝ }
-    requires { ⌜ choose table n-single (st .class) ≡ 12 ⌝ }
+    requires { ⌜ choose table n-single (st .class) ≡ rule.ForWhile ⌝ }
     requires { ⌜ Begun (text (now draft) (now tokens) count) (reserved st) b ⌝ }
     requires { ⌜ b .class ≡ t.LAngle ⌝ }
-    ensures { λ r. ⌜ Parsed (text (now (draft .entry)) (now (tokens .entry)) count) (nt n-single ∷ []) asItems (Node ExprKind) st (now (tree .entry)) (now (tree .exit)) r ⌝ }
+    ensures { λ r. ⌜ Parses n-single (Node ExprKind) (now (draft .entry)) (now (tokens .entry)) count st (now (tree .entry)) (now (tree .exit)) r ⌝ }
 {
     let d = token::advance(draft, tokens, count, b);
     let inner = names::function_name(draft, tokens, count, tree, d);
     let Step::Next(f, _, _) = inner else {
         return inner;
     };
-    let angle = token::eat(draft, tokens, count, f, 27);
+    let angle = token::eat(draft, tokens, count, f, class::RANGLE);
     let Step::Next(g, _, _) = angle else {
         return angle;
     };
@@ -379,6 +327,6 @@ fn loops(draft: &[u8], tokens: &[u32], count: usize, tree: &mut [u32], st: State
     let Step::Next(z, _, _) = rest else {
         return rest;
     };
-    tree::close(tree, st, z, 39, 13, 0);
+    tree::close(tree, st, z, kind::CALL, call::FOR_WHILE, 0);
     Step::Next(z, 0, 0)
 }

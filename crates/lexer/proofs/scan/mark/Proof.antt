@@ -9,6 +9,7 @@ use Rattle.lexer.specs.declared.Step.the-variants.{Refused}
 use Rattle.lexer.proofs.Marks.{at-mark}
 use Rattle.lexer.proofs.Rest.{there}
 use borrow.Author.Needs.{needs}
+use Rattle.text.specs.Refusals as refusal
 use Rattle.lexer.proofs.scan.mark.Statement.{statement}
 use Rattle.lexer.proofs.scan.mark.Tie as tie
 
@@ -26,7 +27,7 @@ returns c = simp (eq-eqb _ _ (c .before .if1 .taken), eq-eqb _ _ (c .if2 .taken)
     (c .before .before .peek .result) (c .before .before .before .before .pre .0) (c .before .before .before .before .pre .1) (c .before .before .peek .ensures) (c .before .before .before .before .pre .2) (c .before .before .before .before .pre .3))
 
 returns-2 : tie.Need-returns-2
-returns-2 c = ap (Refused 3) (sym (add-zero _)) ∙ (simp (eq-eqb _ _ (c .before .if1 .taken), ne-eqb _ _ (c .if2 .left)) at (at-mark (now (c .before .before .before .before .args .s)) (c .before .before .before .before .args .i)
+returns-2 c = ap (Refused refusal.NoLexeme) (sym (add-zero _)) ∙ (simp (eq-eqb _ _ (c .before .if1 .taken), ne-eqb _ _ (c .if2 .left)) at (at-mark (now (c .before .before .before .before .args .s)) (c .before .before .before .before .args .i)
     (c .before .before .before .before .args .c) (c .before .before .peek .result) (c .before .before .before .before .pre .0) (c .before .before .before .before .pre .1) (c .before .before .peek .ensures)
     (c .before .before .before .before .pre .2) (c .before .before .before .before .pre .3)))
 
@@ -63,7 +64,7 @@ returns-6 c = simp (ne-eqb _ _ (c .before .before .before .if1 .left), ne-eqb _ 
     (c .before .before .before .before .before .before .pre .1) (c .before .before .before .before .peek .ensures) (c .before .before .before .before .before .before .pre .2) (c .before .before .before .before .before .before .pre .3))
 
 returns-7 : tie.Need-returns-7
-returns-7 c = ap (Refused 3) (sym (add-zero _)) ∙ (simp (ne-eqb _ _ (c .before .before .before .if1 .left), ne-eqb _ _ (c .before .before .if3 .left), ne-eqb _ _ (c .before .if5 .left), eq-eqb _ _ (c .if7 .taken)) at
+returns-7 c = ap (Refused refusal.NoLexeme) (sym (add-zero _)) ∙ (simp (ne-eqb _ _ (c .before .before .before .if1 .left), ne-eqb _ _ (c .before .before .if3 .left), ne-eqb _ _ (c .before .if5 .left), eq-eqb _ _ (c .if7 .taken)) at
     (at-mark (now (c .before .before .before .before .before .before .args .s)) (c .before .before .before .before .before .before .args .i) (c .before .before .before .before .before .before .args .c) (c .before .before .before .before .peek .result)
     (c .before .before .before .before .before .before .pre .0) (c .before .before .before .before .before .before .pre .1) (c .before .before .before .before .peek .ensures) (c .before .before .before .before .before .before .pre .2)
     (c .before .before .before .before .before .before .pre .3)))

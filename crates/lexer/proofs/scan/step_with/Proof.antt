@@ -7,6 +7,7 @@ use Prim.Native.Nat.{_<_}
 use Rattle.lexer.specs.Step.{stepOf}
 use Rattle.lexer.proofs.ByteClasses.{slash-is, class-gap}
 use borrow.Author.Needs.{needs}
+use Rattle.lexer.specs.Bytes as byte
 use Rattle.lexer.proofs.scan.step_with.Statement.{statement}
 use Rattle.lexer.proofs.scan.step_with.Tie as tie
 
@@ -43,7 +44,7 @@ returns-4 c = c .blank .ensures ∙ simp (lt-ltb _ _ (c .before .before .before 
 
 mark-requires : tie.Need-mark-requires
 mark-requires c κs =
-    let n : 5 < c .before .before .before .byte-class .result = omega (arith, c .before .before .if2 .left, c .before .if3 .left) in
+    let n : byte.Slash < c .before .before .before .byte-class .result = omega (arith, c .before .before .if2 .left, c .before .if3 .left) in
     (c .before .before .before .before .before .if1 .left, c .before .before .before .byte-class .ensures, class-gap _ _ (c .before .before .before .byte-class .ensures) n, omega (arith, c .if4 .left))
 
 returns-5 : tie.Need-returns-5

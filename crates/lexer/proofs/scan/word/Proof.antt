@@ -1,11 +1,10 @@
 -- The word found decides.
 -- Assumes nothing.
-use native.Mathlib.Omega.{arith}
 use mathlib.Core.Path.{sym, _∙_}
 use denote.Ref.{now}
 use Rattle.words.specs.Right.{below}
 use Rattle.words.specs.Words.{KEYWORDS, wordsOf}
-use Rattle.lexer.proofs.Names.{at-plain, at-keyword, keyword-count}
+use Rattle.lexer.proofs.Names.{at-plain, at-keyword}
 use borrow.Author.Needs.{needs}
 use Rattle.lexer.proofs.scan.word.Statement.{statement}
 use Rattle.lexer.proofs.scan.word.Tie as tie
@@ -18,7 +17,7 @@ enum-known-k c = search needs
 
 keyword-requires : tie.Need-keyword-requires
 unfolding wordsOf
-keyword-requires c κs = omega (arith, keyword-count, below KEYWORDS _ _ (sym (c .before .before .before .word .ensures) ∙ c .before .k .given .1))
+keyword-requires c κs = below KEYWORDS _ _ (sym (c .before .before .before .word .ensures) ∙ c .before .k .given .1)
 
 enum-told : tie.Need-enum-told
 enum-told c = search needs

@@ -2,6 +2,7 @@
 -- Assumes nothing.
 use native.Mathlib.Omega.{arith}
 use Rattle.own.specs.Tree.{partner}
+use Rattle.own.specs.Arms as arm
 use Rattle.parse.specs.Infos.{pairArm}
 use Rattle.parse.proofs.ArmOrder.{pair-is, pair-no}
 use Rattle.parse.proofs.arms.pair.Statement.{statement}
@@ -18,42 +19,42 @@ unfolding pairArm partner
 returns c =
     let e = c .match .keys1 in
     let a = c .before .args in
-    pair-is (a .a) (a .b) 1 2 tt (omega (arith, c .before .pre .0, c .before .pre .1)) (omega (arith, c .before .pre .0, c .before .pre .1))
+    pair-is (a .a) (a .b) arm.Left arm.Right tt (omega (arith, c .before .pre .0, c .before .pre .1)) (omega (arith, c .before .pre .0, c .before .pre .1))
 
 returns-2 : tie.Need-returns-2
 unfolding pairArm partner
 returns-2 c =
     let e = c .match .keys2 in
     let a = c .before .args in
-    pair-is (a .a) (a .b) 3 4 tt (omega (arith, c .before .pre .0, c .before .pre .1)) (omega (arith, c .before .pre .0, c .before .pre .1))
+    pair-is (a .a) (a .b) arm.None arm.Some tt (omega (arith, c .before .pre .0, c .before .pre .1)) (omega (arith, c .before .pre .0, c .before .pre .1))
 
 returns-3 : tie.Need-returns-3
 unfolding pairArm partner
 returns-3 c =
     let e = c .match .keys3 in
     let a = c .before .args in
-    pair-is (a .a) (a .b) 5 6 tt (omega (arith, c .before .pre .0, c .before .pre .1)) (omega (arith, c .before .pre .0, c .before .pre .1))
+    pair-is (a .a) (a .b) arm.False arm.True tt (omega (arith, c .before .pre .0, c .before .pre .1)) (omega (arith, c .before .pre .0, c .before .pre .1))
 
 returns-4 : tie.Need-returns-4
 unfolding pairArm partner
 returns-4 c =
     let e = c .match .keys4 in
     let a = c .before .args in
-    pair-is (a .a) (a .b) 2 1 tt (omega (arith, c .before .pre .0, c .before .pre .1)) (omega (arith, c .before .pre .0, c .before .pre .1))
+    pair-is (a .a) (a .b) arm.Right arm.Left tt (omega (arith, c .before .pre .0, c .before .pre .1)) (omega (arith, c .before .pre .0, c .before .pre .1))
 
 returns-5 : tie.Need-returns-5
 unfolding pairArm partner
 returns-5 c =
     let e = c .match .keys5 in
     let a = c .before .args in
-    pair-is (a .a) (a .b) 4 3 tt (omega (arith, c .before .pre .0, c .before .pre .1)) (omega (arith, c .before .pre .0, c .before .pre .1))
+    pair-is (a .a) (a .b) arm.Some arm.None tt (omega (arith, c .before .pre .0, c .before .pre .1)) (omega (arith, c .before .pre .0, c .before .pre .1))
 
 returns-6 : tie.Need-returns-6
 unfolding pairArm partner
 returns-6 c =
     let e = c .match .keys6 in
     let a = c .before .args in
-    pair-is (a .a) (a .b) 6 5 tt (omega (arith, c .before .pre .0, c .before .pre .1)) (omega (arith, c .before .pre .0, c .before .pre .1))
+    pair-is (a .a) (a .b) arm.True arm.False tt (omega (arith, c .before .pre .0, c .before .pre .1)) (omega (arith, c .before .pre .0, c .before .pre .1))
 
 returns-7 : tie.Need-returns-7
 returns-7 c =

@@ -3,14 +3,16 @@
 use mathlib.Core.Path.{_≡_, refl, sym, ap, _∙_}
 use mathlib.Core.List.{List, [], _∷_}
 use Prim.Native.Nat.{ℕ, _+_, _*_, _/_, _<_, _≤_}
+use borrow.Author.Needs.{needs}
 use native.Mathlib.Omega.{arith}
 use lib.ListN.{length, replicate, length-replicate}
+use Rattle.text.specs.Refusals as refusal
+use Rattle.grammar.specs.Entry.{oneFunction}
 use Rattle.parse.specs.Contract.{text}
 use Rattle.parse.specs.Entry.{ended, judged}
 use Rattle.parse.proofs.EntryLaws as law
 use Rattle.parse.specs.declared.Answer.the-variants.{Records, Refused, TooMany}
 use Rattle.parse.proofs.Tokens.{length-text}
-use borrow.Author.Needs.{needs}
 use Rattle.parse.proofs.entry.end.Statement.{statement}
 use Rattle.parse.proofs.entry.end.Tie as tie
 use Rattle.parse.proofs.entry.end.Reads as reads
@@ -53,6 +55,4 @@ returns-4 c =
     (c .before .before .before .before .before .before .before .before .args .z) (c .before .before .before .before .if1 .left) (c .before .before .if2 .left) (c .if3 .left)
 
 pub end-spec : {M : Type 1} → statement M
-end-spec =
-    tie.close
-    (tie.spec place-requires returns cast-t9 returns-2 cast-records mul-if3 returns-3 returns-4)
+end-spec = tie.close (tie.spec place-requires returns cast-t9 returns-2 cast-records mul-if3 returns-3 returns-4)

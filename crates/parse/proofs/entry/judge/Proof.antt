@@ -3,14 +3,16 @@
 use mathlib.Core.Path.{_≡_, refl, sym, ap, _∙_}
 use mathlib.Core.List.{List, [], _∷_}
 use Prim.Native.Nat.{ℕ, _+_, _*_, _/_, _<_, _≤_}
+use borrow.Author.Needs.{needs}
 use native.Mathlib.Omega.{arith}
 use lib.ListN.{length, replicate, length-replicate}
+use Rattle.text.specs.Refusals as refusal
+use Rattle.grammar.specs.Entry.{oneFunction}
 use Rattle.parse.specs.Contract.{text}
 use Rattle.parse.specs.Entry.{ended, judged}
 use Rattle.parse.proofs.EntryLaws as law
 use Rattle.parse.specs.declared.Answer.the-variants.{Records, Refused, TooMany}
 use Rattle.parse.proofs.Tokens.{length-text}
-use borrow.Author.Needs.{needs}
 use Rattle.parse.proofs.entry.judge.Statement.{statement}
 use Rattle.parse.proofs.entry.judge.Tie as tie
 use Rattle.parse.proofs.entry.judge.Reads as reads
@@ -40,9 +42,8 @@ returns c =
 
 returns-2 : tie.Need-returns-2
 returns-2 c =
-    ap (Refused 8) (c .place .ensures) ∙ sym (ap (judged (c .before .before .before .before .before .before .args .draft .now) (c .before .before .before .before .before .before .args .tokens .now) (c .before .before .before .before .before .before .args .count) (c .before .before .before .before .before .before .args .room)) (c .before .before .step2 .given .1))
+    ap (Refused refusal.Misshapen) (c .place .ensures) ∙ sym (ap (judged (c .before .before .before .before .before .before .args .draft .now) (c .before .before .before .before .before .before .args .tokens .now) (c .before .before .before .before .before .before .args .count) (c .before .before .before .before .before .before .args .room))
+    (c .before .before .step2 .given .1))
 
 pub judge-spec : {M : Type 1} → statement M
-judge-spec =
-    tie.close
-    (tie.spec enum-known-step end-requires enum-known-step-2 place-requires returns returns-2)
+judge-spec = tie.close (tie.spec enum-known-step end-requires enum-known-step-2 place-requires returns returns-2)

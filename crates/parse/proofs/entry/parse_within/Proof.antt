@@ -3,14 +3,16 @@
 use mathlib.Core.Path.{_≡_, refl, sym, ap, _∙_}
 use mathlib.Core.List.{List, [], _∷_}
 use Prim.Native.Nat.{ℕ, _+_, _*_, _/_, _<_, _≤_}
+use borrow.Author.Needs.{needs}
 use native.Mathlib.Omega.{arith}
 use lib.ListN.{length, replicate, length-replicate}
+use Rattle.text.specs.Refusals as refusal
+use Rattle.grammar.specs.Entry.{oneFunction}
 use Rattle.parse.specs.Contract.{text}
 use Rattle.parse.specs.Entry.{ended, judged}
 use Rattle.parse.proofs.EntryLaws as law
 use Rattle.parse.specs.declared.Answer.the-variants.{Records, Refused, TooMany}
 use Rattle.parse.proofs.Tokens.{length-text}
-use borrow.Author.Needs.{needs}
 use Rattle.parse.proofs.entry.parse_within.Statement.{statement}
 use Rattle.parse.proofs.entry.parse_within.Tie as tie
 use Rattle.parse.proofs.entry.parse_within.Reads as reads
@@ -36,11 +38,11 @@ same-length c =
 returns : tie.Need-returns
 returns c =
     let yes = sym (c .before .too-many .ensures) ∙ c .if1 .taken in (
-      law.too-many-answer (c .before .before .before .before .before .before .before .before .before .args .most) (c .before .before .before .before .before .before .before .before .before .args .draft .now) (c .before .before .before .before .before .before .before .before .before .args .tokens .now)
+      law.too-many-answer oneFunction (c .before .before .before .before .before .before .before .before .before .args .most) (c .before .before .before .before .before .before .before .before .before .args .draft .now) (c .before .before .before .before .before .before .before .before .before .args .tokens .now)
           (c .before .before .before .before .before .before .before .before .before .args .count) (length (c .before .before .before .before .before .before .before .before .before .args .tree .now)) yes,
-      c .before .before .before .before .clear .ensures ∙ law.too-many-tree (c .before .before .before .before .before .before .before .before .before .args .most)
-          (c .before .before .before .before .before .before .before .before .before .args .draft .now) (c .before .before .before .before .before .before .before .before .before .args .tokens .now) (c .before .before .before .before .before .before .before .before .before .args .count) (length
-          (c .before .before .before .before .before .before .before .before .before .args .tree .now)) yes,
+      c .before .before .before .before .clear .ensures ∙ law.too-many-tree oneFunction
+          (c .before .before .before .before .before .before .before .before .before .args .most) (c .before .before .before .before .before .before .before .before .before .args .draft .now) (c .before .before .before .before .before .before .before .before .before .args .tokens .now)
+          (c .before .before .before .before .before .before .before .before .before .args .count) (length (c .before .before .before .before .before .before .before .before .before .args .tree .now)) yes,
     )
 
 start-requires : tie.Need-start-requires
@@ -125,19 +127,5 @@ returns-3 c =
     )
 
 pub parse-within-spec : {M : Type 1} → statement M
-parse-within-spec =
-    tie.close
-    (tie.spec
-    clear-requires
-    too-many-requires
-    same-length
-    returns
-    start-requires
-    function-requires
-    judge-requires
-    enum-known-answer
-    clear-requires-2
-    same-length-2
-    returns-2
-    same-length-3
-    returns-3)
+parse-within-spec = tie.close (tie.spec clear-requires too-many-requires same-length returns start-requires function-requires judge-requires
+    enum-known-answer clear-requires-2 same-length-2 returns-2 same-length-3 returns-3)

@@ -3,14 +3,16 @@
 use mathlib.Core.Path.{_≡_, refl, sym, ap, _∙_}
 use mathlib.Core.List.{List, [], _∷_}
 use Prim.Native.Nat.{ℕ, _+_, _*_, _/_, _<_, _≤_}
+use borrow.Author.Needs.{needs}
 use native.Mathlib.Omega.{arith}
 use lib.ListN.{length, replicate, length-replicate}
+use Rattle.text.specs.Refusals as refusal
+use Rattle.grammar.specs.Entry.{oneFunction}
 use Rattle.parse.specs.Contract.{text}
 use Rattle.parse.specs.Entry.{ended, judged}
 use Rattle.parse.proofs.EntryLaws as law
 use Rattle.parse.specs.declared.Answer.the-variants.{Records, Refused, TooMany}
 use Rattle.parse.proofs.Tokens.{length-text}
-use borrow.Author.Needs.{needs}
 use Rattle.parse.proofs.entry.place.Statement.{statement}
 use Rattle.parse.proofs.entry.place.Tie as tie
 use Rattle.parse.proofs.entry.place.Reads as reads

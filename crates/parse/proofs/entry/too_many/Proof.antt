@@ -6,6 +6,8 @@ use Prim.Native.Nat.{ℕ, _+_, _*_, _/_, _<_, _≤_}
 use borrow.Author.Needs.{needs}
 use native.Mathlib.Omega.{arith}
 use lib.ListN.{length, replicate, length-replicate}
+use Rattle.text.specs.Refusals as refusal
+use Rattle.grammar.specs.Entry.{oneFunction}
 use Rattle.parse.specs.Contract.{text}
 use Rattle.parse.specs.Entry.{ended, judged}
 use Rattle.parse.proofs.EntryLaws as law

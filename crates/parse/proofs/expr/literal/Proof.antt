@@ -3,6 +3,7 @@
 use Prim.Native.Nat.{ℕ, _+_, _-_, _*_, _<_, _≤_}
 use mathlib.Core.Path.{_≡_, refl, sym, ap, _∙_}
 use mathlib.Core.List.{List, [], _∷_, _++_}
+use borrow.Author.Needs.{needs}
 use native.Mathlib.Omega.{arith}
 use lib.ListN.{length, getD}
 use Rattle.text.specs.Part.{partOf}
@@ -32,7 +33,7 @@ use Rattle.parse.proofs.ArmsLoop as arms
 use Rattle.parse.proofs.MatchForm as match
 use Rattle.parse.proofs.CallForms as call
 use Rattle.parse.proofs.CallLaws as law
-use borrow.Author.Needs.{needs}
+use Rattle.grammar.specs.ShapeKind.{LiteralShape}
 use Rattle.parse.proofs.expr.literal.Statement.{statement}
 use Rattle.parse.proofs.expr.literal.Tie as tie
 use Rattle.parse.proofs.expr.literal.Reads as reads
@@ -76,19 +77,10 @@ returns c =
     let d0 = starts (c .before .before .before .before .literal .result) AnyN form.literalRhs (c .before .before .before .before .before .before .before .before .before .before .before .args .tree .now) (o .stands) in
     let d1 = advances-one d0 form.flat-literal (form.at-literal (c .before .before .before .before .before .before .before .before .before .before .before .args .st .class) e) (o .class-is) (form.literal-pos (c .before .before .before .before .before .before .before .before .before .before .before .args .st .class) e)
     (c .before .before .before .before .before .before .advance .ensures) (keeping-mark (c .before .before .before .before .literal .result) (c .before .before .before .before .before .before .before .before .before .before .before .args .st .class) (form.keeping-low (c .before .before .before .before .literal .result) (omega (arith, k .0), omega (arith, k .1)))) in
-    as-nonterminal form.literal-rule y e (read (shut 13 tt y o d1 (omega arith) (form.literal-head (c .before .before .before .before .before .before .before .before .before .before .before .args .st .class) (c .before .before .before .before .literal .ensures) (c .before .before .before .truth .ensures) (text
+    as-nonterminal form.literal-rule y e (read (shut LiteralShape tt y o d1 (omega arith) (form.literal-head (c .before .before .before .before .before .before .before .before .before .before .before .args .st .class) (c .before .before .before .before .literal .ensures) (c .before .before .before .truth .ensures) (text
     (c .before .before .before .before .before .before .before .before .before .before .before .args .draft .now) (c .before .before .before .before .before .before .before .before .before .before .before .args .tokens .now) (c .before .before .before .before .before .before .before .before .before .before .before .args .count)) (tokAt (text
     (c .before .before .before .before .before .before .before .before .before .before .before .args .draft .now) (c .before .before .before .before .before .before .before .before .before .before .before .args .tokens .now) (c .before .before .before .before .before .before .before .before .before .before .before .args .count))
     (c .before .before .before .before .before .before .before .reserve .result .at))) (form.not-match (k .1) (omega arith)) ExprKind (form.expr-kind (omega (arith, k .0), omega (arith, k .1))) (c .before .before .close .ensures)))
 
 pub literal-spec : {M : Type 1} → statement M
-literal-spec =
-    tie.close
-    (tie.spec
-    reserve-requires
-    advance-requires
-    literal-requires
-    truth-requires
-    close-requires
-    same-length
-    returns)
+literal-spec = tie.close (tie.spec reserve-requires advance-requires literal-requires truth-requires close-requires same-length returns)

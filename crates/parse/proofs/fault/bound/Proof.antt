@@ -1,7 +1,8 @@
--- Refusal 9 is given where the value is no good bound.
+-- The refusal of a bound is given where the value is no good bound.
 -- Assumes nothing.
 use mathlib.Core.Bool.{cond}
 use mathlib.Core.Path.{sym, ap, _∙_}
+use Rattle.text.specs.Refusals as refusal
 use Rattle.parse.specs.Contract.{boundFault}
 use borrow.Author.Needs.{needs}
 use Rattle.parse.proofs.fault.bound.Statement.{statement}
@@ -12,11 +13,11 @@ is-bound-requires c κs = search needs
 
 returns : tie.Need-returns
 unfolding boundFault
-returns c = sym (ap (λ b. cond b 0 9) (sym (c .before .is-bound .ensures) ∙ c .if1 .taken))
+returns c = sym (ap (λ b. cond b 0 refusal.Bound) (sym (c .before .is-bound .ensures) ∙ c .if1 .taken))
 
 returns-2 : tie.Need-returns-2
 unfolding boundFault
-returns-2 c = sym (ap (λ b. cond b 0 9) (sym (c .before .is-bound .ensures) ∙ c .if1 .left))
+returns-2 c = sym (ap (λ b. cond b 0 refusal.Bound) (sym (c .before .is-bound .ensures) ∙ c .if1 .left))
 
 pub bound-spec : {M : Type 1} → statement M
 bound-spec = tie.close (tie.spec is-bound-requires returns returns-2)

@@ -3,6 +3,7 @@
 use Prim.Native.Nat.{ℕ, _+_, _-_, _*_, _<_, _≤_}
 use mathlib.Core.Path.{_≡_, refl, sym, ap, _∙_}
 use mathlib.Core.List.{List, [], _∷_, _++_}
+use borrow.Author.Needs.{needs}
 use borrow.Author.Tests.{eq-eqb, ne-eqb}
 use native.Mathlib.Omega.{arith}
 use lib.ListN.{length}
@@ -17,7 +18,10 @@ use Rattle.parse.proofs.NameSteps.{child-nt}
 use Rattle.parse.proofs.Roles.{sign-mark, keeping-mark}
 use Rattle.parse.proofs.Lined.{AnyN}
 use Rattle.parse.proofs.HeadForms as form
-use borrow.Author.Needs.{needs}
+use Rattle.lexer.specs.Classes as class
+use Rattle.own.specs.Kinds as kind
+use Rattle.own.specs.Arms as arm
+use Rattle.grammar.specs.TablesIndex.{n-head, n-head-choice, n-head-optional, n-head-word, n-headPath, n-headPath-optional-LParen, n-identifier, n-otherName, n-pair, n-path-many-DoubleColon, n-pattern, n-tail-pair, n-type}
 use Rattle.parse.proofs.heads.head.Statement.{statement}
 use Rattle.parse.proofs.heads.head.Tie as tie
 use Rattle.parse.proofs.heads.head.Reads as reads
@@ -56,19 +60,19 @@ returns : tie.Need-returns
 returns c =
     let i = c .before .before .before .before .before .before .args in
     let y = c .before .before .before .before .before .before .pre in
-    let s = starts 37 AnyN (nt 44 ∷ []) (i .tree .now) (y .stands) in
+    let s = starts kind.BuiltinArm AnyN (nt n-head ∷ []) (i .tree .now) (y .stands) in
     let e1 = sym (c .before .before .heads .ensures) ∙ c .before .match .keys1 in
-    let d1 = advances (form.turns (tok 61 ∷ []) s form.flat-head (form.false-row (i .st .class) e1)) (form.at-false (i .st .class) e1) (omega arith) (c .advance .ensures) (keeping-mark 37 61 tt) in
-    read (form.built-in 5 d1 (λ h. omega arith) form.unseen-nil form.false-place (omega arith) (omega arith))
+    let d1 = advances (form.turns (tok class.false ∷ []) s form.flat-head (form.false-row (i .st .class) e1)) (form.at-false (i .st .class) e1) (omega arith) (c .advance .ensures) (keeping-mark kind.BuiltinArm class.false tt) in
+    read (form.built-in arm.False d1 (λ h. omega arith) form.unseen-nil form.false-place (omega arith) (omega arith))
 
 returns-2 : tie.Need-returns-2
 returns-2 c =
     let i = c .before .before .before .before .before .before .args in
     let y = c .before .before .before .before .before .before .pre in
-    let s = starts 37 AnyN (nt 44 ∷ []) (i .tree .now) (y .stands) in
+    let s = starts kind.BuiltinArm AnyN (nt n-head ∷ []) (i .tree .now) (y .stands) in
     let e2 = sym (c .before .before .heads .ensures) ∙ c .before .match .keys2 in
-    let d2 = advances (form.turns (tok 62 ∷ []) s form.flat-head (form.true-row (i .st .class) e2)) (form.at-true (i .st .class) e2) (omega arith) (c .advance2 .ensures) (keeping-mark 37 62 tt) in
-    read (form.built-in 6 d2 (λ h. omega arith) form.unseen-nil form.true-place (omega arith) (omega arith))
+    let d2 = advances (form.turns (tok class.true ∷ []) s form.flat-head (form.true-row (i .st .class) e2)) (form.at-true (i .st .class) e2) (omega arith) (c .advance2 .ensures) (keeping-mark kind.BuiltinArm class.true tt) in
+    read (form.built-in arm.True d2 (λ h. omega arith) form.unseen-nil form.true-place (omega arith) (omega arith))
 
 same-length : tie.Need-same-length
 same-length c =
@@ -101,21 +105,5 @@ returns-6 c =
     form.no-head (c .before .heads .result) y (c .before .heads .ensures) (c .match .rest)
 
 pub head-spec : {M : Type 1} → statement M
-head-spec =
-    tie.close
-    (tie.spec
-    heads-requires
-    advance-requires
-    advance-requires-2
-    none-requires
-    wrapped-requires
-    other-requires
-    returns
-    returns-2
-    same-length
-    returns-3
-    same-length-2
-    returns-4
-    same-length-3
-    returns-5
-    returns-6)
+head-spec = tie.close (tie.spec heads-requires advance-requires advance-requires-2 none-requires wrapped-requires other-requires returns returns-2
+    same-length returns-3 same-length-2 returns-4 same-length-3 returns-5 returns-6)

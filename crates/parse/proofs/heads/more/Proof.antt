@@ -18,6 +18,10 @@ use Rattle.parse.proofs.NameSteps.{child-nt}
 use Rattle.parse.proofs.Roles.{sign-mark, keeping-mark}
 use Rattle.parse.proofs.Lined.{AnyN}
 use Rattle.parse.proofs.HeadForms as form
+use Rattle.lexer.specs.Classes as class
+use Rattle.own.specs.Kinds as kind
+use Rattle.own.specs.Arms as arm
+use Rattle.grammar.specs.TablesIndex.{n-head, n-head-choice, n-head-optional, n-head-word, n-headPath, n-headPath-optional-LParen, n-identifier, n-otherName, n-pair, n-path-many-DoubleColon, n-pattern, n-tail-pair, n-type}
 use Rattle.parse.proofs.heads.more.Statement.{statement}
 use Rattle.parse.proofs.heads.more.Tie as tie
 use Rattle.parse.proofs.heads.more.Reads as reads
@@ -113,22 +117,5 @@ returns-3 c =
     read (pairs.more-ends y v (c .if1 .left))
 
 pub more-spec : {M : Type 1} → statement M
-more-spec =
-    tie.close
-    (tie.spec
-    Inv-loop
-    μ-loop
-    loop-holds
-    advance-requires
-    same-length
-    returns
-    pair-requires
-    enum-known-next
-    enum-told
-    same-length-2
-    returns-2
-    add-number
-    loop-less
-    loop-again
-    same-length-3
-    returns-3)
+more-spec = tie.close (tie.spec Inv-loop μ-loop loop-holds advance-requires same-length returns pair-requires enum-known-next enum-told same-length-2
+    returns-2 add-number loop-less loop-again same-length-3 returns-3)

@@ -3,6 +3,7 @@
 use Prim.Native.Nat.{ℕ, _+_, _-_, _*_, _<_, _≤_}
 use mathlib.Core.Path.{_≡_, refl, sym, ap, _∙_}
 use mathlib.Core.List.{List, [], _∷_, _++_}
+use borrow.Author.Needs.{needs}
 use borrow.Author.Tests.{eq-eqb, ne-eqb}
 use native.Mathlib.Omega.{arith}
 use lib.ListN.{length}
@@ -17,7 +18,10 @@ use Rattle.parse.proofs.NameSteps.{child-nt}
 use Rattle.parse.proofs.Roles.{sign-mark, keeping-mark}
 use Rattle.parse.proofs.Lined.{AnyN}
 use Rattle.parse.proofs.HeadForms as form
-use borrow.Author.Needs.{needs}
+use Rattle.lexer.specs.Classes as class
+use Rattle.own.specs.Kinds as kind
+use Rattle.own.specs.Arms as arm
+use Rattle.grammar.specs.TablesIndex.{n-head, n-head-choice, n-head-optional, n-head-word, n-headPath, n-headPath-optional-LParen, n-identifier, n-otherName, n-pair, n-path-many-DoubleColon, n-pattern, n-tail-pair, n-type}
 use Rattle.parse.proofs.heads.none.Statement.{statement}
 use Rattle.parse.proofs.heads.none.Tie as tie
 use Rattle.parse.proofs.heads.none.Reads as reads
@@ -36,10 +40,10 @@ returns c =
     let y = c .before .before .before .before .before .before .pre .0 in
     let e = c .before .before .before .before .before .before .pre .1 in
     let k = form.at-none (i .st .class) e in
-    let a0 = form.turns (tok 40 ∷ nt 48 ∷ []) (starts 37 AnyN (nt 44 ∷ []) (i .tree .now) (y .stands)) form.flat-head (form.none-row (i .st .class) e) in
-    let a1 = advances a0 k (omega arith) (c .before .before .advance .ensures) (keeping-mark 37 40 tt) in
+    let a0 = form.turns (tok class.None ∷ nt n-head-optional ∷ []) (starts kind.BuiltinArm AnyN (nt n-head ∷ []) (i .tree .now) (y .stands)) form.flat-head (form.none-row (i .st .class) e) in
+    let a1 = advances a0 k (omega arith) (c .before .before .advance .ensures) (keeping-mark kind.BuiltinArm class.None tt) in
     let a2 = form.turns [] a1 form.flat-optional (form.no-optional-row (c .before .before .advance .result .class) (c .if1 .taken)) in
-    read (form.built-in 3 a2 (λ h. omega arith) form.unseen-nil form.none-place (omega arith) (omega arith))
+    read (form.built-in arm.None a2 (λ h. omega arith) form.unseen-nil form.none-place (omega arith) (omega arith))
 
 child-requires : tie.Need-child-requires
 child-requires c κs =
@@ -52,10 +56,10 @@ path-requires c κs =
     let e = c .before .before .before .before .before .before .before .before .before .before .before .pre .1 in
     let k = form.at-none (i .st .class) e in
     let o = c .before .before .before .child .ensures in
-    let p = form.named-word 39 y k (c .before .before .before .before .before .before .before .advance .ensures) (o .0) (o .1) in
-    let b0 = form.named-first (tok 40) (nt 48) y (form.none-row (i .st .class) e) (form.none-name k) p in
+    let p = form.named-token class.None (omega arith) y k (c .before .before .before .before .before .before .before .advance .ensures) (o .0) (o .1) in
+    let b0 = form.named-first (tok class.None) (nt n-head-optional) y (form.none-row (i .st .class) e) (form.none-name k) p in
     let n = form.reserved-class (c .before .before .before .before .before .before .before .advance .result) (o .1) ∙ c .before .before .before .before .before .if1 .left in
-    let b1 = form.turns (nt 52 ∷ []) b0 form.flat-optional (form.optional-row (c .before .before .before .child .result .class) n) in
+    let b1 = form.turns (nt n-headPath ∷ []) b0 form.flat-optional (form.optional-row (c .before .before .before .child .result .class) n) in
     onward y b1
 
 enum-known-rest : tie.Need-enum-known-rest
@@ -77,10 +81,10 @@ returns-2 c =
     let e = c .before .before .before .before .before .before .before .before .before .before .before .before .before .before .before .before .pre .1 in
     let k = form.at-none (i .st .class) e in
     let o = c .before .before .before .before .before .before .before .before .child .ensures in
-    let p = form.named-word 39 y k (c .before .before .before .before .before .before .before .before .before .before .before .before .advance .ensures) (o .0) (o .1) in
-    let b0 = form.named-first (tok 40) (nt 48) y (form.none-row (i .st .class) e) (form.none-name k) p in
+    let p = form.named-token class.None (omega arith) y k (c .before .before .before .before .before .before .before .before .before .before .before .before .advance .ensures) (o .0) (o .1) in
+    let b0 = form.named-first (tok class.None) (nt n-head-optional) y (form.none-row (i .st .class) e) (form.none-name k) p in
     let n = form.reserved-class (c .before .before .before .before .before .before .before .before .before .before .before .before .advance .result) (o .1) ∙ c .before .before .before .before .before .before .before .before .before .before .if1 .left in
-    let b1 = form.turns (nt 52 ∷ []) b0 form.flat-optional (form.optional-row (c .before .before .before .before .before .before .before .before .child .result .class) n) in
+    let b1 = form.turns (nt n-headPath ∷ []) b0 form.flat-optional (form.optional-row (c .before .before .before .before .before .before .before .before .child .result .class) n) in
     then-passed b1 (c .before .match .keys2) (λ τ p h. h) (c .before .before .before .before .path .ensures)
 
 add-t17 : tie.Need-add-t17
@@ -98,24 +102,12 @@ returns-3 c =
     let e = c .before .before .before .before .before .before .before .before .before .before .before .before .before .before .before .before .before .pre .1 in
     let k = form.at-none (i .st .class) e in
     let o = c .before .before .before .before .before .before .before .before .before .child .ensures in
-    let p = form.named-word 39 y k (c .before .before .before .before .before .before .before .before .before .before .before .before .before .advance .ensures) (o .0) (o .1) in
-    let b0 = form.named-first (tok 40) (nt 48) y (form.none-row (i .st .class) e) (form.none-name k) p in
+    let p = form.named-token class.None (omega arith) y k (c .before .before .before .before .before .before .before .before .before .before .before .before .before .advance .ensures) (o .0) (o .1) in
+    let b0 = form.named-first (tok class.None) (nt n-head-optional) y (form.none-row (i .st .class) e) (form.none-name k) p in
     let n = form.reserved-class (c .before .before .before .before .before .before .before .before .before .before .before .before .before .advance .result) (o .1) ∙ c .before .before .before .before .before .before .before .before .before .before .before .if1 .left in
-    let b1 = form.turns (nt 52 ∷ []) b0 form.flat-optional (form.optional-row (c .before .before .before .before .before .before .before .before .before .child .result .class) n) in
+    let b1 = form.turns (nt n-headPath ∷ []) b0 form.flat-optional (form.optional-row (c .before .before .before .before .before .before .before .before .before .child .result .class) n) in
     read (form.arm-went (form.none-name k) b1 (c .before .before .before .before .before .path .ensures) (c .before .rest .given .1))
 
 pub none-spec : {M : Type 1} → statement M
-none-spec =
-    tie.close
-    (tie.spec
-    advance-requires
-    returns
-    child-requires
-    path-requires
-    enum-known-rest
-    enum-told
-    same-length
-    returns-2
-    add-t17
-    same-length-2
-    returns-3)
+none-spec = tie.close (tie.spec advance-requires returns child-requires path-requires enum-known-rest enum-told same-length returns-2 add-t17
+    same-length-2 returns-3)

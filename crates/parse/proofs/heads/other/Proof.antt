@@ -3,6 +3,7 @@
 use Prim.Native.Nat.{ℕ, _+_, _-_, _*_, _<_, _≤_}
 use mathlib.Core.Path.{_≡_, refl, sym, ap, _∙_}
 use mathlib.Core.List.{List, [], _∷_, _++_}
+use borrow.Author.Needs.{needs}
 use borrow.Author.Tests.{eq-eqb, ne-eqb}
 use native.Mathlib.Omega.{arith}
 use lib.ListN.{length}
@@ -17,7 +18,10 @@ use Rattle.parse.proofs.NameSteps.{child-nt}
 use Rattle.parse.proofs.Roles.{sign-mark, keeping-mark}
 use Rattle.parse.proofs.Lined.{AnyN}
 use Rattle.parse.proofs.HeadForms as form
-use borrow.Author.Needs.{needs}
+use Rattle.lexer.specs.Classes as class
+use Rattle.own.specs.Kinds as kind
+use Rattle.own.specs.Arms as arm
+use Rattle.grammar.specs.TablesIndex.{n-head, n-head-choice, n-head-optional, n-head-word, n-headPath, n-headPath-optional-LParen, n-identifier, n-otherName, n-pair, n-path-many-DoubleColon, n-pattern, n-tail-pair, n-type}
 use Rattle.parse.proofs.heads.other.Statement.{statement}
 use Rattle.parse.proofs.heads.other.Tie as tie
 use Rattle.parse.proofs.heads.other.Reads as reads
@@ -41,7 +45,7 @@ path-requires c κs =
     let e = c .before .before .before .before .before .before .before .before .before .pre .1 in
     let o = c .before .before .before .child .ensures in
     let p = child-nt y (form.other-pos (i .st .class) e) (c .before .before .before .before .before .advance .ensures) (o .0) (o .1) form.flat-other (form.other-row (i .st .class) e) in
-    let b1 = form.named-first (nt 51) (nt 52) y (form.named-row (i .st .class) e) (form.other-name (i .st .class) e) p in
+    let b1 = form.named-first (nt n-otherName) (nt n-headPath) y (form.named-row (i .st .class) e) (form.other-name (i .st .class) e) p in
     onward y b1
 
 enum-known-rest : tie.Need-enum-known-rest
@@ -63,7 +67,7 @@ returns c =
     let e = c .before .before .before .before .before .before .before .before .before .before .before .before .before .before .pre .1 in
     let o = c .before .before .before .before .before .before .before .before .child .ensures in
     let p = child-nt y (form.other-pos (i .st .class) e) (c .before .before .before .before .before .before .before .before .before .before .advance .ensures) (o .0) (o .1) form.flat-other (form.other-row (i .st .class) e) in
-    let b1 = form.named-first (nt 51) (nt 52) y (form.named-row (i .st .class) e) (form.other-name (i .st .class) e) p in
+    let b1 = form.named-first (nt n-otherName) (nt n-headPath) y (form.named-row (i .st .class) e) (form.other-name (i .st .class) e) p in
     then-passed b1 (c .before .match .keys2) (λ τ p h. h) (c .before .before .before .before .path .ensures)
 
 add-t16 : tie.Need-add-t16
@@ -81,20 +85,9 @@ returns-2 c =
     let e = c .before .before .before .before .before .before .before .before .before .before .before .before .before .before .before .pre .1 in
     let o = c .before .before .before .before .before .before .before .before .before .child .ensures in
     let p = child-nt y (form.other-pos (i .st .class) e) (c .before .before .before .before .before .before .before .before .before .before .before .advance .ensures) (o .0) (o .1) form.flat-other (form.other-row (i .st .class) e) in
-    let b1 = form.named-first (nt 51) (nt 52) y (form.named-row (i .st .class) e) (form.other-name (i .st .class) e) p in
+    let b1 = form.named-first (nt n-otherName) (nt n-headPath) y (form.named-row (i .st .class) e) (form.other-name (i .st .class) e) p in
     read (form.arm-went (form.other-name (i .st .class) e) b1 (c .before .before .before .before .before .path .ensures) (c .before .rest .given .1))
 
 pub other-spec : {M : Type 1} → statement M
-other-spec =
-    tie.close
-    (tie.spec
-    advance-requires
-    child-requires
-    path-requires
-    enum-known-rest
-    enum-told
-    same-length
-    returns
-    add-t16
-    same-length-2
+other-spec = tie.close (tie.spec advance-requires child-requires path-requires enum-known-rest enum-told same-length returns add-t16 same-length-2
     returns-2)

@@ -3,6 +3,7 @@
 use Prim.Native.Nat.{ℕ, _+_, _-_, _*_, _<_, _≤_}
 use mathlib.Core.Path.{_≡_, refl, sym, ap, _∙_}
 use mathlib.Core.List.{List, [], _∷_, _++_}
+use borrow.Author.Needs.{needs}
 use borrow.Author.Tests.{eq-eqb, ne-eqb}
 use native.Mathlib.Omega.{arith}
 use lib.ListN.{length}
@@ -17,7 +18,10 @@ use Rattle.parse.proofs.NameSteps.{child-nt}
 use Rattle.parse.proofs.Roles.{sign-mark, keeping-mark}
 use Rattle.parse.proofs.Lined.{AnyN}
 use Rattle.parse.proofs.HeadForms as form
-use borrow.Author.Needs.{needs}
+use Rattle.lexer.specs.Classes as class
+use Rattle.own.specs.Kinds as kind
+use Rattle.own.specs.Arms as arm
+use Rattle.grammar.specs.TablesIndex.{n-head, n-head-choice, n-head-optional, n-head-word, n-headPath, n-headPath-optional-LParen, n-identifier, n-otherName, n-pair, n-path-many-DoubleColon, n-pattern, n-tail-pair, n-type}
 use Rattle.parse.proofs.heads.pair.Statement.{statement}
 use Rattle.parse.proofs.heads.pair.Tie as tie
 use Rattle.parse.proofs.heads.pair.Reads as reads
@@ -46,7 +50,7 @@ returns : tie.Need-returns
 returns c =
     let i = c .before .before .before .before .before .before .before .before .before .args in
     let y = c .before .before .before .before .before .before .before .before .before .pre in
-    let d0 = pairs.on-turns (nt 20 ∷ tok 15 ∷ nt 8 ∷ []) (pairs.on-starts (nt 54 ∷ []) (i .tree .now) y) pairs.flat-pair (pairs.pair-row (i .st .class)) in
+    let d0 = pairs.on-turns (nt n-pattern ∷ tok class.Colon ∷ nt n-type ∷ []) (pairs.on-starts (nt n-pair ∷ []) (i .tree .now) y) pairs.flat-pair (pairs.pair-row (i .st .class)) in
     then-passed (d0 .amid) (c .before .match .keys2) (λ τ p h. h) (c .before .before .before .before .pattern .ensures)
 
 eat-requires : tie.Need-eat-requires
@@ -69,7 +73,7 @@ returns-2 : tie.Need-returns-2
 returns-2 c =
     let i = c .before .before .before .before .before .before .before .before .before .before .before .before .before .args in
     let y = c .before .before .before .before .before .before .before .before .before .before .before .before .before .pre in
-    let d0 = pairs.on-turns (nt 20 ∷ tok 15 ∷ nt 8 ∷ []) (pairs.on-starts (nt 54 ∷ []) (i .tree .now) y) pairs.flat-pair (pairs.pair-row (i .st .class)) in
+    let d0 = pairs.on-turns (nt n-pattern ∷ tok class.Colon ∷ nt n-type ∷ []) (pairs.on-starts (nt n-pair ∷ []) (i .tree .now) y) pairs.flat-pair (pairs.pair-row (i .st .class)) in
     let d1 = pairs.on-pattern d0 (c .before .before .before .before .before .before .before .before .pattern .ensures) (c .before .before .before .before .left .given .1) in
     then-lacks (d1 .amid) (c .before .match2 .keys2) (λ τ p h. h) (c .before .before .eat .ensures)
 
@@ -77,7 +81,7 @@ ty-requires : tie.Need-ty-requires
 ty-requires c κs =
     let i = c .before .before .before .before .before .before .before .before .before .before .before .before .before .before .before .args in
     let y = c .before .before .before .before .before .before .before .before .before .before .before .before .before .before .before .pre in
-    let d0 = pairs.on-turns (nt 20 ∷ tok 15 ∷ nt 8 ∷ []) (pairs.on-starts (nt 54 ∷ []) (i .tree .now) y) pairs.flat-pair (pairs.pair-row (i .st .class)) in
+    let d0 = pairs.on-turns (nt n-pattern ∷ tok class.Colon ∷ nt n-type ∷ []) (pairs.on-starts (nt n-pair ∷ []) (i .tree .now) y) pairs.flat-pair (pairs.pair-row (i .st .class)) in
     let d1 = pairs.on-pattern d0 (c .before .before .before .before .before .before .before .before .before .before .pattern .ensures) (c .before .before .before .before .before .before .left .given .1) in
     let d2 = pairs.on-eats d1 tt (λ e. omega arith) (c .before .before .before .before .eat .ensures) (c .before .before .colon .given .1) in
     pairs.on-ready y d2
@@ -98,7 +102,7 @@ returns-3 : tie.Need-returns-3
 returns-3 c =
     let i = c .before .before .before .before .before .before .before .before .before .before .before .before .before .before .before .before .before .before .before .before .args in
     let y = c .before .before .before .before .before .before .before .before .before .before .before .before .before .before .before .before .before .before .before .before .pre in
-    let d0 = pairs.on-turns (nt 20 ∷ tok 15 ∷ nt 8 ∷ []) (pairs.on-starts (nt 54 ∷ []) (i .tree .now) y) pairs.flat-pair (pairs.pair-row (i .st .class)) in
+    let d0 = pairs.on-turns (nt n-pattern ∷ tok class.Colon ∷ nt n-type ∷ []) (pairs.on-starts (nt n-pair ∷ []) (i .tree .now) y) pairs.flat-pair (pairs.pair-row (i .st .class)) in
     let d1 = pairs.on-pattern d0 (c .before .before .before .before .before .before .before .before .before .before .before .before .before .before .before .pattern .ensures) (c .before .before .before .before .before .before .before .before .before .before .before .left .given .1) in
     let d2 = pairs.on-eats d1 tt (λ e. omega arith) (c .before .before .before .before .before .before .before .before .before .eat .ensures) (c .before .before .before .before .before .before .before .colon .given .1) in
     then-passed (d2 .amid) (c .before .match3 .keys2) (λ τ p h. h) (c .before .before .before .before .ty .ensures)
@@ -111,30 +115,12 @@ returns-4 : tie.Need-returns-4
 returns-4 c =
     let i = c .before .before .before .before .before .before .before .before .before .before .before .before .before .before .before .before .before .before .before .before .before .args in
     let y = c .before .before .before .before .before .before .before .before .before .before .before .before .before .before .before .before .before .before .before .before .before .pre in
-    let d0 = pairs.on-turns (nt 20 ∷ tok 15 ∷ nt 8 ∷ []) (pairs.on-starts (nt 54 ∷ []) (i .tree .now) y) pairs.flat-pair (pairs.pair-row (i .st .class)) in
+    let d0 = pairs.on-turns (nt n-pattern ∷ tok class.Colon ∷ nt n-type ∷ []) (pairs.on-starts (nt n-pair ∷ []) (i .tree .now) y) pairs.flat-pair (pairs.pair-row (i .st .class)) in
     let d1 = pairs.on-pattern d0 (c .before .before .before .before .before .before .before .before .before .before .before .before .before .before .before .before .pattern .ensures) (c .before .before .before .before .before .before .before .before .before .before .before .before .left .given .1) in
     let d2 = pairs.on-eats d1 tt (λ e. omega arith) (c .before .before .before .before .before .before .before .before .before .before .eat .ensures) (c .before .before .before .before .before .before .before .before .colon .given .1) in
     let d3 = pairs.on-type d2 (c .before .before .before .before .before .ty .ensures) (c .before .right .given .1) in
     read (pairs.on-ends d3 (omega arith))
 
 pub pair-spec : {M : Type 1} → statement M
-pair-spec =
-    tie.close
-    (tie.spec
-    pattern-requires
-    enum-known-left
-    enum-told
-    same-length
-    returns
-    eat-requires
-    enum-known-colon
-    enum-told-2
-    same-length-2
-    returns-2
-    ty-requires
-    enum-known-right
-    enum-told-3
-    same-length-3
-    returns-3
-    same-length-4
-    returns-4)
+pair-spec = tie.close (tie.spec pattern-requires enum-known-left enum-told same-length returns eat-requires enum-known-colon enum-told-2 same-length-2
+    returns-2 ty-requires enum-known-right enum-told-3 same-length-3 returns-3 same-length-4 returns-4)

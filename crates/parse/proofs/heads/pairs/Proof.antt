@@ -3,6 +3,7 @@
 use Prim.Native.Nat.{ℕ, _+_, _-_, _*_, _<_, _≤_}
 use mathlib.Core.Path.{_≡_, refl, sym, ap, _∙_}
 use mathlib.Core.List.{List, [], _∷_, _++_}
+use borrow.Author.Needs.{needs}
 use borrow.Author.Tests.{eq-eqb, ne-eqb}
 use native.Mathlib.Omega.{arith}
 use lib.ListN.{length}
@@ -17,7 +18,10 @@ use Rattle.parse.proofs.NameSteps.{child-nt}
 use Rattle.parse.proofs.Roles.{sign-mark, keeping-mark}
 use Rattle.parse.proofs.Lined.{AnyN}
 use Rattle.parse.proofs.HeadForms as form
-use borrow.Author.Needs.{needs}
+use Rattle.lexer.specs.Classes as class
+use Rattle.own.specs.Kinds as kind
+use Rattle.own.specs.Arms as arm
+use Rattle.grammar.specs.TablesIndex.{n-head, n-head-choice, n-head-optional, n-head-word, n-headPath, n-headPath-optional-LParen, n-identifier, n-otherName, n-pair, n-path-many-DoubleColon, n-pattern, n-tail-pair, n-type}
 use Rattle.parse.proofs.heads.pairs.Statement.{statement}
 use Rattle.parse.proofs.heads.pairs.Tie as tie
 use Rattle.parse.proofs.heads.pairs.Reads as reads
@@ -31,7 +35,7 @@ returns : tie.Need-returns
 returns c =
     let i = c .before .before .before .before .before .args in
     let y = c .before .before .before .before .before .pre in
-    let s = pairs.on-starts (nt 55 ∷ []) (i .tree .now) y in
+    let s = pairs.on-starts (nt n-headPath-optional-LParen ∷ []) (i .tree .now) y in
     read (pairs.on-many (pairs.on-turns [] s pairs.flat-pairs (pairs.no-pairs-row (i .st .class) (c .if1 .taken))) refl)
 
 advance-requires : tie.Need-advance-requires
@@ -42,8 +46,8 @@ pair-requires : tie.Need-pair-requires
 pair-requires c κs =
     let i = c .before .before .before .before .before .before .before .args in
     let y = c .before .before .before .before .before .before .before .pre in
-    let s = pairs.on-starts (nt 55 ∷ []) (i .tree .now) y in
-    let d0 = pairs.on-turns (tok 20 ∷ nt 54 ∷ nt 56 ∷ tok 21 ∷ []) s pairs.flat-pairs (pairs.pairs-row (i .st .class) (c .before .before .if1 .left)) in
+    let s = pairs.on-starts (nt n-headPath-optional-LParen ∷ []) (i .tree .now) y in
+    let d0 = pairs.on-turns (tok class.LParen ∷ nt n-pair ∷ nt n-tail-pair ∷ tok class.RParen ∷ []) s pairs.flat-pairs (pairs.pairs-row (i .st .class) (c .before .before .if1 .left)) in
     let d1 = pairs.on-sign d0 tt (λ e. omega arith) (c .before .before .if1 .left) (c .before .advance .ensures) in
     pairs.on-ready y d1
 
@@ -63,8 +67,8 @@ returns-2 : tie.Need-returns-2
 returns-2 c =
     let i = c .before .before .before .before .before .before .before .before .before .before .before .before .args in
     let y = c .before .before .before .before .before .before .before .before .before .before .before .before .pre in
-    let s = pairs.on-starts (nt 55 ∷ []) (i .tree .now) y in
-    let d0 = pairs.on-turns (tok 20 ∷ nt 54 ∷ nt 56 ∷ tok 21 ∷ []) s pairs.flat-pairs (pairs.pairs-row (i .st .class) (c .before .before .before .before .before .before .before .if1 .left)) in
+    let s = pairs.on-starts (nt n-headPath-optional-LParen ∷ []) (i .tree .now) y in
+    let d0 = pairs.on-turns (tok class.LParen ∷ nt n-pair ∷ nt n-tail-pair ∷ tok class.RParen ∷ []) s pairs.flat-pairs (pairs.pairs-row (i .st .class) (c .before .before .before .before .before .before .before .if1 .left)) in
     let d1 = pairs.on-sign d0 tt (λ e. omega arith) (c .before .before .before .before .before .before .before .if1 .left) (c .before .before .before .before .before .before .advance .ensures) in
     then-passed (d1 .amid) (c .before .match .keys2) (λ τ p h. h) (c .before .before .before .before .pair .ensures)
 
@@ -72,8 +76,8 @@ more-requires : tie.Need-more-requires
 more-requires c κs =
     let i = c .before .before .before .before .before .before .before .before .before .before .before .before .before .before .args in
     let y = c .before .before .before .before .before .before .before .before .before .before .before .before .before .before .pre in
-    let s = pairs.on-starts (nt 55 ∷ []) (i .tree .now) y in
-    let d0 = pairs.on-turns (tok 20 ∷ nt 54 ∷ nt 56 ∷ tok 21 ∷ []) s pairs.flat-pairs (pairs.pairs-row (i .st .class) (c .before .before .before .before .before .before .before .before .before .if1 .left)) in
+    let s = pairs.on-starts (nt n-headPath-optional-LParen ∷ []) (i .tree .now) y in
+    let d0 = pairs.on-turns (tok class.LParen ∷ nt n-pair ∷ nt n-tail-pair ∷ tok class.RParen ∷ []) s pairs.flat-pairs (pairs.pairs-row (i .st .class) (c .before .before .before .before .before .before .before .before .before .if1 .left)) in
     let d1 = pairs.on-sign d0 tt (λ e. omega arith) (c .before .before .before .before .before .before .before .before .before .if1 .left) (c .before .before .before .before .before .before .before .before .advance .ensures) in
     let d2 = pairs.on-pair d1 (c .before .before .before .before .before .before .pair .ensures) (c .before .before .first .given .1) in
     pairs.on-ready y d2
@@ -94,8 +98,8 @@ returns-3 : tie.Need-returns-3
 returns-3 c =
     let i = c .before .before .before .before .before .before .before .before .before .before .before .before .before .before .before .before .before .before .before .args in
     let y = c .before .before .before .before .before .before .before .before .before .before .before .before .before .before .before .before .before .before .before .pre in
-    let s = pairs.on-starts (nt 55 ∷ []) (i .tree .now) y in
-    let d0 = pairs.on-turns (tok 20 ∷ nt 54 ∷ nt 56 ∷ tok 21 ∷ []) s pairs.flat-pairs (pairs.pairs-row (i .st .class) (c .before .before .before .before .before .before .before .before .before .before .before .before .before .before .if1 .left)) in
+    let s = pairs.on-starts (nt n-headPath-optional-LParen ∷ []) (i .tree .now) y in
+    let d0 = pairs.on-turns (tok class.LParen ∷ nt n-pair ∷ nt n-tail-pair ∷ tok class.RParen ∷ []) s pairs.flat-pairs (pairs.pairs-row (i .st .class) (c .before .before .before .before .before .before .before .before .before .before .before .before .before .before .if1 .left)) in
     let d1 = pairs.on-sign d0 tt (λ e. omega arith) (c .before .before .before .before .before .before .before .before .before .before .before .before .before .before .if1 .left) (c .before .before .before .before .before .before .before .before .before .before .before .before .before .advance .ensures) in
     let d2 = pairs.on-pair d1 (c .before .before .before .before .before .before .before .before .before .before .before .pair .ensures) (c .before .before .before .before .before .before .before .first .given .1) in
     then-passed (d2 .amid) (c .before .match2 .keys2) (λ τ p h. h) (c .before .before .before .before .more .ensures)
@@ -120,8 +124,8 @@ returns-4 : tie.Need-returns-4
 returns-4 c =
     let i = c .before .before .before .before .before .before .before .before .before .before .before .before .before .before .before .before .before .before .before .before .before .before .before .args in
     let y = c .before .before .before .before .before .before .before .before .before .before .before .before .before .before .before .before .before .before .before .before .before .before .before .pre in
-    let s = pairs.on-starts (nt 55 ∷ []) (i .tree .now) y in
-    let d0 = pairs.on-turns (tok 20 ∷ nt 54 ∷ nt 56 ∷ tok 21 ∷ []) s pairs.flat-pairs (pairs.pairs-row (i .st .class) (c .before .before .before .before .before .before .before .before .before .before .before .before .before .before .before .before .before .before .if1 .left)) in
+    let s = pairs.on-starts (nt n-headPath-optional-LParen ∷ []) (i .tree .now) y in
+    let d0 = pairs.on-turns (tok class.LParen ∷ nt n-pair ∷ nt n-tail-pair ∷ tok class.RParen ∷ []) s pairs.flat-pairs (pairs.pairs-row (i .st .class) (c .before .before .before .before .before .before .before .before .before .before .before .before .before .before .before .before .before .before .if1 .left)) in
     let d1 = pairs.on-sign d0 tt (λ e. omega arith) (c .before .before .before .before .before .before .before .before .before .before .before .before .before .before .before .before .before .before .if1 .left) (c .before .before .before .before .before .before .before .before .before .before .before .before .before .before .before .before .before .advance .ensures) in
     let d2 = pairs.on-pair d1 (c .before .before .before .before .before .before .before .before .before .before .before .before .before .before .before .pair .ensures) (c .before .before .before .before .before .before .before .before .before .before .before .first .given .1) in
     let q = went (c .before .before .before .before .rest .given .1) (c .before .before .before .before .before .before .before .before .more .ensures) in
@@ -136,8 +140,8 @@ returns-5 : tie.Need-returns-5
 returns-5 c =
     let i = c .before .before .before .before .before .before .before .before .before .before .before .before .before .before .before .before .before .before .before .before .before .before .before .before .args in
     let y = c .before .before .before .before .before .before .before .before .before .before .before .before .before .before .before .before .before .before .before .before .before .before .before .before .pre in
-    let s = pairs.on-starts (nt 55 ∷ []) (i .tree .now) y in
-    let d0 = pairs.on-turns (tok 20 ∷ nt 54 ∷ nt 56 ∷ tok 21 ∷ []) s pairs.flat-pairs (pairs.pairs-row (i .st .class) (c .before .before .before .before .before .before .before .before .before .before .before .before .before .before .before .before .before .before .before .if1 .left)) in
+    let s = pairs.on-starts (nt n-headPath-optional-LParen ∷ []) (i .tree .now) y in
+    let d0 = pairs.on-turns (tok class.LParen ∷ nt n-pair ∷ nt n-tail-pair ∷ tok class.RParen ∷ []) s pairs.flat-pairs (pairs.pairs-row (i .st .class) (c .before .before .before .before .before .before .before .before .before .before .before .before .before .before .before .before .before .before .before .if1 .left)) in
     let d1 = pairs.on-sign d0 tt (λ e. omega arith) (c .before .before .before .before .before .before .before .before .before .before .before .before .before .before .before .before .before .before .before .if1 .left)
     (c .before .before .before .before .before .before .before .before .before .before .before .before .before .before .before .before .before .before .advance .ensures) in
     let d2 = pairs.on-pair d1 (c .before .before .before .before .before .before .before .before .before .before .before .before .before .before .before .before .pair .ensures) (c .before .before .before .before .before .before .before .before .before .before .before .before .first .given .1) in
@@ -147,25 +151,5 @@ returns-5 c =
     read (pairs.on-many d4 (pairs.all-of (q .info .k) (q .info .one-more)))
 
 pub pairs-spec : {M : Type 1} → statement M
-pairs-spec =
-    tie.close
-    (tie.spec
-    returns
-    advance-requires
-    pair-requires
-    enum-known-first
-    enum-told
-    same-length
-    returns-2
-    more-requires
-    enum-known-rest
-    enum-told-2
-    same-length-2
-    returns-3
-    eat-requires
-    enum-known-paren
-    enum-told-3
-    same-length-3
-    returns-4
-    same-length-4
-    returns-5)
+pairs-spec = tie.close (tie.spec returns advance-requires pair-requires enum-known-first enum-told same-length returns-2 more-requires enum-known-rest
+    enum-told-2 same-length-2 returns-3 eat-requires enum-known-paren enum-told-3 same-length-3 returns-4 same-length-4 returns-5)

@@ -3,6 +3,7 @@
 use Prim.Native.Nat.{ℕ, _+_, _-_, _*_, _<_, _≤_}
 use mathlib.Core.Path.{_≡_, refl, sym, ap, _∙_}
 use mathlib.Core.List.{List, [], _∷_, _++_}
+use borrow.Author.Needs.{needs}
 use borrow.Author.Tests.{eq-eqb, ne-eqb}
 use native.Mathlib.Omega.{arith}
 use lib.ListN.{length}
@@ -17,7 +18,10 @@ use Rattle.parse.proofs.NameSteps.{child-nt}
 use Rattle.parse.proofs.Roles.{sign-mark, keeping-mark}
 use Rattle.parse.proofs.Lined.{AnyN}
 use Rattle.parse.proofs.HeadForms as form
-use borrow.Author.Needs.{needs}
+use Rattle.lexer.specs.Classes as class
+use Rattle.own.specs.Kinds as kind
+use Rattle.own.specs.Arms as arm
+use Rattle.grammar.specs.TablesIndex.{n-head, n-head-choice, n-head-optional, n-head-word, n-headPath, n-headPath-optional-LParen, n-identifier, n-otherName, n-pair, n-path-many-DoubleColon, n-pattern, n-tail-pair, n-type}
 use Rattle.parse.proofs.heads.path.Statement.{statement}
 use Rattle.parse.proofs.heads.path.Tie as tie
 use Rattle.parse.proofs.heads.path.Reads as reads
@@ -42,15 +46,15 @@ returns : tie.Need-returns
 returns c =
     let i = c .before .before .before .before .before .before .args in
     let y = c .before .before .before .before .before .before .pre in
-    let d0 = form.turns (tok 14 ∷ nt 10 ∷ nt 46 ∷ nt 55 ∷ []) (starts 38 AnyN (nt 52 ∷ []) (i .tree .now) (y .stands)) form.flat-path (form.path-row (i .st .class)) in
+    let d0 = form.turns (tok class.DoubleColon ∷ nt n-identifier ∷ nt n-path-many-DoubleColon ∷ nt n-headPath-optional-LParen ∷ []) (starts kind.EnumArm AnyN (nt n-headPath ∷ []) (i .tree .now) (y .stands)) form.flat-path (form.path-row (i .st .class)) in
     then-lacks d0 (c .before .match .keys2) (λ τ p h. h) (c .before .before .eat .ensures)
 
 names-requires : tie.Need-names-requires
 names-requires c κs =
     let i = c .before .before .before .before .before .before .before .before .args in
     let y = c .before .before .before .before .before .before .before .before .pre in
-    let d0 = form.turns (tok 14 ∷ nt 10 ∷ nt 46 ∷ nt 55 ∷ []) (starts 38 AnyN (nt 52 ∷ []) (i .tree .now) (y .stands)) form.flat-path (form.path-row (i .st .class)) in
-    let d1 = then-eats d0 (omega arith) (c .before .before .before .before .eat .ensures) (c .before .before .colons .given .1) (sign-mark 38 14 tt) in
+    let d0 = form.turns (tok class.DoubleColon ∷ nt n-identifier ∷ nt n-path-many-DoubleColon ∷ nt n-headPath-optional-LParen ∷ []) (starts kind.EnumArm AnyN (nt n-headPath ∷ []) (i .tree .now) (y .stands)) form.flat-path (form.path-row (i .st .class)) in
+    let d1 = then-eats d0 (omega arith) (c .before .before .before .before .eat .ensures) (c .before .before .colons .given .1) (sign-mark kind.EnumArm class.DoubleColon tt) in
     onward y d1
 
 enum-known-rest : tie.Need-enum-known-rest
@@ -69,16 +73,16 @@ returns-2 : tie.Need-returns-2
 returns-2 c =
     let i = c .before .before .before .before .before .before .before .before .before .before .before .before .before .args in
     let y = c .before .before .before .before .before .before .before .before .before .before .before .before .before .pre in
-    let d0 = form.turns (tok 14 ∷ nt 10 ∷ nt 46 ∷ nt 55 ∷ []) (starts 38 AnyN (nt 52 ∷ []) (i .tree .now) (y .stands)) form.flat-path (form.path-row (i .st .class)) in
-    let d1 = then-eats d0 (omega arith) (c .before .before .before .before .before .before .before .before .before .eat .ensures) (c .before .before .before .before .before .before .before .colons .given .1) (sign-mark 38 14 tt) in
+    let d0 = form.turns (tok class.DoubleColon ∷ nt n-identifier ∷ nt n-path-many-DoubleColon ∷ nt n-headPath-optional-LParen ∷ []) (starts kind.EnumArm AnyN (nt n-headPath ∷ []) (i .tree .now) (y .stands)) form.flat-path (form.path-row (i .st .class)) in
+    let d1 = then-eats d0 (omega arith) (c .before .before .before .before .before .before .before .before .before .eat .ensures) (c .before .before .before .before .before .before .before .colons .given .1) (sign-mark kind.EnumArm class.DoubleColon tt) in
     then-names-passed d1 (c .before .match2 .keys2) (λ τ p h. h) (c .before .before .before .before .names .ensures)
 
 pairs-requires : tie.Need-pairs-requires
 pairs-requires c κs =
     let i = c .before .before .before .before .before .before .before .before .before .before .before .before .before .before .before .args in
     let y = c .before .before .before .before .before .before .before .before .before .before .before .before .before .before .before .pre in
-    let d0 = form.turns (tok 14 ∷ nt 10 ∷ nt 46 ∷ nt 55 ∷ []) (starts 38 AnyN (nt 52 ∷ []) (i .tree .now) (y .stands)) form.flat-path (form.path-row (i .st .class)) in
-    let d1 = then-eats d0 (omega arith) (c .before .before .before .before .before .before .before .before .before .before .before .eat .ensures) (c .before .before .before .before .before .before .before .before .before .colons .given .1) (sign-mark 38 14 tt) in
+    let d0 = form.turns (tok class.DoubleColon ∷ nt n-identifier ∷ nt n-path-many-DoubleColon ∷ nt n-headPath-optional-LParen ∷ []) (starts kind.EnumArm AnyN (nt n-headPath ∷ []) (i .tree .now) (y .stands)) form.flat-path (form.path-row (i .st .class)) in
+    let d1 = then-eats d0 (omega arith) (c .before .before .before .before .before .before .before .before .before .before .before .eat .ensures) (c .before .before .before .before .before .before .before .before .before .colons .given .1) (sign-mark kind.EnumArm class.DoubleColon tt) in
     let d2 = then-names d1 (c .before .before .before .before .before .before .names .ensures) (c .before .before .rest .given .1) form.enum-kind in
     onward y (d2 .amid)
 
@@ -98,8 +102,8 @@ returns-3 : tie.Need-returns-3
 returns-3 c =
     let i = c .before .before .before .before .before .before .before .before .before .before .before .before .before .before .before .before .before .before .before .before .args in
     let y = c .before .before .before .before .before .before .before .before .before .before .before .before .before .before .before .before .before .before .before .before .pre in
-    let d0 = form.turns (tok 14 ∷ nt 10 ∷ nt 46 ∷ nt 55 ∷ []) (starts 38 AnyN (nt 52 ∷ []) (i .tree .now) (y .stands)) form.flat-path (form.path-row (i .st .class)) in
-    let d1 = then-eats d0 (omega arith) (c .before .before .before .before .before .before .before .before .before .before .before .before .before .before .before .before .eat .ensures) (c .before .before .before .before .before .before .before .before .before .before .before .before .before .before .colons .given .1) (sign-mark 38 14 tt) in
+    let d0 = form.turns (tok class.DoubleColon ∷ nt n-identifier ∷ nt n-path-many-DoubleColon ∷ nt n-headPath-optional-LParen ∷ []) (starts kind.EnumArm AnyN (nt n-headPath ∷ []) (i .tree .now) (y .stands)) form.flat-path (form.path-row (i .st .class)) in
+    let d1 = then-eats d0 (omega arith) (c .before .before .before .before .before .before .before .before .before .before .before .before .before .before .before .before .eat .ensures) (c .before .before .before .before .before .before .before .before .before .before .before .before .before .before .colons .given .1) (sign-mark kind.EnumArm class.DoubleColon tt) in
     let d2 = then-names d1 (c .before .before .before .before .before .before .before .before .before .before .before .names .ensures) (c .before .before .before .before .before .before .before .rest .given .1) form.enum-kind in
     then-passed (d2 .amid) (c .before .match3 .keys2) (λ τ p h. h) (c .before .before .before .before .pairs .ensures)
 
@@ -111,28 +115,12 @@ returns-4 : tie.Need-returns-4
 returns-4 c =
     let i = c .before .before .before .before .before .before .before .before .before .before .before .before .before .before .before .before .before .before .before .before .before .args in
     let y = c .before .before .before .before .before .before .before .before .before .before .before .before .before .before .before .before .before .before .before .before .before .pre in
-    let d0 = form.turns (tok 14 ∷ nt 10 ∷ nt 46 ∷ nt 55 ∷ []) (starts 38 AnyN (nt 52 ∷ []) (i .tree .now) (y .stands)) form.flat-path (form.path-row (i .st .class)) in
-    let d1 = then-eats d0 (omega arith) (c .before .before .before .before .before .before .before .before .before .before .before .before .before .before .before .before .before .eat .ensures) (c .before .before .before .before .before .before .before .before .before .before .before .before .before .before .before .colons .given .1) (sign-mark 38 14 tt) in
+    let d0 = form.turns (tok class.DoubleColon ∷ nt n-identifier ∷ nt n-path-many-DoubleColon ∷ nt n-headPath-optional-LParen ∷ []) (starts kind.EnumArm AnyN (nt n-headPath ∷ []) (i .tree .now) (y .stands)) form.flat-path (form.path-row (i .st .class)) in
+    let d1 = then-eats d0 (omega arith) (c .before .before .before .before .before .before .before .before .before .before .before .before .before .before .before .before .before .eat .ensures) (c .before .before .before .before .before .before .before .before .before .before .before .before .before .before .before .colons .given .1)
+    (sign-mark kind.EnumArm class.DoubleColon tt) in
     let d2 = then-names d1 (c .before .before .before .before .before .before .before .before .before .before .before .before .names .ensures) (c .before .before .before .before .before .before .before .before .rest .given .1) form.enum-kind in
     read (form.path-went d2 (went (c .before .inner .given .1) (c .before .before .before .before .before .pairs .ensures)))
 
 pub path-spec : {M : Type 1} → statement M
-path-spec =
-    tie.close
-    (tie.spec
-    eat-requires
-    enum-known-colons
-    enum-told
-    returns
-    names-requires
-    enum-known-rest
-    enum-told-2
-    same-length
-    returns-2
-    pairs-requires
-    enum-known-inner
-    enum-told-3
-    same-length-2
-    returns-3
-    same-length-3
-    returns-4)
+path-spec = tie.close (tie.spec eat-requires enum-known-colons enum-told returns names-requires enum-known-rest enum-told-2 same-length returns-2
+    pairs-requires enum-known-inner enum-told-3 same-length-2 returns-3 same-length-3 returns-4)

@@ -3,6 +3,7 @@
 use Prim.Native.Nat.{ℕ, _+_, _-_, _*_, _<_, _≤_}
 use mathlib.Core.Path.{_≡_, refl, sym, ap, _∙_}
 use mathlib.Core.List.{List, [], _∷_, _++_}
+use borrow.Author.Needs.{needs}
 use borrow.Author.Tests.{eq-eqb, ne-eqb}
 use native.Mathlib.Omega.{arith}
 use lib.ListN.{length}
@@ -17,7 +18,10 @@ use Rattle.parse.proofs.NameSteps.{child-nt}
 use Rattle.parse.proofs.Roles.{sign-mark, keeping-mark}
 use Rattle.parse.proofs.Lined.{AnyN}
 use Rattle.parse.proofs.HeadForms as form
-use borrow.Author.Needs.{needs}
+use Rattle.lexer.specs.Classes as class
+use Rattle.own.specs.Kinds as kind
+use Rattle.own.specs.Arms as arm
+use Rattle.grammar.specs.TablesIndex.{n-head, n-head-choice, n-head-optional, n-head-word, n-headPath, n-headPath-optional-LParen, n-identifier, n-otherName, n-pair, n-path-many-DoubleColon, n-pattern, n-tail-pair, n-type}
 use Rattle.parse.proofs.heads.paths.Statement.{statement}
 use Rattle.parse.proofs.heads.paths.Tie as tie
 use Rattle.parse.proofs.heads.paths.Reads as reads
@@ -36,9 +40,9 @@ path-requires c κs =
     let e = c .before .before .before .before .before .before .before .before .pre .1 .0 in
     let o = c .before .before .before .child .ensures in
     let p = child-nt y (form.word-pos (i .st .class) e) (c .before .before .before .before .before .before .before .before .pre .1 .1 .0) (o .0) (o .1) form.flat-word (form.word-row (i .st .class) e) in
-    let b0 = form.named-first (nt 49) (nt 50) y (form.wrapped-row (i .st .class) e) (form.word-name (i .st .class) e) p in
+    let b0 = form.named-first (nt n-head-word) (nt n-head-choice) y (form.wrapped-row (i .st .class) e) (form.word-name (i .st .class) e) p in
     let n = c .before .before .before .before .before .before .before .before .pre .1 .1 .1 in
-    let b1 = form.turns (nt 52 ∷ []) b0 form.flat-choice (form.other-choice-row (c .before .before .before .child .result .class) (λ h. n (sym (form.reserved-class (i .a) (o .1)) ∙ h))) in
+    let b1 = form.turns (nt n-headPath ∷ []) b0 form.flat-choice (form.other-choice-row (c .before .before .before .child .result .class) (λ h. n (sym (form.reserved-class (i .a) (o .1)) ∙ h))) in
     onward y b1
 
 enum-known-rest : tie.Need-enum-known-rest
@@ -60,9 +64,9 @@ returns c =
     let e = c .before .before .before .before .before .before .before .before .before .before .before .before .before .pre .1 .0 in
     let o = c .before .before .before .before .before .before .before .before .child .ensures in
     let p = child-nt y (form.word-pos (i .st .class) e) (c .before .before .before .before .before .before .before .before .before .before .before .before .before .pre .1 .1 .0) (o .0) (o .1) form.flat-word (form.word-row (i .st .class) e) in
-    let b0 = form.named-first (nt 49) (nt 50) y (form.wrapped-row (i .st .class) e) (form.word-name (i .st .class) e) p in
+    let b0 = form.named-first (nt n-head-word) (nt n-head-choice) y (form.wrapped-row (i .st .class) e) (form.word-name (i .st .class) e) p in
     let n = c .before .before .before .before .before .before .before .before .before .before .before .before .before .pre .1 .1 .1 in
-    let b1 = form.turns (nt 52 ∷ []) b0 form.flat-choice (form.other-choice-row (c .before .before .before .before .before .before .before .before .child .result .class) (λ h. n (sym (form.reserved-class (i .a) (o .1)) ∙ h))) in
+    let b1 = form.turns (nt n-headPath ∷ []) b0 form.flat-choice (form.other-choice-row (c .before .before .before .before .before .before .before .before .child .result .class) (λ h. n (sym (form.reserved-class (i .a) (o .1)) ∙ h))) in
     then-passed b1 (c .before .match .keys2) (λ τ p h. h) (c .before .before .before .before .path .ensures)
 
 add-t16 : tie.Need-add-t16
@@ -80,21 +84,10 @@ returns-2 c =
     let e = c .before .before .before .before .before .before .before .before .before .before .before .before .before .before .pre .1 .0 in
     let o = c .before .before .before .before .before .before .before .before .before .child .ensures in
     let p = child-nt y (form.word-pos (i .st .class) e) (c .before .before .before .before .before .before .before .before .before .before .before .before .before .before .pre .1 .1 .0) (o .0) (o .1) form.flat-word (form.word-row (i .st .class) e) in
-    let b0 = form.named-first (nt 49) (nt 50) y (form.wrapped-row (i .st .class) e) (form.word-name (i .st .class) e) p in
+    let b0 = form.named-first (nt n-head-word) (nt n-head-choice) y (form.wrapped-row (i .st .class) e) (form.word-name (i .st .class) e) p in
     let n = c .before .before .before .before .before .before .before .before .before .before .before .before .before .before .pre .1 .1 .1 in
-    let b1 = form.turns (nt 52 ∷ []) b0 form.flat-choice (form.other-choice-row (c .before .before .before .before .before .before .before .before .before .child .result .class) (λ h. n (sym (form.reserved-class (i .a) (o .1)) ∙ h))) in
+    let b1 = form.turns (nt n-headPath ∷ []) b0 form.flat-choice (form.other-choice-row (c .before .before .before .before .before .before .before .before .before .child .result .class) (λ h. n (sym (form.reserved-class (i .a) (o .1)) ∙ h))) in
     read (form.arm-went (form.word-name (i .st .class) e) b1 (c .before .before .before .before .before .path .ensures) (c .before .rest .given .1))
 
 pub paths-spec : {M : Type 1} → statement M
-paths-spec =
-    tie.close
-    (tie.spec
-    child-requires
-    path-requires
-    enum-known-rest
-    enum-told
-    same-length
-    returns
-    add-t16
-    same-length-2
-    returns-2)
+paths-spec = tie.close (tie.spec child-requires path-requires enum-known-rest enum-told same-length returns add-t16 same-length-2 returns-2)

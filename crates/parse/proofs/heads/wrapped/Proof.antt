@@ -3,6 +3,7 @@
 use Prim.Native.Nat.{ℕ, _+_, _-_, _*_, _<_, _≤_}
 use mathlib.Core.Path.{_≡_, refl, sym, ap, _∙_}
 use mathlib.Core.List.{List, [], _∷_, _++_}
+use borrow.Author.Needs.{needs}
 use borrow.Author.Tests.{eq-eqb, ne-eqb}
 use native.Mathlib.Omega.{arith}
 use lib.ListN.{length}
@@ -17,7 +18,10 @@ use Rattle.parse.proofs.NameSteps.{child-nt}
 use Rattle.parse.proofs.Roles.{sign-mark, keeping-mark}
 use Rattle.parse.proofs.Lined.{AnyN}
 use Rattle.parse.proofs.HeadForms as form
-use borrow.Author.Needs.{needs}
+use Rattle.lexer.specs.Classes as class
+use Rattle.own.specs.Kinds as kind
+use Rattle.own.specs.Arms as arm
+use Rattle.grammar.specs.TablesIndex.{n-head, n-head-choice, n-head-optional, n-head-word, n-headPath, n-headPath-optional-LParen, n-identifier, n-otherName, n-pair, n-path-many-DoubleColon, n-pattern, n-tail-pair, n-type}
 use Rattle.parse.proofs.heads.wrapped.Statement.{statement}
 use Rattle.parse.proofs.heads.wrapped.Tie as tie
 use Rattle.parse.proofs.heads.wrapped.Reads as reads
@@ -53,10 +57,10 @@ pair-requires c κs =
     let i = c .before .before .before .before .before .before .before .before .args in
     let y = c .before .before .before .before .before .before .before .before .pre .0 in
     let e = c .before .before .before .before .before .before .before .before .pre .1 in
-    let d0 = form.turns (nt 49 ∷ nt 50 ∷ []) (starts 37 AnyN (nt 44 ∷ []) (i .tree .now) (y .stands)) form.flat-head (form.wrapped-row (i .st .class) e) in
-    let d1 = advances-one d0 form.flat-word (form.word-row (i .st .class) e) refl (form.word-pos (i .st .class) e) (c .before .before .before .before .advance .ensures) (keeping-mark 37 (i .st .class) tt) in
-    let d2 = form.turns (tok 20 ∷ nt 54 ∷ tok 21 ∷ []) d1 form.flat-choice (form.choice-row (c .before .before .before .before .advance .result .class) (c .before .before .if1 .left)) in
-    let d3 = advances d2 (c .before .before .if1 .left) (omega arith) (c .before .advance2 .ensures) (keeping-mark 37 20 tt) in
+    let d0 = form.turns (nt n-head-word ∷ nt n-head-choice ∷ []) (starts kind.BuiltinArm AnyN (nt n-head ∷ []) (i .tree .now) (y .stands)) form.flat-head (form.wrapped-row (i .st .class) e) in
+    let d1 = advances-one d0 form.flat-word (form.word-row (i .st .class) e) refl (form.word-pos (i .st .class) e) (c .before .before .before .before .advance .ensures) (keeping-mark kind.BuiltinArm (i .st .class) tt) in
+    let d2 = form.turns (tok class.LParen ∷ nt n-pair ∷ tok class.RParen ∷ []) d1 form.flat-choice (form.choice-row (c .before .before .before .before .advance .result .class) (c .before .before .if1 .left)) in
+    let d3 = advances d2 (c .before .before .if1 .left) (omega arith) (c .before .advance2 .ensures) (keeping-mark kind.BuiltinArm class.LParen tt) in
     onward y d3
 
 enum-known-inner : tie.Need-enum-known-inner
@@ -76,10 +80,10 @@ returns-2 c =
     let i = c .before .before .before .before .before .before .before .before .before .before .before .before .before .args in
     let y = c .before .before .before .before .before .before .before .before .before .before .before .before .before .pre .0 in
     let e = c .before .before .before .before .before .before .before .before .before .before .before .before .before .pre .1 in
-    let d0 = form.turns (nt 49 ∷ nt 50 ∷ []) (starts 37 AnyN (nt 44 ∷ []) (i .tree .now) (y .stands)) form.flat-head (form.wrapped-row (i .st .class) e) in
-    let d1 = advances-one d0 form.flat-word (form.word-row (i .st .class) e) refl (form.word-pos (i .st .class) e) (c .before .before .before .before .before .before .before .before .before .advance .ensures) (keeping-mark 37 (i .st .class) tt) in
-    let d2 = form.turns (tok 20 ∷ nt 54 ∷ tok 21 ∷ []) d1 form.flat-choice (form.choice-row (c .before .before .before .before .before .before .before .before .before .advance .result .class) (c .before .before .before .before .before .before .before .if1 .left)) in
-    let d3 = advances d2 (c .before .before .before .before .before .before .before .if1 .left) (omega arith) (c .before .before .before .before .before .before .advance2 .ensures) (keeping-mark 37 20 tt) in
+    let d0 = form.turns (nt n-head-word ∷ nt n-head-choice ∷ []) (starts kind.BuiltinArm AnyN (nt n-head ∷ []) (i .tree .now) (y .stands)) form.flat-head (form.wrapped-row (i .st .class) e) in
+    let d1 = advances-one d0 form.flat-word (form.word-row (i .st .class) e) refl (form.word-pos (i .st .class) e) (c .before .before .before .before .before .before .before .before .before .advance .ensures) (keeping-mark kind.BuiltinArm (i .st .class) tt) in
+    let d2 = form.turns (tok class.LParen ∷ nt n-pair ∷ tok class.RParen ∷ []) d1 form.flat-choice (form.choice-row (c .before .before .before .before .before .before .before .before .before .advance .result .class) (c .before .before .before .before .before .before .before .if1 .left)) in
+    let d3 = advances d2 (c .before .before .before .before .before .before .before .if1 .left) (omega arith) (c .before .before .before .before .before .before .advance2 .ensures) (keeping-mark kind.BuiltinArm class.LParen tt) in
     then-passed d3 (c .before .match .keys2) (λ τ p h. h) (c .before .before .before .before .pair .ensures)
 
 eat-requires : tie.Need-eat-requires
@@ -103,12 +107,12 @@ returns-3 c =
     let i = c .before .before .before .before .before .before .before .before .before .before .before .before .before .before .before .before .before .args in
     let y = c .before .before .before .before .before .before .before .before .before .before .before .before .before .before .before .before .before .pre .0 in
     let e = c .before .before .before .before .before .before .before .before .before .before .before .before .before .before .before .before .before .pre .1 in
-    let d0 = form.turns (nt 49 ∷ nt 50 ∷ []) (starts 37 AnyN (nt 44 ∷ []) (i .tree .now) (y .stands)) form.flat-head (form.wrapped-row (i .st .class) e) in
-    let d1 = advances-one d0 form.flat-word (form.word-row (i .st .class) e) refl (form.word-pos (i .st .class) e) (c .before .before .before .before .before .before .before .before .before .before .before .before .before .advance .ensures) (keeping-mark 37 (i .st .class) tt) in
-    let d2 = form.turns (tok 20 ∷ nt 54 ∷ tok 21 ∷ []) d1 form.flat-choice (form.choice-row (c .before .before .before .before .before .before .before .before .before .before .before .before .before .advance .result .class) (c .before .before .before .before .before .before .before .before .before .before .before .if1 .left)) in
-    let d3 = advances d2 (c .before .before .before .before .before .before .before .before .before .before .before .if1 .left) (omega arith) (c .before .before .before .before .before .before .before .before .before .before .advance2 .ensures) (keeping-mark 37 20 tt) in
+    let d0 = form.turns (nt n-head-word ∷ nt n-head-choice ∷ []) (starts kind.BuiltinArm AnyN (nt n-head ∷ []) (i .tree .now) (y .stands)) form.flat-head (form.wrapped-row (i .st .class) e) in
+    let d1 = advances-one d0 form.flat-word (form.word-row (i .st .class) e) refl (form.word-pos (i .st .class) e) (c .before .before .before .before .before .before .before .before .before .before .before .before .before .advance .ensures) (keeping-mark kind.BuiltinArm (i .st .class) tt) in
+    let d2 = form.turns (tok class.LParen ∷ nt n-pair ∷ tok class.RParen ∷ []) d1 form.flat-choice (form.choice-row (c .before .before .before .before .before .before .before .before .before .before .before .before .before .advance .result .class) (c .before .before .before .before .before .before .before .before .before .before .before .if1 .left)) in
+    let d3 = advances d2 (c .before .before .before .before .before .before .before .before .before .before .before .if1 .left) (omega arith) (c .before .before .before .before .before .before .before .before .before .before .advance2 .ensures) (keeping-mark kind.BuiltinArm class.LParen tt) in
     let q = went (c .before .before .before .before .inner .given .1) (c .before .before .before .before .before .before .before .before .pair .ensures) in
-    let d4 = then-went d3 q (λ n g. q .info .roles 37 n) in
+    let d4 = then-went d3 q (λ n g. q .info .roles kind.BuiltinArm n) in
     then-lacks d4 (c .before .match2 .keys2) (λ τ p h. h) (c .before .before .eat .ensures)
 
 wrapper-requires : tie.Need-wrapper-requires
@@ -124,13 +128,14 @@ returns-4 c =
     let i = c .before .before .before .before .before .before .before .before .before .before .before .before .before .before .before .before .before .before .before .args in
     let y = c .before .before .before .before .before .before .before .before .before .before .before .before .before .before .before .before .before .before .before .pre .0 in
     let e = c .before .before .before .before .before .before .before .before .before .before .before .before .before .before .before .before .before .before .before .pre .1 in
-    let d0 = form.turns (nt 49 ∷ nt 50 ∷ []) (starts 37 AnyN (nt 44 ∷ []) (i .tree .now) (y .stands)) form.flat-head (form.wrapped-row (i .st .class) e) in
-    let d1 = advances-one d0 form.flat-word (form.word-row (i .st .class) e) refl (form.word-pos (i .st .class) e) (c .before .before .before .before .before .before .before .before .before .before .before .before .before .before .before .advance .ensures) (keeping-mark 37 (i .st .class) tt) in
-    let d2 = form.turns (tok 20 ∷ nt 54 ∷ tok 21 ∷ []) d1 form.flat-choice (form.choice-row (c .before .before .before .before .before .before .before .before .before .before .before .before .before .before .before .advance .result .class) (c .before .before .before .before .before .before .before .before .before .before .before .before .before .if1 .left)) in
-    let d3 = advances d2 (c .before .before .before .before .before .before .before .before .before .before .before .before .before .if1 .left) (omega arith) (c .before .before .before .before .before .before .before .before .before .before .before .before .advance2 .ensures) (keeping-mark 37 20 tt) in
+    let d0 = form.turns (nt n-head-word ∷ nt n-head-choice ∷ []) (starts kind.BuiltinArm AnyN (nt n-head ∷ []) (i .tree .now) (y .stands)) form.flat-head (form.wrapped-row (i .st .class) e) in
+    let d1 = advances-one d0 form.flat-word (form.word-row (i .st .class) e) refl (form.word-pos (i .st .class) e) (c .before .before .before .before .before .before .before .before .before .before .before .before .before .before .before .advance .ensures) (keeping-mark kind.BuiltinArm (i .st .class) tt) in
+    let d2 = form.turns (tok class.LParen ∷ nt n-pair ∷ tok class.RParen ∷ []) d1 form.flat-choice (form.choice-row (c .before .before .before .before .before .before .before .before .before .before .before .before .before .before .before .advance .result .class)
+    (c .before .before .before .before .before .before .before .before .before .before .before .before .before .if1 .left)) in
+    let d3 = advances d2 (c .before .before .before .before .before .before .before .before .before .before .before .before .before .if1 .left) (omega arith) (c .before .before .before .before .before .before .before .before .before .before .before .before .advance2 .ensures) (keeping-mark kind.BuiltinArm class.LParen tt) in
     let q = went (c .before .before .before .before .before .before .inner .given .1) (c .before .before .before .before .before .before .before .before .before .before .pair .ensures) in
-    let d4 = then-went d3 q (λ n g. q .info .roles 37 n) in
-    let d5 = then-eats d4 (omega arith) (c .before .before .before .before .eat .ensures) (c .before .before .paren .given .1) (keeping-mark 37 21 tt) in
+    let d4 = then-went d3 q (λ n g. q .info .roles kind.BuiltinArm n) in
+    let d5 = then-eats d4 (omega arith) (c .before .before .before .before .eat .ensures) (c .before .before .paren .given .1) (keeping-mark kind.BuiltinArm class.RParen tt) in
     let g = form.wrapper-low (i .st .class) (c .wrapper .ensures) in
     let x = text (i .draft .now) (i .tokens .now) (i .count) in
     let u = form.unseen-pair (sorts (raw x (c .before .before .before .before .before .before .before .before .before .before .before .before .advance2 .result .at) (q .items))) (q .info .paths) in
@@ -138,24 +143,5 @@ returns-4 c =
     read (form.built-in (c .wrapper .result) d5 (form.no-colons (form.word-name (i .st .class) e)) u o (g .0) (g .1))
 
 pub wrapped-spec : {M : Type 1} → statement M
-wrapped-spec =
-    tie.close
-    (tie.spec
-    advance-requires
-    paths-requires
-    same-length
-    returns
-    advance-requires-2
-    pair-requires
-    enum-known-inner
-    enum-told
-    same-length-2
-    returns-2
-    eat-requires
-    enum-known-paren
-    enum-told-2
-    same-length-3
-    returns-3
-    wrapper-requires
-    same-length-4
-    returns-4)
+wrapped-spec = tie.close (tie.spec advance-requires paths-requires same-length returns advance-requires-2 pair-requires enum-known-inner enum-told
+    same-length-2 returns-2 eat-requires enum-known-paren enum-told-2 same-length-3 returns-3 wrapper-requires same-length-4 returns-4)

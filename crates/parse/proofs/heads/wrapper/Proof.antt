@@ -18,6 +18,10 @@ use Rattle.parse.proofs.NameSteps.{child-nt}
 use Rattle.parse.proofs.Roles.{sign-mark, keeping-mark}
 use Rattle.parse.proofs.Lined.{AnyN}
 use Rattle.parse.proofs.HeadForms as form
+use Rattle.lexer.specs.Classes as class
+use Rattle.own.specs.Kinds as kind
+use Rattle.own.specs.Arms as arm
+use Rattle.grammar.specs.TablesIndex.{n-head, n-head-choice, n-head-optional, n-head-word, n-headPath, n-headPath-optional-LParen, n-identifier, n-otherName, n-pair, n-path-many-DoubleColon, n-pattern, n-tail-pair, n-type}
 use Rattle.parse.proofs.heads.wrapper.Statement.{statement}
 use Rattle.parse.proofs.heads.wrapper.Tie as tie
 use Rattle.parse.proofs.heads.wrapper.Reads as reads
@@ -25,15 +29,15 @@ use Rattle.parse.proofs.heads.wrapper.Lts as lts
 
 returns : tie.Need-returns
 returns c =
-    rw (eq-eqb (c .before .args .class) 37 (c .match .keys1)) refl
+    rw (eq-eqb (c .before .args .class) class.Left (c .match .keys1)) refl
 
 returns-2 : tie.Need-returns-2
 returns-2 c =
-    rw (ne-eqb (c .before .args .class) 37 (λ e. omega (arith, c .match .keys2)), eq-eqb (c .before .args .class) 38 (c .match .keys2)) refl
+    rw (ne-eqb (c .before .args .class) class.Left (λ e. omega (arith, c .match .keys2)), eq-eqb (c .before .args .class) class.Right (c .match .keys2)) refl
 
 returns-3 : tie.Need-returns-3
 returns-3 c =
-    rw (ne-eqb (c .before .args .class) 37 (c .match .rest .0 .1), ne-eqb (c .before .args .class) 38 (c .match .rest .1)) refl
+    rw (ne-eqb (c .before .args .class) class.Left (c .match .rest .0 .1), ne-eqb (c .before .args .class) class.Right (c .match .rest .1)) refl
 
 pub wrapper-spec : {M : Type 1} → statement M
 wrapper-spec = tie.close (tie.spec returns returns-2 returns-3)

@@ -3,6 +3,7 @@
 use mathlib.Core.List.{[], _∷_}
 use Rattle.kinds.specs.Shape.{has}
 use Rattle.grammar.specs.Records.{literalHead}
+use Rattle.lexer.specs.Classes as t
 use Rattle.parse.proofs.Keys.{keyed, unkeyed}
 use Rattle.parse.proofs.LiteralHead.{low, low-past}
 use Rattle.parse.proofs.names.truth.Statement.{statement}
@@ -10,11 +11,11 @@ use Rattle.parse.proofs.names.truth.Tie as tie
 
 returns : tie.Need-returns
 unfolding literalHead low
-returns c = keyed low 62 tt (c .if1 .taken)
+returns c = keyed low t.true tt (c .if1 .taken)
 
 returns-2 : tie.Need-returns-2
 unfolding literalHead low has
-returns-2 c = unkeyed low (62 ∷ []) tt (low-past _) (tt, c .if1 .left)
+returns-2 c = unkeyed low (t.true ∷ []) tt (low-past _) (tt, c .if1 .left)
 
 pub truth-spec : {M : Type 1} → statement M
 truth-spec = tie.close (tie.spec returns returns-2)

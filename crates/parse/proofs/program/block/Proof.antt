@@ -3,13 +3,14 @@
 use Prim.Native.Nat.{ℕ, _+_, _-_, _*_, _<_, _≤_}
 use mathlib.Core.Path.{_≡_, refl, sym, ap, _∙_}
 use mathlib.Core.List.{List, [], _∷_, _++_}
+use borrow.Author.Needs.{needs}
 use native.Mathlib.Omega.{arith}
 use lib.ListN.{length, getD}
 use Rattle.theory.specs.Grammar.{Sym, tok, nt}
 use Rattle.theory.specs.Machine.{expand}
 use Rattle.grammar.specs.Tables.{table}
 use Rattle.parse.specs.Contract.{text, tokAt, Ready, Parsed, read, stuck, Node, TypeKind}
-use Rattle.parse.specs.Infos.{ParameterKind, FunctionKind}
+use Rattle.parse.specs.Infos.{ParameterKind, FunctionKind, public, result}
 use Rattle.parse.proofs.Laws.{class-at, Amid, starts, then-turns, then-passed, done}
 use Rattle.parse.proofs.Shuts.{opens, as-nonterminal, enters}
 use Rattle.parse.proofs.Chain.{further, onward, advances, then-eats, then-lacks, then-node}
@@ -24,9 +25,12 @@ use Rattle.parse.proofs.Forms.{shut}
 use Rattle.parse.proofs.ProgramForms as form
 use Rattle.kinds.specs.Shape.{has}
 use Rattle.kinds.specs.Fields.{counted}
-use Rattle.lexer.specs.Classes as t
+use Rattle.lexer.specs.Classes as class
 use Rattle.parse.proofs.NameSteps.{refuses-nt}
-use borrow.Author.Needs.{needs}
+use Rattle.lexer.specs.Classes as class
+use Rattle.own.specs.Kinds as kind
+use Rattle.grammar.specs.TablesIndex.{n-function-optional-Arrow, n-function-optional-Pub, n-type}
+use Rattle.grammar.specs.ShapeKind.{FunctionShape, ParameterShape}
 use Rattle.parse.proofs.program.block.Statement.{statement}
 use Rattle.parse.proofs.program.block.Tie as tie
 use Rattle.parse.proofs.program.block.Reads as reads

@@ -3,13 +3,14 @@
 use Prim.Native.Nat.{ℕ, _+_, _-_, _*_, _<_, _≤_}
 use mathlib.Core.Path.{_≡_, refl, sym, ap, _∙_}
 use mathlib.Core.List.{List, [], _∷_, _++_}
+use borrow.Author.Needs.{needs}
 use native.Mathlib.Omega.{arith}
 use lib.ListN.{length, getD}
 use Rattle.theory.specs.Grammar.{Sym, tok, nt}
 use Rattle.theory.specs.Machine.{expand}
 use Rattle.grammar.specs.Tables.{table}
 use Rattle.parse.specs.Contract.{text, tokAt, Ready, Parsed, read, stuck, Node, TypeKind}
-use Rattle.parse.specs.Infos.{ParameterKind, FunctionKind}
+use Rattle.parse.specs.Infos.{ParameterKind, FunctionKind, public, result}
 use Rattle.parse.proofs.Laws.{class-at, Amid, starts, then-turns, then-passed, done}
 use Rattle.parse.proofs.Shuts.{opens, as-nonterminal, enters}
 use Rattle.parse.proofs.Chain.{further, onward, advances, then-eats, then-lacks, then-node}
@@ -24,9 +25,12 @@ use Rattle.parse.proofs.Forms.{shut}
 use Rattle.parse.proofs.ProgramForms as form
 use Rattle.kinds.specs.Shape.{has}
 use Rattle.kinds.specs.Fields.{counted}
-use Rattle.lexer.specs.Classes as t
+use Rattle.lexer.specs.Classes as class
 use Rattle.parse.proofs.NameSteps.{refuses-nt}
-use borrow.Author.Needs.{needs}
+use Rattle.lexer.specs.Classes as class
+use Rattle.own.specs.Kinds as kind
+use Rattle.grammar.specs.TablesIndex.{n-function-optional-Arrow, n-function-optional-Pub, n-type}
+use Rattle.grammar.specs.ShapeKind.{FunctionShape, ParameterShape}
 use Rattle.parse.proofs.program.function.Statement.{statement}
 use Rattle.parse.proofs.program.function.Tie as tie
 use Rattle.parse.proofs.program.function.Reads as reads
@@ -62,7 +66,7 @@ returns : tie.Need-returns
 returns c =
     let y = c .before .before .before .before .before .before .before .pre in
     let o = opens y (c .before .before .before .reserve .ensures) in
-    let d0 = starts 1 AnyN form.functionRhs (c .before .before .before .before .before .before .before .args .tree .now) (o .stands) in
+    let d0 = starts kind.Function AnyN form.functionRhs (c .before .before .before .before .before .before .before .args .tree .now) (o .stands) in
     then-passed d0 (c .before .match .keys2) (form.function-enters y o) (c .before .before .public .ensures (c .before .before .before .before .before .before .before .args .tree .now))
 
 eat-requires : tie.Need-eat-requires
@@ -81,7 +85,7 @@ returns-2 : tie.Need-returns-2
 returns-2 c =
     let y = c .before .before .before .before .before .before .before .before .before .before .before .pre in
     let o = opens y (c .before .before .before .before .before .before .before .reserve .ensures) in
-    let d0 = starts 1 AnyN form.functionRhs (c .before .before .before .before .before .before .before .before .before .before .before .args .tree .now) (o .stands) in
+    let d0 = starts kind.Function AnyN form.functionRhs (c .before .before .before .before .before .before .before .before .before .before .before .args .tree .now) (o .stands) in
     let d1 = form.then-optional d0 (c .before .before .before .before .before .before .public .ensures (c .before .before .before .before .before .before .before .before .before .before .before .args .tree .now)) (c .before .before .before .before .first .given .1) in
     then-lacks (d1 .amid) (c .before .match2 .keys2) (form.function-enters y o) (c .before .before .eat .ensures)
 
@@ -89,9 +93,9 @@ function-name-requires : tie.Need-function-name-requires
 function-name-requires c κs =
     let y = c .before .before .before .before .before .before .before .before .before .before .before .before .before .pre in
     let o = opens y (c .before .before .before .before .before .before .before .before .before .reserve .ensures) in
-    let d0 = starts 1 AnyN form.functionRhs (c .before .before .before .before .before .before .before .before .before .before .before .before .before .args .tree .now) (o .stands) in
+    let d0 = starts kind.Function AnyN form.functionRhs (c .before .before .before .before .before .before .before .before .before .before .before .before .before .args .tree .now) (o .stands) in
     let d1 = form.then-optional d0 (c .before .before .before .before .before .before .before .before .public .ensures (c .before .before .before .before .before .before .before .before .before .before .before .before .before .args .tree .now)) (c .before .before .before .before .before .before .first .given .1) in
-    let d2 = then-eats (d1 .amid) (omega arith) (c .before .before .before .before .eat .ensures) (c .before .before .word .given .1) (sign-mark 1 4 tt) in
+    let d2 = then-eats (d1 .amid) (omega arith) (c .before .before .before .before .eat .ensures) (c .before .before .word .given .1) (sign-mark kind.Function class.Fn tt) in
     let f2 = further y o d2 (omega arith) in
     f2 .ready
 
@@ -111,10 +115,10 @@ returns-3 : tie.Need-returns-3
 returns-3 c =
     let y = c .before .before .before .before .before .before .before .before .before .before .before .before .before .before .before .before .before .before .pre in
     let o = opens y (c .before .before .before .before .before .before .before .before .before .before .before .before .before .before .reserve .ensures) in
-    let d0 = starts 1 AnyN form.functionRhs (c .before .before .before .before .before .before .before .before .before .before .before .before .before .before .before .before .before .before .args .tree .now) (o .stands) in
+    let d0 = starts kind.Function AnyN form.functionRhs (c .before .before .before .before .before .before .before .before .before .before .before .before .before .before .before .before .before .before .args .tree .now) (o .stands) in
     let d1 = form.then-optional d0 (c .before .before .before .before .before .before .before .before .before .before .before .before .before .public .ensures (c .before .before .before .before .before .before .before .before .before .before .before .before .before .before .before .before .before .before .args .tree .now))
     (c .before .before .before .before .before .before .before .before .before .before .before .first .given .1) in
-    let d2 = then-eats (d1 .amid) (omega arith) (c .before .before .before .before .before .before .before .before .before .eat .ensures) (c .before .before .before .before .before .before .before .word .given .1) (sign-mark 1 4 tt) in
+    let d2 = then-eats (d1 .amid) (omega arith) (c .before .before .before .before .before .before .before .before .before .eat .ensures) (c .before .before .before .before .before .before .before .word .given .1) (sign-mark kind.Function class.Fn tt) in
     then-passed d2 (c .before .match3 .keys2) (form.function-enters y o) (c .before .before .before .before .function-name .ensures)
 
 eat-requires-2 : tie.Need-eat-requires-2
@@ -140,13 +144,13 @@ returns-4 c =
     (c .before .before .before .before .before .before .before .before .before .before .before .before .before .before .before .before .before .before .before .before .before .before .args .count) in
     let y = c .before .before .before .before .before .before .before .before .before .before .before .before .before .before .before .before .before .before .before .before .before .before .pre in
     let o = opens y (c .before .before .before .before .before .before .before .before .before .before .before .before .before .before .before .before .before .before .reserve .ensures) in
-    let d0 = starts 1 AnyN form.functionRhs (c .before .before .before .before .before .before .before .before .before .before .before .before .before .before .before .before .before .before .before .before .before .before .args .tree .now) (o .stands) in
+    let d0 = starts kind.Function AnyN form.functionRhs (c .before .before .before .before .before .before .before .before .before .before .before .before .before .before .before .before .before .before .before .before .before .before .args .tree .now) (o .stands) in
     let d1 = form.then-optional d0 (c .before .before .before .before .before .before .before .before .before .before .before .before .before .before .before .before .before .public .ensures
     (c .before .before .before .before .before .before .before .before .before .before .before .before .before .before .before .before .before .before .before .before .before .before .args .tree .now)) (c .before .before .before .before .before .before .before .before .before .before .before .before .before .before .before .first .given .1) in
-    let d2 = then-eats (d1 .amid) (omega arith) (c .before .before .before .before .before .before .before .before .before .before .before .before .before .eat .ensures) (c .before .before .before .before .before .before .before .before .before .before .before .word .given .1) (sign-mark 1 4 tt) in
+    let d2 = then-eats (d1 .amid) (omega arith) (c .before .before .before .before .before .before .before .before .before .before .before .before .before .eat .ensures) (c .before .before .before .before .before .before .before .before .before .before .before .word .given .1) (sign-mark kind.Function class.Fn tt) in
     let fname = function-name-class (c .before .before .before .before .before .before .before .before .function-name .ensures) (c .before .before .before .before .name .given .1) in
     let cls = tokAt x (c .before .before .before .before .before .before .before .before .before .before .before .word .given .0 .0 .at) .class in
-    let d3 = then-named d2 (c .before .before .before .before .before .before .before .before .function-name .ensures) (c .before .before .before .before .name .given .1) (name-role 1 cls form.named-function (form.name-identifier cls fname)) in
+    let d3 = then-named d2 (c .before .before .before .before .before .before .before .before .function-name .ensures) (c .before .before .before .before .name .given .1) (name-role kind.Function cls form.named-function (form.name-identifier cls fname)) in
     then-lacks d3 (c .before .match4 .keys2) (form.function-enters y o) (c .before .before .eat2 .ensures)
 
 parameters-requires : tie.Need-parameters-requires
@@ -156,14 +160,14 @@ parameters-requires c κs =
     (c .before .before .before .before .before .before .before .before .before .before .before .before .before .before .before .before .before .before .before .before .before .before .before .before .args .count) in
     let y = c .before .before .before .before .before .before .before .before .before .before .before .before .before .before .before .before .before .before .before .before .before .before .before .before .pre in
     let o = opens y (c .before .before .before .before .before .before .before .before .before .before .before .before .before .before .before .before .before .before .before .before .reserve .ensures) in
-    let d0 = starts 1 AnyN form.functionRhs (c .before .before .before .before .before .before .before .before .before .before .before .before .before .before .before .before .before .before .before .before .before .before .before .before .args .tree .now) (o .stands) in
+    let d0 = starts kind.Function AnyN form.functionRhs (c .before .before .before .before .before .before .before .before .before .before .before .before .before .before .before .before .before .before .before .before .before .before .before .before .args .tree .now) (o .stands) in
     let d1 = form.then-optional d0 (c .before .before .before .before .before .before .before .before .before .before .before .before .before .before .before .before .before .before .before .public .ensures
     (c .before .before .before .before .before .before .before .before .before .before .before .before .before .before .before .before .before .before .before .before .before .before .before .before .args .tree .now)) (c .before .before .before .before .before .before .before .before .before .before .before .before .before .before .before .before .before .first .given .1) in
-    let d2 = then-eats (d1 .amid) (omega arith) (c .before .before .before .before .before .before .before .before .before .before .before .before .before .before .before .eat .ensures) (c .before .before .before .before .before .before .before .before .before .before .before .before .before .word .given .1) (sign-mark 1 4 tt) in
+    let d2 = then-eats (d1 .amid) (omega arith) (c .before .before .before .before .before .before .before .before .before .before .before .before .before .before .before .eat .ensures) (c .before .before .before .before .before .before .before .before .before .before .before .before .before .word .given .1) (sign-mark kind.Function class.Fn tt) in
     let fname = function-name-class (c .before .before .before .before .before .before .before .before .before .before .function-name .ensures) (c .before .before .before .before .before .before .name .given .1) in
     let cls = tokAt x (c .before .before .before .before .before .before .before .before .before .before .before .before .before .word .given .0 .0 .at) .class in
-    let d3 = then-named d2 (c .before .before .before .before .before .before .before .before .before .before .function-name .ensures) (c .before .before .before .before .before .before .name .given .1) (name-role 1 cls form.named-function (form.name-identifier cls fname)) in
-    let d4 = then-eats d3 (omega arith) (c .before .before .before .before .eat2 .ensures) (c .before .before .left .given .1) (sign-mark 1 20 tt) in
+    let d3 = then-named d2 (c .before .before .before .before .before .before .before .before .before .before .function-name .ensures) (c .before .before .before .before .before .before .name .given .1) (name-role kind.Function cls form.named-function (form.name-identifier cls fname)) in
+    let d4 = then-eats d3 (omega arith) (c .before .before .before .before .eat2 .ensures) (c .before .before .left .given .1) (sign-mark kind.Function class.LParen tt) in
     let f4 = further y o d4 (omega arith) in
     f4 .ready
 
@@ -186,16 +190,16 @@ returns-5 c =
     (c .before .before .before .before .before .before .before .before .before .before .before .before .before .before .before .before .before .before .before .before .before .before .before .before .before .before .before .before .before .args .count) in
     let y = c .before .before .before .before .before .before .before .before .before .before .before .before .before .before .before .before .before .before .before .before .before .before .before .before .before .before .before .before .before .pre in
     let o = opens y (c .before .before .before .before .before .before .before .before .before .before .before .before .before .before .before .before .before .before .before .before .before .before .before .before .before .reserve .ensures) in
-    let d0 = starts 1 AnyN form.functionRhs (c .before .before .before .before .before .before .before .before .before .before .before .before .before .before .before .before .before .before .before .before .before .before .before .before .before .before .before .before .before .args .tree .now) (o .stands) in
+    let d0 = starts kind.Function AnyN form.functionRhs (c .before .before .before .before .before .before .before .before .before .before .before .before .before .before .before .before .before .before .before .before .before .before .before .before .before .before .before .before .before .args .tree .now) (o .stands) in
     let d1 = form.then-optional d0 (c .before .before .before .before .before .before .before .before .before .before .before .before .before .before .before .before .before .before .before .before .before .before .before .before .public .ensures
     (c .before .before .before .before .before .before .before .before .before .before .before .before .before .before .before .before .before .before .before .before .before .before .before .before .before .before .before .before .before .args .tree .now))
     (c .before .before .before .before .before .before .before .before .before .before .before .before .before .before .before .before .before .before .before .before .before .before .first .given .1) in
     let d2 = then-eats (d1 .amid) (omega arith) (c .before .before .before .before .before .before .before .before .before .before .before .before .before .before .before .before .before .before .before .before .eat .ensures)
-    (c .before .before .before .before .before .before .before .before .before .before .before .before .before .before .before .before .before .before .word .given .1) (sign-mark 1 4 tt) in
+    (c .before .before .before .before .before .before .before .before .before .before .before .before .before .before .before .before .before .before .word .given .1) (sign-mark kind.Function class.Fn tt) in
     let fname = function-name-class (c .before .before .before .before .before .before .before .before .before .before .before .before .before .before .before .function-name .ensures) (c .before .before .before .before .before .before .before .before .before .before .before .name .given .1) in
     let cls = tokAt x (c .before .before .before .before .before .before .before .before .before .before .before .before .before .before .before .before .before .before .word .given .0 .0 .at) .class in
-    let d3 = then-named d2 (c .before .before .before .before .before .before .before .before .before .before .before .before .before .before .before .function-name .ensures) (c .before .before .before .before .before .before .before .before .before .before .before .name .given .1) (name-role 1 cls form.named-function (form.name-identifier cls fname)) in
-    let d4 = then-eats d3 (omega arith) (c .before .before .before .before .before .before .before .before .before .eat2 .ensures) (c .before .before .before .before .before .before .before .left .given .1) (sign-mark 1 20 tt) in
+    let d3 = then-named d2 (c .before .before .before .before .before .before .before .before .before .before .before .before .before .before .before .function-name .ensures) (c .before .before .before .before .before .before .before .before .before .before .before .name .given .1) (name-role kind.Function cls form.named-function (form.name-identifier cls fname)) in
+    let d4 = then-eats d3 (omega arith) (c .before .before .before .before .before .before .before .before .before .eat2 .ensures) (c .before .before .before .before .before .before .before .left .given .1) (sign-mark kind.Function class.LParen tt) in
     then-passed d4 (c .before .match5 .keys2) (form.function-enters y o) (c .before .before .before .before .parameters .ensures)
 
 eat-requires-3 : tie.Need-eat-requires-3
@@ -221,17 +225,17 @@ returns-6 c =
     (c .before .before .before .before .before .before .before .before .before .before .before .before .before .before .before .before .before .before .before .before .before .before .before .before .before .before .before .before .before .before .before .before .before .args .count) in
     let y = c .before .before .before .before .before .before .before .before .before .before .before .before .before .before .before .before .before .before .before .before .before .before .before .before .before .before .before .before .before .before .before .before .before .pre in
     let o = opens y (c .before .before .before .before .before .before .before .before .before .before .before .before .before .before .before .before .before .before .before .before .before .before .before .before .before .before .before .before .before .reserve .ensures) in
-    let d0 = starts 1 AnyN form.functionRhs (c .before .before .before .before .before .before .before .before .before .before .before .before .before .before .before .before .before .before .before .before .before .before .before .before .before .before .before .before .before .before .before .before .before .args .tree .now) (o .stands) in
+    let d0 = starts kind.Function AnyN form.functionRhs (c .before .before .before .before .before .before .before .before .before .before .before .before .before .before .before .before .before .before .before .before .before .before .before .before .before .before .before .before .before .before .before .before .before .args .tree .now) (o .stands) in
     let d1 = form.then-optional d0 (c .before .before .before .before .before .before .before .before .before .before .before .before .before .before .before .before .before .before .before .before .before .before .before .before .before .before .before .before .public .ensures
     (c .before .before .before .before .before .before .before .before .before .before .before .before .before .before .before .before .before .before .before .before .before .before .before .before .before .before .before .before .before .before .before .before .before .args .tree .now))
     (c .before .before .before .before .before .before .before .before .before .before .before .before .before .before .before .before .before .before .before .before .before .before .before .before .before .before .first .given .1) in
     let d2 = then-eats (d1 .amid) (omega arith) (c .before .before .before .before .before .before .before .before .before .before .before .before .before .before .before .before .before .before .before .before .before .before .before .before .eat .ensures)
-    (c .before .before .before .before .before .before .before .before .before .before .before .before .before .before .before .before .before .before .before .before .before .before .word .given .1) (sign-mark 1 4 tt) in
+    (c .before .before .before .before .before .before .before .before .before .before .before .before .before .before .before .before .before .before .before .before .before .before .word .given .1) (sign-mark kind.Function class.Fn tt) in
     let fname = function-name-class (c .before .before .before .before .before .before .before .before .before .before .before .before .before .before .before .before .before .before .before .function-name .ensures) (c .before .before .before .before .before .before .before .before .before .before .before .before .before .before .before .name .given .1) in
     let cls = tokAt x (c .before .before .before .before .before .before .before .before .before .before .before .before .before .before .before .before .before .before .before .before .before .before .word .given .0 .0 .at) .class in
     let d3 = then-named d2 (c .before .before .before .before .before .before .before .before .before .before .before .before .before .before .before .before .before .before .before .function-name .ensures) (c .before .before .before .before .before .before .before .before .before .before .before .before .before .before .before .name .given .1)
-    (name-role 1 cls form.named-function (form.name-identifier cls fname)) in
-    let d4 = then-eats d3 (omega arith) (c .before .before .before .before .before .before .before .before .before .before .before .before .before .eat2 .ensures) (c .before .before .before .before .before .before .before .before .before .before .before .left .given .1) (sign-mark 1 20 tt) in
+    (name-role kind.Function cls form.named-function (form.name-identifier cls fname)) in
+    let d4 = then-eats d3 (omega arith) (c .before .before .before .before .before .before .before .before .before .before .before .before .before .eat2 .ensures) (c .before .before .before .before .before .before .before .before .before .before .before .left .given .1) (sign-mark kind.Function class.LParen tt) in
     let d5 = form.then-parameters d4 (c .before .before .before .before .before .before .before .before .parameters .ensures) (c .before .before .before .before .inner .given .1) in
     then-lacks (d5 .amid) (c .before .match6 .keys2) (form.function-enters y o) (c .before .before .eat3 .ensures)
 
@@ -242,20 +246,20 @@ result-requires c κs =
     (c .before .before .before .before .before .before .before .before .before .before .before .before .before .before .before .before .before .before .before .before .before .before .before .before .before .before .before .before .before .before .before .before .before .before .before .args .count) in
     let y = c .before .before .before .before .before .before .before .before .before .before .before .before .before .before .before .before .before .before .before .before .before .before .before .before .before .before .before .before .before .before .before .before .before .before .before .pre in
     let o = opens y (c .before .before .before .before .before .before .before .before .before .before .before .before .before .before .before .before .before .before .before .before .before .before .before .before .before .before .before .before .before .before .before .reserve .ensures) in
-    let d0 = starts 1 AnyN form.functionRhs (c .before .before .before .before .before .before .before .before .before .before .before .before .before .before .before .before .before .before .before .before .before .before .before .before .before .before .before .before .before .before .before .before .before .before .before .args .tree .now) (o .stands) in
+    let d0 = starts kind.Function AnyN form.functionRhs (c .before .before .before .before .before .before .before .before .before .before .before .before .before .before .before .before .before .before .before .before .before .before .before .before .before .before .before .before .before .before .before .before .before .before .before .args .tree .now) (o .stands) in
     let d1 = form.then-optional d0 (c .before .before .before .before .before .before .before .before .before .before .before .before .before .before .before .before .before .before .before .before .before .before .before .before .before .before .before .before .before .before .public .ensures
     (c .before .before .before .before .before .before .before .before .before .before .before .before .before .before .before .before .before .before .before .before .before .before .before .before .before .before .before .before .before .before .before .before .before .before .before .args .tree .now))
     (c .before .before .before .before .before .before .before .before .before .before .before .before .before .before .before .before .before .before .before .before .before .before .before .before .before .before .before .before .first .given .1) in
     let d2 = then-eats (d1 .amid) (omega arith) (c .before .before .before .before .before .before .before .before .before .before .before .before .before .before .before .before .before .before .before .before .before .before .before .before .before .before .eat .ensures)
-    (c .before .before .before .before .before .before .before .before .before .before .before .before .before .before .before .before .before .before .before .before .before .before .before .before .word .given .1) (sign-mark 1 4 tt) in
+    (c .before .before .before .before .before .before .before .before .before .before .before .before .before .before .before .before .before .before .before .before .before .before .before .before .word .given .1) (sign-mark kind.Function class.Fn tt) in
     let fname = function-name-class (c .before .before .before .before .before .before .before .before .before .before .before .before .before .before .before .before .before .before .before .before .before .function-name .ensures)
     (c .before .before .before .before .before .before .before .before .before .before .before .before .before .before .before .before .before .name .given .1) in
     let cls = tokAt x (c .before .before .before .before .before .before .before .before .before .before .before .before .before .before .before .before .before .before .before .before .before .before .before .before .word .given .0 .0 .at) .class in
     let d3 = then-named d2 (c .before .before .before .before .before .before .before .before .before .before .before .before .before .before .before .before .before .before .before .before .before .function-name .ensures)
-    (c .before .before .before .before .before .before .before .before .before .before .before .before .before .before .before .before .before .name .given .1) (name-role 1 cls form.named-function (form.name-identifier cls fname)) in
-    let d4 = then-eats d3 (omega arith) (c .before .before .before .before .before .before .before .before .before .before .before .before .before .before .before .eat2 .ensures) (c .before .before .before .before .before .before .before .before .before .before .before .before .before .left .given .1) (sign-mark 1 20 tt) in
+    (c .before .before .before .before .before .before .before .before .before .before .before .before .before .before .before .before .before .name .given .1) (name-role kind.Function cls form.named-function (form.name-identifier cls fname)) in
+    let d4 = then-eats d3 (omega arith) (c .before .before .before .before .before .before .before .before .before .before .before .before .before .before .before .eat2 .ensures) (c .before .before .before .before .before .before .before .before .before .before .before .before .before .left .given .1) (sign-mark kind.Function class.LParen tt) in
     let d5 = form.then-parameters d4 (c .before .before .before .before .before .before .before .before .before .before .parameters .ensures) (c .before .before .before .before .before .before .inner .given .1) in
-    let d6 = then-eats (d5 .amid) (omega arith) (c .before .before .before .before .eat3 .ensures) (c .before .before .paren .given .1) (sign-mark 1 21 tt) in
+    let d6 = then-eats (d5 .amid) (omega arith) (c .before .before .before .before .eat3 .ensures) (c .before .before .paren .given .1) (sign-mark kind.Function class.RParen tt) in
     let f6 = further y o d6 (omega arith) in
     f6 .ready
 
@@ -279,22 +283,22 @@ returns-7 c =
     (c .before .before .before .before .before .before .before .before .before .before .before .before .before .before .before .before .before .before .before .before .before .before .before .before .before .before .before .before .before .before .before .before .before .before .before .before .before .before .before .before .args .count) in
     let y = c .before .before .before .before .before .before .before .before .before .before .before .before .before .before .before .before .before .before .before .before .before .before .before .before .before .before .before .before .before .before .before .before .before .before .before .before .before .before .before .before .pre in
     let o = opens y (c .before .before .before .before .before .before .before .before .before .before .before .before .before .before .before .before .before .before .before .before .before .before .before .before .before .before .before .before .before .before .before .before .before .before .before .before .reserve .ensures) in
-    let d0 = starts 1 AnyN form.functionRhs
+    let d0 = starts kind.Function AnyN form.functionRhs
     (c .before .before .before .before .before .before .before .before .before .before .before .before .before .before .before .before .before .before .before .before .before .before .before .before .before .before .before .before .before .before .before .before .before .before .before .before .before .before .before .before .args .tree .now) (o .stands) in
     let d1 = form.then-optional d0 (c .before .before .before .before .before .before .before .before .before .before .before .before .before .before .before .before .before .before .before .before .before .before .before .before .before .before .before .before .before .before .before .before .before .before .before .public .ensures
     (c .before .before .before .before .before .before .before .before .before .before .before .before .before .before .before .before .before .before .before .before .before .before .before .before .before .before .before .before .before .before .before .before .before .before .before .before .before .before .before .before .args .tree .now))
     (c .before .before .before .before .before .before .before .before .before .before .before .before .before .before .before .before .before .before .before .before .before .before .before .before .before .before .before .before .before .before .before .before .before .first .given .1) in
     let d2 = then-eats (d1 .amid) (omega arith) (c .before .before .before .before .before .before .before .before .before .before .before .before .before .before .before .before .before .before .before .before .before .before .before .before .before .before .before .before .before .before .before .eat .ensures)
-    (c .before .before .before .before .before .before .before .before .before .before .before .before .before .before .before .before .before .before .before .before .before .before .before .before .before .before .before .before .before .word .given .1) (sign-mark 1 4 tt) in
+    (c .before .before .before .before .before .before .before .before .before .before .before .before .before .before .before .before .before .before .before .before .before .before .before .before .before .before .before .before .before .word .given .1) (sign-mark kind.Function class.Fn tt) in
     let fname = function-name-class (c .before .before .before .before .before .before .before .before .before .before .before .before .before .before .before .before .before .before .before .before .before .before .before .before .before .before .function-name .ensures)
     (c .before .before .before .before .before .before .before .before .before .before .before .before .before .before .before .before .before .before .before .before .before .before .name .given .1) in
     let cls = tokAt x (c .before .before .before .before .before .before .before .before .before .before .before .before .before .before .before .before .before .before .before .before .before .before .before .before .before .before .before .before .before .word .given .0 .0 .at) .class in
     let d3 = then-named d2 (c .before .before .before .before .before .before .before .before .before .before .before .before .before .before .before .before .before .before .before .before .before .before .before .before .before .before .function-name .ensures)
-    (c .before .before .before .before .before .before .before .before .before .before .before .before .before .before .before .before .before .before .before .before .before .before .name .given .1) (name-role 1 cls form.named-function (form.name-identifier cls fname)) in
+    (c .before .before .before .before .before .before .before .before .before .before .before .before .before .before .before .before .before .before .before .before .before .before .name .given .1) (name-role kind.Function cls form.named-function (form.name-identifier cls fname)) in
     let d4 = then-eats d3 (omega arith) (c .before .before .before .before .before .before .before .before .before .before .before .before .before .before .before .before .before .before .before .before .eat2 .ensures)
-    (c .before .before .before .before .before .before .before .before .before .before .before .before .before .before .before .before .before .before .left .given .1) (sign-mark 1 20 tt) in
+    (c .before .before .before .before .before .before .before .before .before .before .before .before .before .before .before .before .before .before .left .given .1) (sign-mark kind.Function class.LParen tt) in
     let d5 = form.then-parameters d4 (c .before .before .before .before .before .before .before .before .before .before .before .before .before .before .before .parameters .ensures) (c .before .before .before .before .before .before .before .before .before .before .before .inner .given .1) in
-    let d6 = then-eats (d5 .amid) (omega arith) (c .before .before .before .before .before .before .before .before .before .eat3 .ensures) (c .before .before .before .before .before .before .before .paren .given .1) (sign-mark 1 21 tt) in
+    let d6 = then-eats (d5 .amid) (omega arith) (c .before .before .before .before .before .before .before .before .before .eat3 .ensures) (c .before .before .before .before .before .before .before .paren .given .1) (sign-mark kind.Function class.RParen tt) in
     then-passed d6 (c .before .match7 .keys2) (form.function-enters y o) (c .before .before .before .before .result .ensures)
 
 block-requires : tie.Need-block-requires
@@ -305,22 +309,22 @@ block-requires c κs =
     (c .before .before .before .before .before .before .before .before .before .before .before .before .before .before .before .before .before .before .before .before .before .before .before .before .before .before .before .before .before .before .before .before .before .before .before .before .before .before .before .before .before .before .args .count) in
     let y = c .before .before .before .before .before .before .before .before .before .before .before .before .before .before .before .before .before .before .before .before .before .before .before .before .before .before .before .before .before .before .before .before .before .before .before .before .before .before .before .before .before .before .pre in
     let o = opens y (c .before .before .before .before .before .before .before .before .before .before .before .before .before .before .before .before .before .before .before .before .before .before .before .before .before .before .before .before .before .before .before .before .before .before .before .before .before .before .reserve .ensures) in
-    let d0 = starts 1 AnyN form.functionRhs
+    let d0 = starts kind.Function AnyN form.functionRhs
     (c .before .before .before .before .before .before .before .before .before .before .before .before .before .before .before .before .before .before .before .before .before .before .before .before .before .before .before .before .before .before .before .before .before .before .before .before .before .before .before .before .before .before .args .tree .now) (o .stands) in
     let d1 = form.then-optional d0 (c .before .before .before .before .before .before .before .before .before .before .before .before .before .before .before .before .before .before .before .before .before .before .before .before .before .before .before .before .before .before .before .before .before .before .before .before .before .public .ensures
     (c .before .before .before .before .before .before .before .before .before .before .before .before .before .before .before .before .before .before .before .before .before .before .before .before .before .before .before .before .before .before .before .before .before .before .before .before .before .before .before .before .before .before .args .tree .now))
     (c .before .before .before .before .before .before .before .before .before .before .before .before .before .before .before .before .before .before .before .before .before .before .before .before .before .before .before .before .before .before .before .before .before .before .before .first .given .1) in
     let d2 = then-eats (d1 .amid) (omega arith) (c .before .before .before .before .before .before .before .before .before .before .before .before .before .before .before .before .before .before .before .before .before .before .before .before .before .before .before .before .before .before .before .before .before .eat .ensures)
-    (c .before .before .before .before .before .before .before .before .before .before .before .before .before .before .before .before .before .before .before .before .before .before .before .before .before .before .before .before .before .before .before .word .given .1) (sign-mark 1 4 tt) in
+    (c .before .before .before .before .before .before .before .before .before .before .before .before .before .before .before .before .before .before .before .before .before .before .before .before .before .before .before .before .before .before .before .word .given .1) (sign-mark kind.Function class.Fn tt) in
     let fname = function-name-class (c .before .before .before .before .before .before .before .before .before .before .before .before .before .before .before .before .before .before .before .before .before .before .before .before .before .before .before .before .function-name .ensures)
     (c .before .before .before .before .before .before .before .before .before .before .before .before .before .before .before .before .before .before .before .before .before .before .before .before .name .given .1) in
     let cls = tokAt x (c .before .before .before .before .before .before .before .before .before .before .before .before .before .before .before .before .before .before .before .before .before .before .before .before .before .before .before .before .before .before .before .word .given .0 .0 .at) .class in
     let d3 = then-named d2 (c .before .before .before .before .before .before .before .before .before .before .before .before .before .before .before .before .before .before .before .before .before .before .before .before .before .before .before .before .function-name .ensures)
-    (c .before .before .before .before .before .before .before .before .before .before .before .before .before .before .before .before .before .before .before .before .before .before .before .before .name .given .1) (name-role 1 cls form.named-function (form.name-identifier cls fname)) in
+    (c .before .before .before .before .before .before .before .before .before .before .before .before .before .before .before .before .before .before .before .before .before .before .before .before .name .given .1) (name-role kind.Function cls form.named-function (form.name-identifier cls fname)) in
     let d4 = then-eats d3 (omega arith) (c .before .before .before .before .before .before .before .before .before .before .before .before .before .before .before .before .before .before .before .before .before .before .eat2 .ensures)
-    (c .before .before .before .before .before .before .before .before .before .before .before .before .before .before .before .before .before .before .before .before .left .given .1) (sign-mark 1 20 tt) in
+    (c .before .before .before .before .before .before .before .before .before .before .before .before .before .before .before .before .before .before .before .before .left .given .1) (sign-mark kind.Function class.LParen tt) in
     let d5 = form.then-parameters d4 (c .before .before .before .before .before .before .before .before .before .before .before .before .before .before .before .before .before .parameters .ensures) (c .before .before .before .before .before .before .before .before .before .before .before .before .before .inner .given .1) in
-    let d6 = then-eats (d5 .amid) (omega arith) (c .before .before .before .before .before .before .before .before .before .before .before .eat3 .ensures) (c .before .before .before .before .before .before .before .before .before .paren .given .1) (sign-mark 1 21 tt) in
+    let d6 = then-eats (d5 .amid) (omega arith) (c .before .before .before .before .before .before .before .before .before .before .before .eat3 .ensures) (c .before .before .before .before .before .before .before .before .before .paren .given .1) (sign-mark kind.Function class.RParen tt) in
     let d7 = form.then-optional d6 (c .before .before .before .before .before .before .result .ensures) (c .before .before .arrow .given .1) in
     let f7 = further y o (d7 .amid) (omega arith) in
     f7 .ready
@@ -351,10 +355,9 @@ returns-8 c =
     .before .before .before .pre in
     let o = opens y
     (c .before .before .before .before .before .before .before .before .before .before .before .before .before .before .before .before .before .before .before .before .before .before .before .before .before .before .before .before .before .before .before .before .before .before .before .before .before .before .before .before .before .before .before .reserve .ensures) in
-    let d0 = starts 1 AnyN form.functionRhs
+    let d0 = starts kind.Function AnyN form.functionRhs
     (c .before .before .before .before .before .before .before .before .before .before .before .before .before .before .before .before .before .before .before .before .before .before .before .before .before .before .before .before .before .before .before .before .before .before .before .before .before .before .before .before .before .before .before .before .before
-    .before .before .args .tree .now)
-    (o .stands) in
+    .before .before .args .tree .now) (o .stands) in
     let d1 = form.then-optional d0
     (c .before .before .before .before .before .before .before .before .before .before .before .before .before .before .before .before .before .before .before .before .before .before .before .before .before .before .before .before .before .before .before .before .before .before .before .before .before .before .before .before .before .before .public .ensures
     (c .before .before .before .before .before .before .before .before .before .before .before .before .before .before .before .before .before .before .before .before .before .before .before .before .before .before .before .before .before .before .before .before .before .before .before .before .before .before .before .before .before .before .before .before .before
@@ -362,17 +365,17 @@ returns-8 c =
     (c .before .before .before .before .before .before .before .before .before .before .before .before .before .before .before .before .before .before .before .before .before .before .before .before .before .before .before .before .before .before .before .before .before .before .before .before .before .before .before .before .first .given .1) in
     let d2 = then-eats (d1 .amid) (omega arith)
     (c .before .before .before .before .before .before .before .before .before .before .before .before .before .before .before .before .before .before .before .before .before .before .before .before .before .before .before .before .before .before .before .before .before .before .before .before .before .before .eat .ensures)
-    (c .before .before .before .before .before .before .before .before .before .before .before .before .before .before .before .before .before .before .before .before .before .before .before .before .before .before .before .before .before .before .before .before .before .before .before .before .word .given .1) (sign-mark 1 4 tt) in
+    (c .before .before .before .before .before .before .before .before .before .before .before .before .before .before .before .before .before .before .before .before .before .before .before .before .before .before .before .before .before .before .before .before .before .before .before .before .word .given .1) (sign-mark kind.Function class.Fn tt) in
     let fname = function-name-class (c .before .before .before .before .before .before .before .before .before .before .before .before .before .before .before .before .before .before .before .before .before .before .before .before .before .before .before .before .before .before .before .before .before .function-name .ensures)
     (c .before .before .before .before .before .before .before .before .before .before .before .before .before .before .before .before .before .before .before .before .before .before .before .before .before .before .before .before .before .name .given .1) in
     let cls = tokAt x (c .before .before .before .before .before .before .before .before .before .before .before .before .before .before .before .before .before .before .before .before .before .before .before .before .before .before .before .before .before .before .before .before .before .before .before .before .word .given .0 .0 .at) .class in
     let d3 = then-named d2 (c .before .before .before .before .before .before .before .before .before .before .before .before .before .before .before .before .before .before .before .before .before .before .before .before .before .before .before .before .before .before .before .before .before .function-name .ensures)
-    (c .before .before .before .before .before .before .before .before .before .before .before .before .before .before .before .before .before .before .before .before .before .before .before .before .before .before .before .before .before .name .given .1) (name-role 1 cls form.named-function (form.name-identifier cls fname)) in
+    (c .before .before .before .before .before .before .before .before .before .before .before .before .before .before .before .before .before .before .before .before .before .before .before .before .before .before .before .before .before .name .given .1) (name-role kind.Function cls form.named-function (form.name-identifier cls fname)) in
     let d4 = then-eats d3 (omega arith) (c .before .before .before .before .before .before .before .before .before .before .before .before .before .before .before .before .before .before .before .before .before .before .before .before .before .before .before .eat2 .ensures)
-    (c .before .before .before .before .before .before .before .before .before .before .before .before .before .before .before .before .before .before .before .before .before .before .before .before .before .left .given .1) (sign-mark 1 20 tt) in
+    (c .before .before .before .before .before .before .before .before .before .before .before .before .before .before .before .before .before .before .before .before .before .before .before .before .before .left .given .1) (sign-mark kind.Function class.LParen tt) in
     let d5 = form.then-parameters d4 (c .before .before .before .before .before .before .before .before .before .before .before .before .before .before .before .before .before .before .before .before .before .before .parameters .ensures)
     (c .before .before .before .before .before .before .before .before .before .before .before .before .before .before .before .before .before .before .inner .given .1) in
-    let d6 = then-eats (d5 .amid) (omega arith) (c .before .before .before .before .before .before .before .before .before .before .before .before .before .before .before .before .eat3 .ensures) (c .before .before .before .before .before .before .before .before .before .before .before .before .before .before .paren .given .1) (sign-mark 1 21 tt) in
+    let d6 = then-eats (d5 .amid) (omega arith) (c .before .before .before .before .before .before .before .before .before .before .before .before .before .before .before .before .eat3 .ensures) (c .before .before .before .before .before .before .before .before .before .before .before .before .before .before .paren .given .1) (sign-mark kind.Function class.RParen tt) in
     let d7 = form.then-optional d6 (c .before .before .before .before .before .before .before .before .before .before .before .result .ensures) (c .before .before .before .before .before .before .before .arrow .given .1) in
     then-passed (d7 .amid) (c .before .match8 .keys2) (form.function-enters y o) (c .before .before .before .before .block .ensures)
 
@@ -390,29 +393,29 @@ add-close c =
     let o = opens y
     (c .before .before .before .before .before .before .before .before .before .before .before .before .before .before .before .before .before .before .before .before .before .before .before .before .before .before .before .before .before .before .before .before .before .before .before .before .before .before .before .before .before .before .before .before .before
     .reserve .ensures) in
-    let d0 = starts 1 AnyN form.functionRhs
+    let d0 = starts kind.Function AnyN form.functionRhs
     (c .before .before .before .before .before .before .before .before .before .before .before .before .before .before .before .before .before .before .before .before .before .before .before .before .before .before .before .before .before .before .before .before .before .before .before .before .before .before .before .before .before .before .before .before .before
-    .before .before .before .before .args .tree .now)
-    (o .stands) in
+    .before .before .before .before .args .tree .now) (o .stands) in
     let d1 = form.then-optional d0
-    (c .before .before .before .before .before .before .before .before .before .before .before .before .before .before .before .before .before .before .before .before .before .before .before .before .before .before .before .before .before .before .before .before .before .before .before .before .before .before .before .before .before .before .before .before .public .ensures
+    (c .before .before .before .before .before .before .before .before .before .before .before .before .before .before .before .before .before .before .before .before .before .before .before .before .before .before .before .before .before .before .before .before .before .before .before .before .before .before .before .before .before .before .before .before .public
+    .ensures
     (c .before .before .before .before .before .before .before .before .before .before .before .before .before .before .before .before .before .before .before .before .before .before .before .before .before .before .before .before .before .before .before .before .before .before .before .before .before .before .before .before .before .before .before .before .before
     .before .before .before .before .args .tree .now))
     (c .before .before .before .before .before .before .before .before .before .before .before .before .before .before .before .before .before .before .before .before .before .before .before .before .before .before .before .before .before .before .before .before .before .before .before .before .before .before .before .before .before .before .first .given .1) in
     let d2 = then-eats (d1 .amid) (omega arith)
     (c .before .before .before .before .before .before .before .before .before .before .before .before .before .before .before .before .before .before .before .before .before .before .before .before .before .before .before .before .before .before .before .before .before .before .before .before .before .before .before .before .eat .ensures)
-    (c .before .before .before .before .before .before .before .before .before .before .before .before .before .before .before .before .before .before .before .before .before .before .before .before .before .before .before .before .before .before .before .before .before .before .before .before .before .before .word .given .1) (sign-mark 1 4 tt) in
+    (c .before .before .before .before .before .before .before .before .before .before .before .before .before .before .before .before .before .before .before .before .before .before .before .before .before .before .before .before .before .before .before .before .before .before .before .before .before .before .word .given .1) (sign-mark kind.Function class.Fn tt) in
     let fname = function-name-class (c .before .before .before .before .before .before .before .before .before .before .before .before .before .before .before .before .before .before .before .before .before .before .before .before .before .before .before .before .before .before .before .before .before .before .before .function-name .ensures)
     (c .before .before .before .before .before .before .before .before .before .before .before .before .before .before .before .before .before .before .before .before .before .before .before .before .before .before .before .before .before .before .before .name .given .1) in
     let cls = tokAt x (c .before .before .before .before .before .before .before .before .before .before .before .before .before .before .before .before .before .before .before .before .before .before .before .before .before .before .before .before .before .before .before .before .before .before .before .before .before .before .word .given .0 .0 .at) .class in
     let d3 = then-named d2 (c .before .before .before .before .before .before .before .before .before .before .before .before .before .before .before .before .before .before .before .before .before .before .before .before .before .before .before .before .before .before .before .before .before .before .before .function-name .ensures)
-    (c .before .before .before .before .before .before .before .before .before .before .before .before .before .before .before .before .before .before .before .before .before .before .before .before .before .before .before .before .before .before .before .name .given .1) (name-role 1 cls form.named-function (form.name-identifier cls fname)) in
+    (c .before .before .before .before .before .before .before .before .before .before .before .before .before .before .before .before .before .before .before .before .before .before .before .before .before .before .before .before .before .before .before .name .given .1) (name-role kind.Function cls form.named-function (form.name-identifier cls fname)) in
     let d4 = then-eats d3 (omega arith) (c .before .before .before .before .before .before .before .before .before .before .before .before .before .before .before .before .before .before .before .before .before .before .before .before .before .before .before .before .before .eat2 .ensures)
-    (c .before .before .before .before .before .before .before .before .before .before .before .before .before .before .before .before .before .before .before .before .before .before .before .before .before .before .before .left .given .1) (sign-mark 1 20 tt) in
+    (c .before .before .before .before .before .before .before .before .before .before .before .before .before .before .before .before .before .before .before .before .before .before .before .before .before .before .before .left .given .1) (sign-mark kind.Function class.LParen tt) in
     let d5 = form.then-parameters d4 (c .before .before .before .before .before .before .before .before .before .before .before .before .before .before .before .before .before .before .before .before .before .before .before .before .parameters .ensures)
     (c .before .before .before .before .before .before .before .before .before .before .before .before .before .before .before .before .before .before .before .before .inner .given .1) in
     let d6 = then-eats (d5 .amid) (omega arith) (c .before .before .before .before .before .before .before .before .before .before .before .before .before .before .before .before .before .before .eat3 .ensures) (c .before .before .before .before .before .before .before .before .before .before .before .before .before .before .before .before .paren .given .1)
-    (sign-mark 1 21 tt) in
+    (sign-mark kind.Function class.RParen tt) in
     let d7 = form.then-optional d6 (c .before .before .before .before .before .before .before .before .before .before .before .before .before .result .ensures) (c .before .before .before .before .before .before .before .before .before .arrow .given .1) in
     let f = form.low-fits (d1 .W) (d7 .W) (d1 .there) (d7 .there) in omega (arith, f)
 
@@ -440,10 +443,9 @@ returns-9 c =
     let o = opens y
     (c .before .before .before .before .before .before .before .before .before .before .before .before .before .before .before .before .before .before .before .before .before .before .before .before .before .before .before .before .before .before .before .before .before .before .before .before .before .before .before .before .before .before .before .before .before
     .before .before .before .reserve .ensures) in
-    let d0 = starts 1 AnyN form.functionRhs
+    let d0 = starts kind.Function AnyN form.functionRhs
     (c .before .before .before .before .before .before .before .before .before .before .before .before .before .before .before .before .before .before .before .before .before .before .before .before .before .before .before .before .before .before .before .before .before .before .before .before .before .before .before .before .before .before .before .before .before
-    .before .before .before .before .before .before .before .args .tree .now)
-    (o .stands) in
+    .before .before .before .before .before .before .before .args .tree .now) (o .stands) in
     let d1 = form.then-optional d0
     (c .before .before .before .before .before .before .before .before .before .before .before .before .before .before .before .before .before .before .before .before .before .before .before .before .before .before .before .before .before .before .before .before .before .before .before .before .before .before .before .before .before .before .before .before .before
     .before .before .public .ensures
@@ -453,68 +455,29 @@ returns-9 c =
     .first .given .1) in
     let d2 = then-eats (d1 .amid) (omega arith)
     (c .before .before .before .before .before .before .before .before .before .before .before .before .before .before .before .before .before .before .before .before .before .before .before .before .before .before .before .before .before .before .before .before .before .before .before .before .before .before .before .before .before .before .before .eat .ensures)
-    (c .before .before .before .before .before .before .before .before .before .before .before .before .before .before .before .before .before .before .before .before .before .before .before .before .before .before .before .before .before .before .before .before .before .before .before .before .before .before .before .before .before .word .given .1) (sign-mark 1 4 tt) in
+    (c .before .before .before .before .before .before .before .before .before .before .before .before .before .before .before .before .before .before .before .before .before .before .before .before .before .before .before .before .before .before .before .before .before .before .before .before .before .before .before .before .before .word .given .1)
+    (sign-mark kind.Function class.Fn tt) in
     let fname = function-name-class (c .before .before .before .before .before .before .before .before .before .before .before .before .before .before .before .before .before .before .before .before .before .before .before .before .before .before .before .before .before .before .before .before .before .before .before .before .before .before .function-name .ensures)
     (c .before .before .before .before .before .before .before .before .before .before .before .before .before .before .before .before .before .before .before .before .before .before .before .before .before .before .before .before .before .before .before .before .before .before .name .given .1) in
     let cls = tokAt x
     (c .before .before .before .before .before .before .before .before .before .before .before .before .before .before .before .before .before .before .before .before .before .before .before .before .before .before .before .before .before .before .before .before .before .before .before .before .before .before .before .before .before .word .given .0 .0 .at) .class in
     let d3 = then-named d2 (c .before .before .before .before .before .before .before .before .before .before .before .before .before .before .before .before .before .before .before .before .before .before .before .before .before .before .before .before .before .before .before .before .before .before .before .before .before .before .function-name .ensures)
-    (c .before .before .before .before .before .before .before .before .before .before .before .before .before .before .before .before .before .before .before .before .before .before .before .before .before .before .before .before .before .before .before .before .before .before .name .given .1) (name-role 1 cls form.named-function (form.name-identifier cls fname)) in
+    (c .before .before .before .before .before .before .before .before .before .before .before .before .before .before .before .before .before .before .before .before .before .before .before .before .before .before .before .before .before .before .before .before .before .before .name .given .1) (name-role kind.Function cls form.named-function
+    (form.name-identifier cls fname)) in
     let d4 = then-eats d3 (omega arith) (c .before .before .before .before .before .before .before .before .before .before .before .before .before .before .before .before .before .before .before .before .before .before .before .before .before .before .before .before .before .before .before .before .eat2 .ensures)
-    (c .before .before .before .before .before .before .before .before .before .before .before .before .before .before .before .before .before .before .before .before .before .before .before .before .before .before .before .before .before .before .left .given .1) (sign-mark 1 20 tt) in
+    (c .before .before .before .before .before .before .before .before .before .before .before .before .before .before .before .before .before .before .before .before .before .before .before .before .before .before .before .before .before .before .left .given .1) (sign-mark kind.Function class.LParen tt) in
     let d5 = form.then-parameters d4 (c .before .before .before .before .before .before .before .before .before .before .before .before .before .before .before .before .before .before .before .before .before .before .before .before .before .before .before .parameters .ensures)
     (c .before .before .before .before .before .before .before .before .before .before .before .before .before .before .before .before .before .before .before .before .before .before .before .inner .given .1) in
     let d6 = then-eats (d5 .amid) (omega arith) (c .before .before .before .before .before .before .before .before .before .before .before .before .before .before .before .before .before .before .before .before .before .eat3 .ensures)
-    (c .before .before .before .before .before .before .before .before .before .before .before .before .before .before .before .before .before .before .before .paren .given .1) (sign-mark 1 21 tt) in
+    (c .before .before .before .before .before .before .before .before .before .before .before .before .before .before .before .before .before .before .before .paren .given .1) (sign-mark kind.Function class.RParen tt) in
     let d7 = form.then-optional d6 (c .before .before .before .before .before .before .before .before .before .before .before .before .before .before .before .before .result .ensures) (c .before .before .before .before .before .before .before .before .before .before .before .before .arrow .given .1) in
     let d8 = then-node (d7 .amid) (c .before .before .before .before .before .before .before .before .before .block .ensures) (c .before .before .before .before .before .body .given .1) in
     let z = form.function-head (d1 .W) (d5 .W) (d7 .W) cls (d8 .kind) (d8 .low) (d8 .high) (d8 .first) fname (d1 .there) (d1 .others) (d1 .no-parameters) (d5 .commas) (d5 .count-is) (d7 .there) (d7 .others) (d7 .no-parameters) (d8 .its-kind) x in
-    as-nonterminal form.function-rule y (form.function-begins y o (done (d8 .amid))) (read (shut 0 tt y o (d8 .amid) (form.owns ((((0 + d1 .k) + 1) + 1) + d5 .k) (d7 .k)) (z _) tt FunctionKind refl (c .before .before .close .ensures)))
+    as-nonterminal form.function-rule y (form.function-begins y o (done (d8 .amid))) (read (shut FunctionShape tt y o (d8 .amid) (form.owns ((((0 + d1 .k) + 1) + 1) + d5 .k) (d7 .k)) (z _) tt FunctionKind refl (c .before .before .close .ensures)))
 
 pub function-spec : {M : Type 1} → statement M
-function-spec =
-    tie.close
-    (tie.spec
-    reserve-requires
-    public-requires
-    enum-known-first
-    enum-told
-    returns
-    eat-requires
-    enum-known-word
-    enum-told-2
-    returns-2
-    function-name-requires
-    enum-known-name
-    enum-told-3
-    same-length
-    returns-3
-    eat-requires-2
-    enum-known-left
-    enum-told-4
-    same-length-2
-    returns-4
-    parameters-requires
-    enum-known-inner
-    enum-told-5
-    same-length-3
-    returns-5
-    eat-requires-3
-    enum-known-paren
-    enum-told-6
-    same-length-4
-    returns-6
-    result-requires
-    enum-known-arrow
-    enum-told-7
-    same-length-5
-    returns-7
-    block-requires
-    enum-known-body
-    enum-told-8
-    same-length-6
-    returns-8
-    add-close
-    close-requires
-    same-length-7
-    returns-9)
+function-spec = tie.close (tie.spec reserve-requires public-requires enum-known-first enum-told returns eat-requires enum-known-word enum-told-2
+    returns-2 function-name-requires enum-known-name enum-told-3 same-length returns-3 eat-requires-2 enum-known-left enum-told-4 same-length-2 returns-4
+    parameters-requires enum-known-inner enum-told-5 same-length-3 returns-5 eat-requires-3 enum-known-paren enum-told-6 same-length-4 returns-6
+    result-requires enum-known-arrow enum-told-7 same-length-5 returns-7 block-requires enum-known-body enum-told-8 same-length-6 returns-8 add-close
+    close-requires same-length-7 returns-9)

@@ -3,13 +3,14 @@
 use Prim.Native.Nat.{ℕ, _+_, _-_, _*_, _<_, _≤_}
 use mathlib.Core.Path.{_≡_, refl, sym, ap, _∙_}
 use mathlib.Core.List.{List, [], _∷_, _++_}
+use borrow.Author.Needs.{needs}
 use native.Mathlib.Omega.{arith}
 use lib.ListN.{length, getD}
 use Rattle.theory.specs.Grammar.{Sym, tok, nt}
 use Rattle.theory.specs.Machine.{expand}
 use Rattle.grammar.specs.Tables.{table}
 use Rattle.parse.specs.Contract.{text, tokAt, Ready, Parsed, read, stuck, Node, TypeKind}
-use Rattle.parse.specs.Infos.{ParameterKind, FunctionKind}
+use Rattle.parse.specs.Infos.{ParameterKind, FunctionKind, public, result}
 use Rattle.parse.proofs.Laws.{class-at, Amid, starts, then-turns, then-passed, done}
 use Rattle.parse.proofs.Shuts.{opens, as-nonterminal, enters}
 use Rattle.parse.proofs.Chain.{further, onward, advances, then-eats, then-lacks, then-node}
@@ -24,9 +25,12 @@ use Rattle.parse.proofs.Forms.{shut}
 use Rattle.parse.proofs.ProgramForms as form
 use Rattle.kinds.specs.Shape.{has}
 use Rattle.kinds.specs.Fields.{counted}
-use Rattle.lexer.specs.Classes as t
+use Rattle.lexer.specs.Classes as class
 use Rattle.parse.proofs.NameSteps.{refuses-nt}
-use borrow.Author.Needs.{needs}
+use Rattle.lexer.specs.Classes as class
+use Rattle.own.specs.Kinds as kind
+use Rattle.grammar.specs.TablesIndex.{n-function-optional-Arrow, n-function-optional-Pub, n-type}
+use Rattle.grammar.specs.ShapeKind.{FunctionShape, ParameterShape}
 use Rattle.parse.proofs.program.parameter.Statement.{statement}
 use Rattle.parse.proofs.program.parameter.Tie as tie
 use Rattle.parse.proofs.program.parameter.Reads as reads
@@ -85,24 +89,25 @@ returns-2 : tie.Need-returns-2
 returns-2 c =
     let y = c .before .before .before .before .before .before .before .before .before .before .before .before .before .before .pre in
     let o = opens y (c .before .before .before .before .before .before .before .before .before .reserve .ensures) in
-    let d0 = starts 3 AnyN form.parameterRhs (c .before .before .before .before .before .before .before .before .before .before .before .before .before .before .args .tree .now) (o .stands) in
+    let d0 = starts kind.Parameter AnyN form.parameterRhs (c .before .before .before .before .before .before .before .before .before .before .before .before .before .before .args .tree .now) (o .stands) in
     let x = text (c .before .before .before .before .before .before .before .before .before .before .before .before .before .before .args .draft .now) (c .before .before .before .before .before .before .before .before .before .before .before .before .before .before .args .tokens .now)
     (c .before .before .before .before .before .before .before .before .before .before .before .before .before .before .args .count) in
     let name = identifier-class (c .before .before .before .before .before .before .before .before .identifier .ensures) (c .before .before .before .before .first .given .1) in
-    let e = form.at-parameter (c .before .before .before .before .before .before .before .before .before .before .before .before .before .before .args .st .class) (sym (ap (has t.identifiers) (sym (class-at (x .ts) (c .before .before .before .before .before .before .before .before .before .reserve .result .at)) ∙ sym (o .stands .class-is) ∙ o .class-is)) ∙ name) in
-    let d1 = then-named d0 (c .before .before .before .before .before .before .before .before .identifier .ensures) (c .before .before .before .before .first .given .1) (name-role 3 (tokAt x (c .before .before .before .before .before .before .before .before .before .reserve .result .at) .class) form.named-parameter name) in
+    let e = form.at-parameter (c .before .before .before .before .before .before .before .before .before .before .before .before .before .before .args .st .class) (sym (ap (has class.identifiers) (sym (class-at (x .ts) (c .before .before .before .before .before .before .before .before .before .reserve .result .at)) ∙ sym (o .stands .class-is) ∙ o .class-is)) ∙ name) in
+    let d1 = then-named d0 (c .before .before .before .before .before .before .before .before .identifier .ensures) (c .before .before .before .before .first .given .1) (name-role kind.Parameter (tokAt x (c .before .before .before .before .before .before .before .before .before .reserve .result .at) .class) form.named-parameter name) in
     then-lacks d1 (c .before .match2 .keys2) (enters form.parameter-rule y e o) (c .before .before .eat .ensures)
 
 ty-requires : tie.Need-ty-requires
 ty-requires c κs =
     let y = c .before .before .before .before .before .before .before .before .before .before .before .before .before .before .before .before .pre in
     let o = opens y (c .before .before .before .before .before .before .before .before .before .before .before .reserve .ensures) in
-    let d0 = starts 3 AnyN form.parameterRhs (c .before .before .before .before .before .before .before .before .before .before .before .before .before .before .before .before .args .tree .now) (o .stands) in
+    let d0 = starts kind.Parameter AnyN form.parameterRhs (c .before .before .before .before .before .before .before .before .before .before .before .before .before .before .before .before .args .tree .now) (o .stands) in
     let x = text (c .before .before .before .before .before .before .before .before .before .before .before .before .before .before .before .before .args .draft .now) (c .before .before .before .before .before .before .before .before .before .before .before .before .before .before .before .before .args .tokens .now)
     (c .before .before .before .before .before .before .before .before .before .before .before .before .before .before .before .before .args .count) in
     let name = identifier-class (c .before .before .before .before .before .before .before .before .before .before .identifier .ensures) (c .before .before .before .before .before .before .first .given .1) in
-    let d1 = then-named d0 (c .before .before .before .before .before .before .before .before .before .before .identifier .ensures) (c .before .before .before .before .before .before .first .given .1) (name-role 3 (tokAt x (c .before .before .before .before .before .before .before .before .before .before .before .reserve .result .at) .class) form.named-parameter name) in
-    let d2 = then-eats d1 (omega arith) (c .before .before .before .before .eat .ensures) (c .before .before .colon .given .1) (sign-mark 3 15 tt) in
+    let d1 = then-named d0 (c .before .before .before .before .before .before .before .before .before .before .identifier .ensures) (c .before .before .before .before .before .before .first .given .1) (name-role kind.Parameter (tokAt x
+    (c .before .before .before .before .before .before .before .before .before .before .before .reserve .result .at) .class) form.named-parameter name) in
+    let d2 = then-eats d1 (omega arith) (c .before .before .before .before .eat .ensures) (c .before .before .colon .given .1) (sign-mark kind.Parameter class.Colon tt) in
     let f2 = further y o d2 (omega arith) in
     f2 .ready
 
@@ -122,16 +127,16 @@ returns-3 : tie.Need-returns-3
 returns-3 c =
     let y = c .before .before .before .before .before .before .before .before .before .before .before .before .before .before .before .before .before .before .before .before .before .pre in
     let o = opens y (c .before .before .before .before .before .before .before .before .before .before .before .before .before .before .before .before .reserve .ensures) in
-    let d0 = starts 3 AnyN form.parameterRhs (c .before .before .before .before .before .before .before .before .before .before .before .before .before .before .before .before .before .before .before .before .before .args .tree .now) (o .stands) in
+    let d0 = starts kind.Parameter AnyN form.parameterRhs (c .before .before .before .before .before .before .before .before .before .before .before .before .before .before .before .before .before .before .before .before .before .args .tree .now) (o .stands) in
     let x = text (c .before .before .before .before .before .before .before .before .before .before .before .before .before .before .before .before .before .before .before .before .before .args .draft .now)
     (c .before .before .before .before .before .before .before .before .before .before .before .before .before .before .before .before .before .before .before .before .before .args .tokens .now)
     (c .before .before .before .before .before .before .before .before .before .before .before .before .before .before .before .before .before .before .before .before .before .args .count) in
     let name = identifier-class (c .before .before .before .before .before .before .before .before .before .before .before .before .before .before .before .identifier .ensures) (c .before .before .before .before .before .before .before .before .before .before .before .first .given .1) in
-    let e = form.at-parameter (c .before .before .before .before .before .before .before .before .before .before .before .before .before .before .before .before .before .before .before .before .before .args .st .class) (sym (ap (has t.identifiers) (sym (class-at (x .ts)
+    let e = form.at-parameter (c .before .before .before .before .before .before .before .before .before .before .before .before .before .before .before .before .before .before .before .before .before .args .st .class) (sym (ap (has class.identifiers) (sym (class-at (x .ts)
     (c .before .before .before .before .before .before .before .before .before .before .before .before .before .before .before .before .reserve .result .at)) ∙ sym (o .stands .class-is) ∙ o .class-is)) ∙ name) in
-    let d1 = then-named d0 (c .before .before .before .before .before .before .before .before .before .before .before .before .before .before .before .identifier .ensures) (c .before .before .before .before .before .before .before .before .before .before .before .first .given .1) (name-role 3 (tokAt x
+    let d1 = then-named d0 (c .before .before .before .before .before .before .before .before .before .before .before .before .before .before .before .identifier .ensures) (c .before .before .before .before .before .before .before .before .before .before .before .first .given .1) (name-role kind.Parameter (tokAt x
     (c .before .before .before .before .before .before .before .before .before .before .before .before .before .before .before .before .reserve .result .at) .class) form.named-parameter name) in
-    let d2 = then-eats d1 (omega arith) (c .before .before .before .before .before .before .before .before .before .eat .ensures) (c .before .before .before .before .before .before .before .colon .given .1) (sign-mark 3 15 tt) in
+    let d2 = then-eats d1 (omega arith) (c .before .before .before .before .before .before .before .before .before .eat .ensures) (c .before .before .before .before .before .before .before .colon .given .1) (sign-mark kind.Parameter class.Colon tt) in
     then-passed d2 (c .before .match3 .keys2) (enters form.parameter-rule y e o) (c .before .before .before .before .ty .ensures)
 
 close-requires : tie.Need-close-requires
@@ -146,39 +151,19 @@ returns-4 : tie.Need-returns-4
 returns-4 c =
     let y = c .before .before .before .before .before .before .before .before .before .before .before .before .before .before .before .before .before .before .before .before .before .before .before .before .before .before .pre in
     let o = opens y (c .before .before .before .before .before .before .before .before .before .before .before .before .before .before .before .before .before .before .before .before .before .reserve .ensures) in
-    let d0 = starts 3 AnyN form.parameterRhs (c .before .before .before .before .before .before .before .before .before .before .before .before .before .before .before .before .before .before .before .before .before .before .before .before .before .before .args .tree .now) (o .stands) in
+    let d0 = starts kind.Parameter AnyN form.parameterRhs (c .before .before .before .before .before .before .before .before .before .before .before .before .before .before .before .before .before .before .before .before .before .before .before .before .before .before .args .tree .now) (o .stands) in
     let x = text (c .before .before .before .before .before .before .before .before .before .before .before .before .before .before .before .before .before .before .before .before .before .before .before .before .before .before .args .draft .now)
     (c .before .before .before .before .before .before .before .before .before .before .before .before .before .before .before .before .before .before .before .before .before .before .before .before .before .before .args .tokens .now)
     (c .before .before .before .before .before .before .before .before .before .before .before .before .before .before .before .before .before .before .before .before .before .before .before .before .before .before .args .count) in
     let name = identifier-class (c .before .before .before .before .before .before .before .before .before .before .before .before .before .before .before .before .before .before .before .before .identifier .ensures) (c .before .before .before .before .before .before .before .before .before .before .before .before .before .before .before .before .first .given .1) in
-    let e = form.at-parameter (c .before .before .before .before .before .before .before .before .before .before .before .before .before .before .before .before .before .before .before .before .before .before .before .before .before .before .args .st .class) (sym (ap (has t.identifiers) (sym (class-at (x .ts)
+    let e = form.at-parameter (c .before .before .before .before .before .before .before .before .before .before .before .before .before .before .before .before .before .before .before .before .before .before .before .before .before .before .args .st .class) (sym (ap (has class.identifiers) (sym (class-at (x .ts)
     (c .before .before .before .before .before .before .before .before .before .before .before .before .before .before .before .before .before .before .before .before .before .reserve .result .at)) ∙ sym (o .stands .class-is) ∙ o .class-is)) ∙ name) in
     let d1 = then-named d0 (c .before .before .before .before .before .before .before .before .before .before .before .before .before .before .before .before .before .before .before .before .identifier .ensures) (c .before .before .before .before .before .before .before .before .before .before .before .before .before .before .before .before .first .given .1)
-    (name-role 3 (tokAt x (c .before .before .before .before .before .before .before .before .before .before .before .before .before .before .before .before .before .before .before .before .before .reserve .result .at) .class) form.named-parameter name) in
-    let d2 = then-eats d1 (omega arith) (c .before .before .before .before .before .before .before .before .before .before .before .before .before .before .eat .ensures) (c .before .before .before .before .before .before .before .before .before .before .before .before .colon .given .1) (sign-mark 3 15 tt) in
+    (name-role kind.Parameter (tokAt x (c .before .before .before .before .before .before .before .before .before .before .before .before .before .before .before .before .before .before .before .before .before .reserve .result .at) .class) form.named-parameter name) in
+    let d2 = then-eats d1 (omega arith) (c .before .before .before .before .before .before .before .before .before .before .before .before .before .before .eat .ensures) (c .before .before .before .before .before .before .before .before .before .before .before .before .colon .given .1) (sign-mark kind.Parameter class.Colon tt) in
     let d3 = then-node d2 (c .before .before .before .before .before .before .before .before .before .ty .ensures) (c .before .before .before .before .before .inner .given .1) in
-    as-nonterminal form.parameter-rule y e (read (shut 1 tt y o (d3 .amid) (omega arith) (form.parameter-head (d3 .amid)) tt ParameterKind refl (c .before .before .close .ensures)))
+    as-nonterminal form.parameter-rule y e (read (shut ParameterShape tt y o (d3 .amid) (omega arith) (form.parameter-head (d3 .amid)) tt ParameterKind refl (c .before .before .close .ensures)))
 
 pub parameter-spec : {M : Type 1} → statement M
-parameter-spec =
-    tie.close
-    (tie.spec
-    reserve-requires
-    identifier-requires
-    enum-known-first
-    enum-told
-    same-length
-    returns
-    eat-requires
-    enum-known-colon
-    enum-told-2
-    same-length-2
-    returns-2
-    ty-requires
-    enum-known-inner
-    enum-told-3
-    same-length-3
-    returns-3
-    close-requires
-    same-length-4
-    returns-4)
+parameter-spec = tie.close (tie.spec reserve-requires identifier-requires enum-known-first enum-told same-length returns eat-requires enum-known-colon
+    enum-told-2 same-length-2 returns-2 ty-requires enum-known-inner enum-told-3 same-length-3 returns-3 close-requires same-length-4 returns-4)

@@ -10,7 +10,7 @@ use Rattle.theory.specs.Grammar.{Sym, tok, nt}
 use Rattle.theory.specs.Machine.{expand}
 use Rattle.grammar.specs.Tables.{table}
 use Rattle.parse.specs.Contract.{text, tokAt, Ready, Parsed, read, stuck, Node, TypeKind}
-use Rattle.parse.specs.Infos.{ParameterKind, FunctionKind}
+use Rattle.parse.specs.Infos.{ParameterKind, FunctionKind, public, result}
 use Rattle.parse.proofs.Laws.{class-at, Amid, starts, then-turns, then-passed, done}
 use Rattle.parse.proofs.Shuts.{opens, as-nonterminal, enters}
 use Rattle.parse.proofs.Chain.{further, onward, advances, then-eats, then-lacks, then-node}
@@ -25,8 +25,12 @@ use Rattle.parse.proofs.Forms.{shut}
 use Rattle.parse.proofs.ProgramForms as form
 use Rattle.kinds.specs.Shape.{has}
 use Rattle.kinds.specs.Fields.{counted}
-use Rattle.lexer.specs.Classes as t
+use Rattle.lexer.specs.Classes as class
 use Rattle.parse.proofs.NameSteps.{refuses-nt}
+use Rattle.lexer.specs.Classes as class
+use Rattle.own.specs.Kinds as kind
+use Rattle.grammar.specs.TablesIndex.{n-function-optional-Arrow, n-function-optional-Pub, n-type}
+use Rattle.grammar.specs.ShapeKind.{FunctionShape, ParameterShape}
 use Rattle.parse.proofs.program.parameters.Statement.{statement}
 use Rattle.parse.proofs.program.parameters.Tie as tie
 use Rattle.parse.proofs.program.parameters.Reads as reads
@@ -88,7 +92,7 @@ returns-2 c =
       same = a;
       commas = b;
       count-is = ap (counted
-          (3 ∷ [])) e ∙ form.many-more (v .w) (it .kind) (it .low) (it .high) (it .first) (v .so .0) (it .its-kind);
+          (kind.Parameter ∷ [])) e ∙ form.many-more (v .w) (it .kind) (it .low) (it .high) (it .first) (v .so .0) (it .its-kind);
     }))
 
 advance-requires : tie.Need-advance-requires Inv-loop μ-loop
@@ -132,22 +136,5 @@ returns-3 c =
     read (lined.lined-ends form.parameter-rows y v (c .if1 .left) (λ J K m a b e. record { same = a; commas = b; count-is = e .0 }))
 
 pub parameters-spec : {M : Type 1} → statement M
-parameters-spec =
-    tie.close
-    (tie.spec
-    Inv-loop
-    μ-loop
-    loop-holds
-    parameter-requires
-    enum-known-inner
-    enum-told
-    same-length
-    returns
-    add-number
-    same-length-2
-    returns-2
-    advance-requires
-    loop-less
-    loop-again
-    same-length-3
-    returns-3)
+parameters-spec = tie.close (tie.spec Inv-loop μ-loop loop-holds parameter-requires enum-known-inner enum-told same-length returns add-number
+    same-length-2 returns-2 advance-requires loop-less loop-again same-length-3 returns-3)

@@ -3,13 +3,14 @@
 use Prim.Native.Nat.{ℕ, _+_, _-_, _*_, _<_, _≤_}
 use mathlib.Core.Path.{_≡_, refl, sym, ap, _∙_}
 use mathlib.Core.List.{List, [], _∷_, _++_}
+use borrow.Author.Needs.{needs}
 use native.Mathlib.Omega.{arith}
 use lib.ListN.{length, getD}
 use Rattle.theory.specs.Grammar.{Sym, tok, nt}
 use Rattle.theory.specs.Machine.{expand}
 use Rattle.grammar.specs.Tables.{table}
 use Rattle.parse.specs.Contract.{text, tokAt, Ready, Parsed, read, stuck, Node, TypeKind}
-use Rattle.parse.specs.Infos.{ParameterKind, FunctionKind}
+use Rattle.parse.specs.Infos.{ParameterKind, FunctionKind, public, result}
 use Rattle.parse.proofs.Laws.{class-at, Amid, starts, then-turns, then-passed, done}
 use Rattle.parse.proofs.Shuts.{opens, as-nonterminal, enters}
 use Rattle.parse.proofs.Chain.{further, onward, advances, then-eats, then-lacks, then-node}
@@ -24,9 +25,12 @@ use Rattle.parse.proofs.Forms.{shut}
 use Rattle.parse.proofs.ProgramForms as form
 use Rattle.kinds.specs.Shape.{has}
 use Rattle.kinds.specs.Fields.{counted}
-use Rattle.lexer.specs.Classes as t
+use Rattle.lexer.specs.Classes as class
 use Rattle.parse.proofs.NameSteps.{refuses-nt}
-use borrow.Author.Needs.{needs}
+use Rattle.lexer.specs.Classes as class
+use Rattle.own.specs.Kinds as kind
+use Rattle.grammar.specs.TablesIndex.{n-function-optional-Arrow, n-function-optional-Pub, n-type}
+use Rattle.grammar.specs.ShapeKind.{FunctionShape, ParameterShape}
 use Rattle.parse.proofs.program.public.Statement.{statement}
 use Rattle.parse.proofs.program.public.Tie as tie
 use Rattle.parse.proofs.program.public.Reads as reads
@@ -37,7 +41,7 @@ returns : tie.Need-returns
 returns c =
     let y = c .before .before .before .before .pre in
     let cls = sym (y .stands .class-is) in
-    λ l. let d = starts 0 AnyN (nt 1 ∷ []) l (y .stands) in read (form.nothing-went 1 1 tt (then-turns [] d form.flat-public (ap (expand table 1) cls ∙ form.no-public (c .if1 .taken))))
+    λ l. let d = starts 0 AnyN (nt n-function-optional-Pub ∷ []) l (y .stands) in read (form.nothing-went class.Pub public tt (then-turns [] d form.flat-public (ap (expand table n-function-optional-Pub) cls ∙ form.no-public (c .if1 .taken))))
 
 advance-requires : tie.Need-advance-requires
 advance-requires c κs =
@@ -47,7 +51,7 @@ returns-2 : tie.Need-returns-2
 returns-2 c =
     let y = c .before .before .before .before .before .pre in
     let cls = sym (y .stands .class-is) in
-    λ l. let d = starts 0 AnyN (nt 1 ∷ []) l (y .stands) in let e = then-turns (tok 1 ∷ []) d form.flat-public (ap (expand table 1) cls ∙ form.is-public (c .before .if1 .left)) in read (form.public-went (advances e (c .before .if1 .left) (omega arith) (c .advance .ensures) (sign-mark 0 1 tt)))
+    λ l. let d = starts 0 AnyN (nt n-function-optional-Pub ∷ []) l (y .stands) in let e = then-turns (tok class.Pub ∷ []) d form.flat-public (ap (expand table n-function-optional-Pub) cls ∙ form.is-public (c .before .if1 .left)) in read (form.public-went (advances e (c .before .if1 .left) (omega arith) (c .advance .ensures) (sign-mark 0 class.Pub tt)))
 
 pub public-spec : {M : Type 1} → statement M
 public-spec = tie.close (tie.spec returns advance-requires returns-2)

@@ -3,6 +3,7 @@
 use native.Mathlib.Omega.{arith}
 use denote.Ref.{now}
 use Prim.Native.Nat.{_+_, _*_}
+use Rattle.text.specs.Widths.{tokWide}
 use Rattle.parse.proofs.Tokens.{token-in, token-out, token-beyond}
 use borrow.Author.Needs.{needs}
 use Rattle.parse.proofs.token.token.Statement.{statement}
@@ -42,10 +43,10 @@ shared-slice-read-stop : tie.Need-shared-slice-read-stop
 shared-slice-read-stop c = search needs
 
 cast-class : tie.Need-cast-class
-cast-class c = omega (arith, c .shared-slice-known5 .given (3 * c .before .before .before .before .before .before .before .args .at + 1))
+cast-class c = omega (arith, c .shared-slice-known5 .given (tokWide * c .before .before .before .before .before .before .before .args .at + 1))
 
 cast-class-2 : tie.Need-cast-class-2
-cast-class-2 c = omega (arith, c .shared-slice-known5 .given (3 * c .before .before .before .before .before .before .before .args .at + 2))
+cast-class-2 c = omega (arith, c .shared-slice-known5 .given (tokWide * c .before .before .before .before .before .before .before .args .at + 2))
 
 class-requires : tie.Need-class-requires
 class-requires c κs = search needs

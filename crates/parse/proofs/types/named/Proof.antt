@@ -3,6 +3,7 @@
 use Prim.Native.Nat.{ℕ, _+_, _-_, _*_, _<_, _≤_}
 use mathlib.Core.Path.{_≡_, refl, sym, ap, _∙_}
 use mathlib.Core.List.{List, [], _∷_, _++_}
+use borrow.Author.Needs.{needs}
 use native.Mathlib.Omega.{arith}
 use lib.ListN.{length, getD}
 use Rattle.theory.specs.Grammar.{Sym, tok, nt}
@@ -20,7 +21,10 @@ use Rattle.parse.proofs.Lined.{AnyN, Lined}
 use Rattle.parse.proofs.Lined as lined
 use Rattle.parse.proofs.Forms.{shut, shut-judged, number-at, value-is, value-text, first-is}
 use Rattle.parse.proofs.TypeForms as form
-use borrow.Author.Needs.{needs}
+use Rattle.lexer.specs.Classes as class
+use Rattle.own.specs.Kinds as kind
+use Rattle.grammar.specs.TablesIndex.{n-type}
+use Rattle.grammar.specs.ShapeKind.{ArrayTypeShape, EitherTypeShape, ListTypeShape, NamedTypeShape, OptionTypeShape, TupleTypeShape}
 use Rattle.parse.proofs.types.named.Statement.{statement}
 use Rattle.parse.proofs.types.named.Tie as tie
 use Rattle.parse.proofs.types.named.Reads as reads
@@ -60,7 +64,7 @@ returns c =
     let d1 = advances-one d0 form.flat-named (form.at-named (c .before .before .before .before .before .before .before .before .before .before .args .st .class) e) (o .class-is) (form.named-pos (c .before .before .before .before .before .before .before .before .before .before .args .st .class) e) (c .before .before .before .before .before .advance .ensures)
     (form.named-role (partOf (c .before .before .before .before .before .before .before .before .before .before .args .draft .now) (c .before .before .before .before .before .before .before .before .before .before .args .st .start) (c .before .before .before .before .before .before .before .before .before .before .args .st .stop))
     (c .before .before .before .before .before .before .before .before .before .before .args .st .class) (c .before .before .before .before .type-name .ensures) (c .before .before .before .before .before .before .before .before .before .before .args .st .class)) in
-    as-nonterminal form.named-rule y e (read (shut 5 tt y o d1 (omega arith) (form.named-head (c .before .before .before .before .before .before .before .before .before .before .args .draft .now) (c .before .before .before .before .before .before .before .before .before .before .args .tokens .now)
+    as-nonterminal form.named-rule y e (read (shut NamedTypeShape tt y o d1 (omega arith) (form.named-head (c .before .before .before .before .before .before .before .before .before .before .args .draft .now) (c .before .before .before .before .before .before .before .before .before .before .args .tokens .now)
     (c .before .before .before .before .before .before .before .before .before .before .args .count) (c .before .before .before .before .before .before .reserve .result) (y .stands) (o .at-is) (c .before .before .before .before .type-name .ensures)) (form.named-unturned (partOf
     (c .before .before .before .before .before .before .before .before .before .before .args .draft .now) (c .before .before .before .before .before .before .before .before .before .before .args .st .start) (c .before .before .before .before .before .before .before .before .before .before .args .st .stop))
     (c .before .before .before .before .before .before .before .before .before .before .args .st .class) (c .before .before .before .before .type-name .ensures)) TypeKind (form.named-kind (partOf (c .before .before .before .before .before .before .before .before .before .before .args .draft .now)
@@ -68,12 +72,4 @@ returns c =
     (c .before .before .close .ensures)))
 
 pub named-spec : {M : Type 1} → statement M
-named-spec =
-    tie.close
-    (tie.spec
-    reserve-requires
-    advance-requires
-    type-name-requires
-    close-requires
-    same-length
-    returns)
+named-spec = tie.close (tie.spec reserve-requires advance-requires type-name-requires close-requires same-length returns)

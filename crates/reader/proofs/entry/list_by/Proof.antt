@@ -1,26 +1,18 @@
 -- Made by tools/cycle.py from tools/parse_answers: the answers are what people read and edit.
 -- Assumes nothing.
-use mathlib.Core.Path.{_≡_, refl, sym, ap, _∙_}
-use mathlib.Core.List.{[]}
-use Prim.Native.Nat.{_*_}
+use mathlib.Core.Path.{refl}
+use borrow.Author.Needs.{needs}
 use native.Mathlib.Omega.{arith}
-use lib.ListN.{length, length-replicate}
-use lib.Seq.{sets}
-use Rattle.lexer.specs.Limits.{draftLimits}
-use Rattle.text.specs.Widths.{recWide}
-use Rattle.own.specs.Words.{recs}
-use Rattle.grammar.specs.Answer as answers
-use Rattle.grammar.specs.Lines as spec
-use Rattle.reader.proofs.LineLaws.{digits-held, lines-long}
+use lib.ListN.{length}
 use Rattle.reader.specs.Listed.{listingOf}
 use Rattle.reader.specs.Short.{short-listing}
+use Rattle.reader.proofs.LineLaws.{all-listed, refusal-listed}
 use Rattle.reader.proofs.EntryLaws as law
-use borrow.Author.Needs.{needs}
 use Rattle.reader.proofs.entry.list_by.Statement.{statement}
 use Rattle.reader.proofs.entry.list_by.Tie as tie
 use Rattle.reader.proofs.entry.list_by.Reads as reads
 use Rattle.reader.proofs.entry.list_by.Lts as lts
-use Rattle.reader.proofs.entry.accepted.Reads as accepted-reads
+use Rattle.lines.proofs.list.Reads as list-reads
 use Rattle.reader.proofs.entry.refusal.Reads as refusal-reads
 use Rattle.reader.proofs.read.Reads as read-reads
 
@@ -32,17 +24,9 @@ enum-known-reading : tie.Need-enum-known-reading
 enum-known-reading c =
     search needs
 
-accepted-requires : tie.Need-accepted-requires
-accepted-requires c κs =
-    let d = c .before .before .before .before .before .before .before .before .before .before .before .before .before .before .before .before .args .draft .now in
-    let x = length (c .before .before .before .before .before .before .before .before .before .before .before .before .before .before .before .before .args .tokens .now) in
-    let y = length (c .before .before .before .before .before .before .before .before .before .before .before .before .before .before .before .before .args .tree .now) in
-    let t = c .before .before .before .before .before .before .before .before .before .read .last .1 .1 .0 in
-    let n = c .before .before .before .reading .given .0 .0 in
-    let m = c .before .before .before .reading .given .0 .1 .0 in
-    let a = c .before .before .before .before .before .before .before .before .before .read .ensures .1 .1 .1 .accepts n m .0 (c .before .before .before .reading .given .1) in
-    let e = c .before .before .before .before .before .before .before .before .before .read .ensures .1 .1 .0 in
-    (c .before .before .before .before .before .before .before .before .before .before .before .before .before .before .before .before .pre, law.records-fit d t x y n m a e)
+list-requires : tie.Need-list-requires
+list-requires c κs =
+    search needs
 
 enum-known-reading-2 : tie.Need-enum-known-reading-2
 enum-known-reading-2 c =
@@ -50,7 +34,7 @@ enum-known-reading-2 c =
 
 refusal-requires : tie.Need-refusal-requires
 refusal-requires c κs =
-    c .before .before .before .before .before .before .before .before .before .before .before .before .before .before .before .pre
+    search needs
 
 same-length : tie.Need-same-length
 same-length c =
@@ -75,7 +59,8 @@ returns c =
     let m = c .before .before .before .before .before .before .reading .given .0 .1 .0 in
     let a = c .before .before .before .before .before .before .before .before .before .before .before .before .read .ensures .1 .1 .1 .accepts n m .0 (c .before .before .before .before .before .before .reading .given .1) in
     let e = c .before .before .before .before .before .before .before .before .before .before .before .before .read .ensures .1 .1 .0 in
-    law.accepted-is d t x y n m z (c .before .before .accepted .ensures .0) (c .before .before .accepted .ensures .1) a e
+    let l = all-listed t m z (law.records-fit d t x y n m a e) (c .before .before .list .ensures .0) (c .before .before .list .ensures .1) in
+    law.accepted-is d t x y n m z (l .0) (l .1) a e
 
 same-length-4 : tie.Need-same-length-4
 same-length-4 c =
@@ -101,19 +86,5 @@ returns-2 c =
     law.refused-is d x y c2 p z (c .before .before .refusal .ensures .0) (c .before .before .refusal .ensures .1) b
 
 pub list-by-spec : {M : Type 1} → statement M
-list-by-spec =
-    tie.close
-    (tie.spec
-    read-requires
-    enum-known-reading
-    accepted-requires
-    enum-known-reading-2
-    refusal-requires
-    same-length
-    same-length-2
-    same-length-3
-    returns
-    same-length-4
-    same-length-5
-    same-length-6
-    returns-2)
+list-by-spec = tie.close (tie.spec read-requires enum-known-reading list-requires enum-known-reading-2 refusal-requires same-length same-length-2
+    same-length-3 returns same-length-4 same-length-5 same-length-6 returns-2)

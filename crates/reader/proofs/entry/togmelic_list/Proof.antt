@@ -1,31 +1,18 @@
 -- Made by tools/cycle.py from tools/parse_answers: the answers are what people read and edit.
 -- Assumes nothing.
-use mathlib.Core.Path.{_≡_, refl, sym, ap, _∙_}
-use mathlib.Core.List.{[]}
-use Prim.Native.Nat.{_*_}
+use mathlib.Core.Path.{refl}
+use borrow.Author.Needs.{needs}
 use native.Mathlib.Omega.{arith}
-use lib.ListN.{length, length-replicate}
-use lib.Seq.{sets}
-use Rattle.lexer.specs.Limits.{draftLimits}
-use Rattle.text.specs.Widths.{recWide}
-use Rattle.own.specs.Words.{recs}
-use Rattle.grammar.specs.Answer as answers
-use Rattle.grammar.specs.Lines as spec
-use Rattle.reader.proofs.LineLaws.{digits-held, lines-long}
+use lib.ListN.{length}
 use Rattle.reader.specs.Listed.{listingOf}
 use Rattle.reader.specs.Short.{short-listing}
+use Rattle.reader.proofs.LineLaws.{all-listed, refusal-listed}
 use Rattle.reader.proofs.EntryLaws as law
-use borrow.Author.Needs.{needs}
 use Rattle.reader.proofs.entry.togmelic_list.Statement.{statement}
 use Rattle.reader.proofs.entry.togmelic_list.Tie as tie
 use Rattle.reader.proofs.entry.togmelic_list.Reads as reads
 use Rattle.reader.proofs.entry.togmelic_list.Lts as lts
 use Rattle.reader.proofs.entry.list_by.Reads as list-by-reads
-use Rattle.text.proofs.clear_bytes.Reads as clear-bytes-reads
-
-clear-bytes-requires : tie.Need-clear-bytes-requires
-clear-bytes-requires c κs =
-    search needs
 
 slice-aggregate-list-by : tie.Need-slice-aggregate-list-by
 slice-aggregate-list-by c =
@@ -37,8 +24,7 @@ slice-aggregate-list-by-2 c =
 
 list-by-requires : tie.Need-list-by-requires
 list-by-requires c κs =
-    let z = length (c .before .before .before .before .before .before .before .before .before .before .args .out .now) in
-    law.zeros-long z (c .before .before .before .before .before .before .clear-bytes .ensures)
+    search needs
 
 same-length : tie.Need-same-length
 same-length c =
@@ -46,11 +32,9 @@ same-length c =
 
 returns : tie.Need-returns
 returns c =
-    let d = c .before .before .before .before .before .before .before .before .before .before .before .before .before .before .before .args .draft .now in
-    let z = length (c .before .before .before .before .before .before .before .before .before .before .before .before .before .before .before .args .out .now) in
-    let k = length (c .before .before .before .before .before .before .before .before .before .before .before .clear-bytes .last .0) in
-    law.whole-is d (spec.listing draftLimits d 1536 (recWide * 512)) z k (short-listing d 512 (c .before .before .before .before .before .before .before .before .if1 .taken) (omega arith)) (c .before .before .before .before .before .before .before .before .before .before .before .clear-bytes .kept .0) (c .before .before .before .before .list-by .ensures .0)
-    (c .before .before .before .before .list-by .ensures .1)
+    let d = c .before .before .before .before .before .before .before .before .before .before .before .args .draft .now in
+    let z = length (c .before .before .before .before .before .before .before .before .before .before .before .args .out .now) in
+    law.whole-is d _ z z (short-listing d _ (c .before .before .before .before .before .before .before .before .if1 .taken) (omega arith)) refl (c .before .before .before .before .list-by .ensures .0) (c .before .before .before .before .list-by .ensures .1)
 
 slice-aggregate-list-by-3 : tie.Need-slice-aggregate-list-by-3
 slice-aggregate-list-by-3 c =
@@ -62,8 +46,7 @@ slice-aggregate-list-by-4 c =
 
 list-by-requires-2 : tie.Need-list-by-requires-2
 list-by-requires-2 c κs =
-    let z = length (c .before .before .before .before .before .before .before .before .before .before .args .out .now) in
-    law.zeros-long z (c .before .before .before .before .before .before .clear-bytes .ensures)
+    search needs
 
 same-length-2 : tie.Need-same-length-2
 same-length-2 c =
@@ -71,23 +54,10 @@ same-length-2 c =
 
 returns-2 : tie.Need-returns-2
 returns-2 c =
-    let d = c .before .before .before .before .before .before .before .before .before .before .before .before .before .before .before .args .draft .now in
-    let z = length (c .before .before .before .before .before .before .before .before .before .before .before .before .before .before .before .args .out .now) in
-    let k = length (c .before .before .before .before .before .before .before .before .before .before .before .clear-bytes .last .0) in
-    law.whole-is d (listingOf d) z k refl (c .before .before .before .before .before .before .before .before .before .before .before .clear-bytes .kept .0) (c .before .before .before .before .list-by2 .ensures .0) (c .before .before .before .before .list-by2 .ensures .1)
+    let d = c .before .before .before .before .before .before .before .before .before .before .before .args .draft .now in
+    let z = length (c .before .before .before .before .before .before .before .before .before .before .before .args .out .now) in
+    law.whole-is d (listingOf d) z z refl refl (c .before .before .before .before .list-by2 .ensures .0) (c .before .before .before .before .list-by2 .ensures .1)
 
 pub togmelic-list-spec : {M : Type 1} → statement M
-togmelic-list-spec =
-    tie.close
-    (tie.spec
-    clear-bytes-requires
-    slice-aggregate-list-by
-    slice-aggregate-list-by-2
-    list-by-requires
-    same-length
-    returns
-    slice-aggregate-list-by-3
-    slice-aggregate-list-by-4
-    list-by-requires-2
-    same-length-2
-    returns-2)
+togmelic-list-spec = tie.close (tie.spec slice-aggregate-list-by slice-aggregate-list-by-2 list-by-requires same-length returns
+    slice-aggregate-list-by-3 slice-aggregate-list-by-4 list-by-requires-2 same-length-2 returns-2)

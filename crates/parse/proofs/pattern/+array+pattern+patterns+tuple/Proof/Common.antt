@@ -21,6 +21,10 @@ use Rattle.parse.proofs.Lined.{AnyN, Lined}
 use Rattle.parse.proofs.Lined as lined
 use Rattle.parse.proofs.Forms.{shut, shut-judged, number-at, value-is, value-text, first-is}
 use Rattle.parse.proofs.PatternForms as form
+use Rattle.lexer.specs.Classes as class
+use Rattle.own.specs.Kinds as kind
+use Rattle.grammar.specs.TablesIndex.{n-pattern}
+use Rattle.grammar.specs.ShapeKind.{ArrayPatternShape, NamePatternShape, TuplePatternShape}
 use borrow.Fn.Kinds.{In}
 use borrow.Fn.PlainCycle.{Measures, is, falls, and}
 use Rattle.parse.proofs.pattern.array.Reads as array
@@ -71,8 +75,7 @@ abbrev pub patterns-at : ℕ → In 3 patterns-kinds.ps
 patterns-at t = and 3 patterns-kinds.ps (is 3 patterns-kinds.ps μ-patterns t) patterns.Pre
 
 abbrev pub patterns-below : ℕ → In 3 patterns-kinds.ps
-patterns-below t =
-    and 3 patterns-kinds.ps (falls 3 patterns-kinds.ps _<_ μ-patterns t) patterns.Pre
+patterns-below t = and 3 patterns-kinds.ps (falls 3 patterns-kinds.ps _<_ μ-patterns t) patterns.Pre
 
 abbrev pub tuple-at : ℕ → In 3 tuple-kinds.ps
 tuple-at t = and 3 tuple-kinds.ps (is 3 tuple-kinds.ps μ-tuple t) tuple.Pre

@@ -21,6 +21,10 @@ use Rattle.parse.proofs.Lined.{AnyN, Lined}
 use Rattle.parse.proofs.Lined as lined
 use Rattle.parse.proofs.Forms.{shut, shut-judged, number-at, value-is, value-text, first-is}
 use Rattle.parse.proofs.PatternForms as form
+use Rattle.lexer.specs.Classes as class
+use Rattle.own.specs.Kinds as kind
+use Rattle.grammar.specs.TablesIndex.{n-pattern}
+use Rattle.grammar.specs.ShapeKind.{ArrayPatternShape, NamePatternShape, TuplePatternShape}
 use borrow.Fn.Kinds.{In}
 use borrow.Fn.PlainCycle.{Measures, is, falls, and}
 use Rattle.parse.proofs.pattern.array.Reads as array
@@ -91,4 +95,4 @@ module _ (t : ℕ) where
   pub pattern-returns-4 : pattern-lts.Need-returns-4 (pattern-calls t) (pattern-at t) pattern.Post
   pattern-returns-4 c =
       let y = c .before .before .before .before .before .pre .1 in
-      stuck (y .stands .within) (λ τ. k-nt (ap (expand table 20) (sym (y .stands .class-is)) ∙ form.no-pattern (c .before .before .before .before .before .args .st .class) (c .before .patterns .result) (c .before .patterns .ensures) (c .match .rest)))
+      stuck (y .stands .within) (λ τ. k-nt (ap (expand table n-pattern) (sym (y .stands .class-is)) ∙ form.no-pattern (c .before .before .before .before .before .args .st .class) (c .before .patterns .result) (c .before .patterns .ensures) (c .match .rest)))

@@ -21,6 +21,10 @@ use Rattle.parse.proofs.Lined.{AnyN, Lined}
 use Rattle.parse.proofs.Lined as lined
 use Rattle.parse.proofs.Forms.{shut, shut-judged, number-at, value-is, value-text, first-is}
 use Rattle.parse.proofs.PatternForms as form
+use Rattle.lexer.specs.Classes as class
+use Rattle.own.specs.Kinds as kind
+use Rattle.grammar.specs.TablesIndex.{n-pattern}
+use Rattle.grammar.specs.ShapeKind.{ArrayPatternShape, NamePatternShape, TuplePatternShape}
 use borrow.Fn.Kinds.{In}
 use borrow.Fn.PlainCycle.{Measures, is, falls, and}
 use Rattle.parse.proofs.pattern.array.Reads as array
@@ -58,9 +62,9 @@ module _ (t : ℕ) where
       let y = c .before .before .before .before .before .before .pre .1 .0 in
       let e = c .before .before .before .before .before .before .pre .1 .1 in
       let o = opens y (c .before .before .reserve .ensures) in
-      let d0 = starts 15 AnyN form.tupleRhs (c .before .before .before .before .before .before .args .tree .now) (o .stands) in
+      let d0 = starts kind.TuplePattern AnyN form.tupleRhs (c .before .before .before .before .before .before .args .tree .now) (o .stands) in
       let k = o .class-is ∙ form.at-tuple (c .before .before .before .before .before .before .args .st .class) e in
-      let d1 = advances d0 k (omega arith) (c .before .advance .ensures) (sign-mark 15 20 tt) in
+      let d1 = advances d0 k (omega arith) (c .before .advance .ensures) (sign-mark kind.TuplePattern class.LParen tt) in
       let f1 = further y o d1 (omega arith) in
       let q = length-text (c .before .before .before .before .before .before .args .draft .now) (c .before .before .before .before .before .before .args .tokens .now) (c .before .before .before .before .before .before .args .count) in
       (omega (arith, f1 .ahead, f1 .within, q, c .before .before .before .before .before .before .pre .0), f1 .ready)
@@ -82,9 +86,9 @@ module _ (t : ℕ) where
       let y = c .before .before .before .before .before .before .before .before .before .before .before .pre .1 .0 in
       let e = c .before .before .before .before .before .before .before .before .before .before .before .pre .1 .1 in
       let o = opens y (c .before .before .before .before .before .before .before .reserve .ensures) in
-      let d0 = starts 15 AnyN form.tupleRhs (c .before .before .before .before .before .before .before .before .before .before .before .args .tree .now) (o .stands) in
+      let d0 = starts kind.TuplePattern AnyN form.tupleRhs (c .before .before .before .before .before .before .before .before .before .before .before .args .tree .now) (o .stands) in
       let k = o .class-is ∙ form.at-tuple (c .before .before .before .before .before .before .before .before .before .before .before .args .st .class) e in
-      let d1 = advances d0 k (omega arith) (c .before .before .before .before .before .before .advance .ensures) (sign-mark 15 20 tt) in
+      let d1 = advances d0 k (omega arith) (c .before .before .before .before .before .before .advance .ensures) (sign-mark kind.TuplePattern class.LParen tt) in
       then-passed d1 (c .before .match .keys2) (enters form.tuple-rule y e o) (c .before .before .before .before .patterns .ensures)
 
   pub tuple-eat-requires : tuple-lts.Need-eat-requires (tuple-calls t) (tuple-at t) tuple.Post
@@ -108,9 +112,9 @@ module _ (t : ℕ) where
       let y = c .before .before .before .before .before .before .before .before .before .before .before .before .before .before .before .pre .1 .0 in
       let e = c .before .before .before .before .before .before .before .before .before .before .before .before .before .before .before .pre .1 .1 in
       let o = opens y (c .before .before .before .before .before .before .before .before .before .before .before .reserve .ensures) in
-      let d0 = starts 15 AnyN form.tupleRhs (c .before .before .before .before .before .before .before .before .before .before .before .before .before .before .before .args .tree .now) (o .stands) in
+      let d0 = starts kind.TuplePattern AnyN form.tupleRhs (c .before .before .before .before .before .before .before .before .before .before .before .before .before .before .before .args .tree .now) (o .stands) in
       let k = o .class-is ∙ form.at-tuple (c .before .before .before .before .before .before .before .before .before .before .before .before .before .before .before .args .st .class) e in
-      let d1 = advances d0 k (omega arith) (c .before .before .before .before .before .before .before .before .before .before .advance .ensures) (sign-mark 15 20 tt) in
+      let d1 = advances d0 k (omega arith) (c .before .before .before .before .before .before .before .before .before .before .advance .ensures) (sign-mark kind.TuplePattern class.LParen tt) in
       let d2 = lined.then-list d1 (c .before .before .before .before .before .before .before .before .patterns .ensures) (c .before .before .before .before .inner .given .1) in
       then-lacks (d2 .amid) (c .before .match2 .keys2) (enters form.tuple-rule y e o) (c .before .before .eat .ensures)
 
@@ -127,9 +131,9 @@ module _ (t : ℕ) where
       let y = c .before .before .before .before .before .before .before .before .before .before .before .before .before .before .before .before .before .before .before .before .pre .1 .0 in
       let e = c .before .before .before .before .before .before .before .before .before .before .before .before .before .before .before .before .before .before .before .before .pre .1 .1 in
       let o = opens y (c .before .before .before .before .before .before .before .before .before .before .before .before .before .before .before .before .reserve .ensures) in
-      let d0 = starts 15 AnyN form.tupleRhs (c .before .before .before .before .before .before .before .before .before .before .before .before .before .before .before .before .before .before .before .before .args .tree .now) (o .stands) in
+      let d0 = starts kind.TuplePattern AnyN form.tupleRhs (c .before .before .before .before .before .before .before .before .before .before .before .before .before .before .before .before .before .before .before .before .args .tree .now) (o .stands) in
       let k = o .class-is ∙ form.at-tuple (c .before .before .before .before .before .before .before .before .before .before .before .before .before .before .before .before .before .before .before .before .args .st .class) e in
-      let d1 = advances d0 k (omega arith) (c .before .before .before .before .before .before .before .before .before .before .before .before .before .before .before .advance .ensures) (sign-mark 15 20 tt) in
+      let d1 = advances d0 k (omega arith) (c .before .before .before .before .before .before .before .before .before .before .before .before .before .before .before .advance .ensures) (sign-mark kind.TuplePattern class.LParen tt) in
       let d2 = lined.then-list d1 (c .before .before .before .before .before .before .before .before .before .before .before .before .before .patterns .ensures) (c .before .before .before .before .before .before .before .before .before .inner .given .1) in
-      let d3 = then-eats (d2 .amid) (omega arith) (c .before .before .before .before .before .before .before .eat .ensures) (c .before .before .before .before .before .paren .given .1) (sign-mark 15 21 tt) in
-      as-nonterminal form.tuple-rule y e (read (shut 9 tt y o d3 (omega arith) (form.tuple-head d3) tt PatternKind (omega arith, omega arith) (c .before .before .close .ensures)))
+      let d3 = then-eats (d2 .amid) (omega arith) (c .before .before .before .before .before .before .before .eat .ensures) (c .before .before .before .before .before .paren .given .1) (sign-mark kind.TuplePattern class.RParen tt) in
+      as-nonterminal form.tuple-rule y e (read (shut TuplePatternShape tt y o d3 (omega arith) (form.tuple-head d3) tt PatternKind (omega arith, omega arith) (c .before .before .close .ensures)))

@@ -21,6 +21,10 @@ use Rattle.parse.proofs.Lined.{AnyN, Lined}
 use Rattle.parse.proofs.Lined as lined
 use Rattle.parse.proofs.Forms.{shut, shut-judged, number-at, value-is, value-text, first-is}
 use Rattle.parse.proofs.TypeForms as form
+use Rattle.lexer.specs.Classes as class
+use Rattle.own.specs.Kinds as kind
+use Rattle.grammar.specs.TablesIndex.{n-type}
+use Rattle.grammar.specs.ShapeKind.{ArrayTypeShape, EitherTypeShape, ListTypeShape, NamedTypeShape, OptionTypeShape, TupleTypeShape}
 use borrow.Fn.Kinds.{In}
 use borrow.Fn.PlainCycle.{Measures, is, falls, and}
 use Rattle.parse.proofs.types.array.Reads as array
@@ -133,30 +137,8 @@ abbrev pub either-calls : ℕ → either-lts.Claims
 either-calls t = (reserve-reads.Asked, reserve-reads.Learnt, advance-reads.Asked, advance-reads.Learnt, close-reads.Asked, close-reads.Learnt, ty-below t, ty.Post, eat-reads.Asked, eat-reads.Learnt)
 
 abbrev pub list-calls : ℕ → list-lts.Claims
-list-calls t = (
-  clean-reads.Asked,
-  clean-reads.Learnt,
-  reserve-reads.Asked,
-  reserve-reads.Learnt,
-  advance-reads.Asked,
-  advance-reads.Learnt,
-  close-reads.Asked,
-  close-reads.Learnt,
-  judged-reads.Asked,
-  judged-reads.Learnt,
-  ty-below t,
-  ty.Post,
-  eat-reads.Asked,
-  eat-reads.Learnt,
-  number-reads.Asked,
-  number-reads.Learnt,
-  low-reads.Asked,
-  low-reads.Learnt,
-  high-reads.Asked,
-  high-reads.Learnt,
-  bound-reads.Asked,
-  bound-reads.Learnt,
-)
+list-calls t =
+    (clean-reads.Asked, clean-reads.Learnt, reserve-reads.Asked, reserve-reads.Learnt, advance-reads.Asked, advance-reads.Learnt, close-reads.Asked, close-reads.Learnt, judged-reads.Asked, judged-reads.Learnt, ty-below t, ty.Post, eat-reads.Asked, eat-reads.Learnt, number-reads.Asked, number-reads.Learnt, low-reads.Asked, low-reads.Learnt, high-reads.Asked, high-reads.Learnt, bound-reads.Asked, bound-reads.Learnt)
 
 abbrev pub option-calls : ℕ → option-lts.Claims
 option-calls t = (reserve-reads.Asked, reserve-reads.Learnt, advance-reads.Asked, advance-reads.Learnt, close-reads.Asked, close-reads.Learnt, ty-below t, ty.Post, eat-reads.Asked, eat-reads.Learnt)

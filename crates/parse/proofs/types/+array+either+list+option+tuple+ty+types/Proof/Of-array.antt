@@ -21,6 +21,10 @@ use Rattle.parse.proofs.Lined.{AnyN, Lined}
 use Rattle.parse.proofs.Lined as lined
 use Rattle.parse.proofs.Forms.{shut, shut-judged, number-at, value-is, value-text, first-is}
 use Rattle.parse.proofs.TypeForms as form
+use Rattle.lexer.specs.Classes as class
+use Rattle.own.specs.Kinds as kind
+use Rattle.grammar.specs.TablesIndex.{n-type}
+use Rattle.grammar.specs.ShapeKind.{ArrayTypeShape, EitherTypeShape, ListTypeShape, NamedTypeShape, OptionTypeShape, TupleTypeShape}
 use borrow.Fn.Kinds.{In}
 use borrow.Fn.PlainCycle.{Measures, is, falls, and}
 use Rattle.parse.proofs.types.array.Reads as array
@@ -72,8 +76,8 @@ module _ (t : ℕ) where
       let y = c .before .before .before .before .before .before .pre .1 .0 in
       let e = c .before .before .before .before .before .before .pre .1 .1 in
       let o = opens y (c .before .before .reserve .ensures) in
-      let d0 = starts 11 AnyN form.arrayRhs (c .before .before .before .before .before .before .args .tree .now) (o .stands) in
-      let d1 = advances d0 (o .class-is ∙ form.at-array (c .before .before .before .before .before .before .args .st .class) e) (omega arith) (c .before .advance .ensures) (sign-mark 11 22 tt) in
+      let d0 = starts kind.ArrayType AnyN form.arrayRhs (c .before .before .before .before .before .before .args .tree .now) (o .stands) in
+      let d1 = advances d0 (o .class-is ∙ form.at-array (c .before .before .before .before .before .before .args .st .class) e) (omega arith) (c .before .advance .ensures) (sign-mark kind.ArrayType class.LBracket tt) in
       let f1 = further y o d1 (omega arith) in
       let q = length-text (c .before .before .before .before .before .before .args .draft .now) (c .before .before .before .before .before .before .args .tokens .now) (c .before .before .before .before .before .before .args .count) in
       (omega (arith, f1 .ahead, f1 .within, q, c .before .before .before .before .before .before .pre .0), f1 .ready)
@@ -95,8 +99,8 @@ module _ (t : ℕ) where
       let y = c .before .before .before .before .before .before .before .before .before .before .before .pre .1 .0 in
       let e = c .before .before .before .before .before .before .before .before .before .before .before .pre .1 .1 in
       let o = opens y (c .before .before .before .before .before .before .before .reserve .ensures) in
-      let d0 = starts 11 AnyN form.arrayRhs (c .before .before .before .before .before .before .before .before .before .before .before .args .tree .now) (o .stands) in
-      let d1 = advances d0 (o .class-is ∙ form.at-array (c .before .before .before .before .before .before .before .before .before .before .before .args .st .class) e) (omega arith) (c .before .before .before .before .before .before .advance .ensures) (sign-mark 11 22 tt) in
+      let d0 = starts kind.ArrayType AnyN form.arrayRhs (c .before .before .before .before .before .before .before .before .before .before .before .args .tree .now) (o .stands) in
+      let d1 = advances d0 (o .class-is ∙ form.at-array (c .before .before .before .before .before .before .before .before .before .before .before .args .st .class) e) (omega arith) (c .before .before .before .before .before .before .advance .ensures) (sign-mark kind.ArrayType class.LBracket tt) in
       then-passed d1 (c .before .match .keys2) (enters form.array-rule y e o) (c .before .before .before .before .ty .ensures)
 
   pub array-eat-requires : array-lts.Need-eat-requires (array-calls t) (array-at t) array.Post
@@ -120,8 +124,8 @@ module _ (t : ℕ) where
       let y = c .before .before .before .before .before .before .before .before .before .before .before .before .before .before .before .pre .1 .0 in
       let e = c .before .before .before .before .before .before .before .before .before .before .before .before .before .before .before .pre .1 .1 in
       let o = opens y (c .before .before .before .before .before .before .before .before .before .before .before .reserve .ensures) in
-      let d0 = starts 11 AnyN form.arrayRhs (c .before .before .before .before .before .before .before .before .before .before .before .before .before .before .before .args .tree .now) (o .stands) in
-      let d1 = advances d0 (o .class-is ∙ form.at-array (c .before .before .before .before .before .before .before .before .before .before .before .before .before .before .before .args .st .class) e) (omega arith) (c .before .before .before .before .before .before .before .before .before .before .advance .ensures) (sign-mark 11 22 tt) in
+      let d0 = starts kind.ArrayType AnyN form.arrayRhs (c .before .before .before .before .before .before .before .before .before .before .before .before .before .before .before .args .tree .now) (o .stands) in
+      let d1 = advances d0 (o .class-is ∙ form.at-array (c .before .before .before .before .before .before .before .before .before .before .before .before .before .before .before .args .st .class) e) (omega arith) (c .before .before .before .before .before .before .before .before .before .before .advance .ensures) (sign-mark kind.ArrayType class.LBracket tt) in
       let d2 = then-node d1 (c .before .before .before .before .before .before .before .before .ty .ensures) (c .before .before .before .before .inner .given .1) in
       then-lacks (d2 .amid) (c .before .match2 .keys2) (enters form.array-rule y e o) (c .before .before .eat .ensures)
 
@@ -146,11 +150,11 @@ module _ (t : ℕ) where
       let y = c .before .before .before .before .before .before .before .before .before .before .before .before .before .before .before .before .before .before .before .pre .1 .0 in
       let e = c .before .before .before .before .before .before .before .before .before .before .before .before .before .before .before .before .before .before .before .pre .1 .1 in
       let o = opens y (c .before .before .before .before .before .before .before .before .before .before .before .before .before .before .before .reserve .ensures) in
-      let d0 = starts 11 AnyN form.arrayRhs (c .before .before .before .before .before .before .before .before .before .before .before .before .before .before .before .before .before .before .before .args .tree .now) (o .stands) in
+      let d0 = starts kind.ArrayType AnyN form.arrayRhs (c .before .before .before .before .before .before .before .before .before .before .before .before .before .before .before .before .before .before .before .args .tree .now) (o .stands) in
       let d1 = advances d0 (o .class-is ∙ form.at-array (c .before .before .before .before .before .before .before .before .before .before .before .before .before .before .before .before .before .before .before .args .st .class) e) (omega arith)
-      (c .before .before .before .before .before .before .before .before .before .before .before .before .before .before .advance .ensures) (sign-mark 11 22 tt) in
+      (c .before .before .before .before .before .before .before .before .before .before .before .before .before .before .advance .ensures) (sign-mark kind.ArrayType class.LBracket tt) in
       let d2 = then-node d1 (c .before .before .before .before .before .before .before .before .before .before .before .before .ty .ensures) (c .before .before .before .before .before .before .before .before .inner .given .1) in
-      let d3 = then-eats (d2 .amid) (omega arith) (c .before .before .before .before .before .before .eat .ensures) (c .before .before .before .before .semi .given .1) (sign-mark 11 16 tt) in
+      let d3 = then-eats (d2 .amid) (omega arith) (c .before .before .before .before .before .before .eat .ensures) (c .before .before .before .before .semi .given .1) (sign-mark kind.ArrayType class.Semi tt) in
       then-lacks d3 (c .before .match3 .keys2) (enters form.array-rule y e o) (c .before .before .eat2 .ensures)
 
   pub array-eat-requires-3 : array-lts.Need-eat-requires-3 (array-calls t) (array-at t) array.Post
@@ -174,12 +178,12 @@ module _ (t : ℕ) where
       let y = c .before .before .before .before .before .before .before .before .before .before .before .before .before .before .before .before .before .before .before .before .before .before .before .pre .1 .0 in
       let e = c .before .before .before .before .before .before .before .before .before .before .before .before .before .before .before .before .before .before .before .before .before .before .before .pre .1 .1 in
       let o = opens y (c .before .before .before .before .before .before .before .before .before .before .before .before .before .before .before .before .before .before .before .reserve .ensures) in
-      let d0 = starts 11 AnyN form.arrayRhs (c .before .before .before .before .before .before .before .before .before .before .before .before .before .before .before .before .before .before .before .before .before .before .before .args .tree .now) (o .stands) in
+      let d0 = starts kind.ArrayType AnyN form.arrayRhs (c .before .before .before .before .before .before .before .before .before .before .before .before .before .before .before .before .before .before .before .before .before .before .before .args .tree .now) (o .stands) in
       let d1 = advances d0 (o .class-is ∙ form.at-array (c .before .before .before .before .before .before .before .before .before .before .before .before .before .before .before .before .before .before .before .before .before .before .before .args .st .class) e) (omega arith)
-      (c .before .before .before .before .before .before .before .before .before .before .before .before .before .before .before .before .before .before .advance .ensures) (sign-mark 11 22 tt) in
+      (c .before .before .before .before .before .before .before .before .before .before .before .before .before .before .before .before .before .before .advance .ensures) (sign-mark kind.ArrayType class.LBracket tt) in
       let d2 = then-node d1 (c .before .before .before .before .before .before .before .before .before .before .before .before .before .before .before .before .ty .ensures) (c .before .before .before .before .before .before .before .before .before .before .before .before .inner .given .1) in
-      let d3 = then-eats (d2 .amid) (omega arith) (c .before .before .before .before .before .before .before .before .before .before .eat .ensures) (c .before .before .before .before .before .before .before .before .semi .given .1) (sign-mark 11 16 tt) in
-      let d4 = then-eats d3 (omega arith) (c .before .before .before .before .before .before .eat2 .ensures) (c .before .before .before .before .decimal .given .1) (keeping-mark 11 28 tt) in
+      let d3 = then-eats (d2 .amid) (omega arith) (c .before .before .before .before .before .before .before .before .before .before .eat .ensures) (c .before .before .before .before .before .before .before .before .semi .given .1) (sign-mark kind.ArrayType class.Semi tt) in
+      let d4 = then-eats d3 (omega arith) (c .before .before .before .before .before .before .eat2 .ensures) (c .before .before .before .before .decimal .given .1) (keeping-mark kind.ArrayType class.DecLiteral tt) in
       then-lacks d4 (c .before .match4 .keys2) (enters form.array-rule y e o) (c .before .before .eat3 .ensures)
 
   pub array-number-requires : array-lts.Need-number-requires (array-calls t) (array-at t) array.Post
@@ -207,16 +211,16 @@ module _ (t : ℕ) where
       let y = c .before .before .before .before .before .before .before .before .before .before .before .before .before .before .before .before .before .before .before .before .before .before .before .before .before .before .before .before .before .before .before .pre .1 .0 in
       let e = c .before .before .before .before .before .before .before .before .before .before .before .before .before .before .before .before .before .before .before .before .before .before .before .before .before .before .before .before .before .before .before .pre .1 .1 in
       let o = opens y (c .before .before .before .before .before .before .before .before .before .before .before .before .before .before .before .before .before .before .before .before .before .before .before .before .before .before .before .reserve .ensures) in
-      let d0 = starts 11 AnyN form.arrayRhs (c .before .before .before .before .before .before .before .before .before .before .before .before .before .before .before .before .before .before .before .before .before .before .before .before .before .before .before .before .before .before .before .args .tree .now) (o .stands) in
+      let d0 = starts kind.ArrayType AnyN form.arrayRhs (c .before .before .before .before .before .before .before .before .before .before .before .before .before .before .before .before .before .before .before .before .before .before .before .before .before .before .before .before .before .before .before .args .tree .now) (o .stands) in
       let d1 = advances d0 (o .class-is ∙ form.at-array (c .before .before .before .before .before .before .before .before .before .before .before .before .before .before .before .before .before .before .before .before .before .before .before .before .before .before .before .before .before .before .before .args .st .class) e) (omega arith)
-      (c .before .before .before .before .before .before .before .before .before .before .before .before .before .before .before .before .before .before .before .before .before .before .before .before .before .before .advance .ensures) (sign-mark 11 22 tt) in
+      (c .before .before .before .before .before .before .before .before .before .before .before .before .before .before .before .before .before .before .before .before .before .before .before .before .before .before .advance .ensures) (sign-mark kind.ArrayType class.LBracket tt) in
       let d2 = then-node d1 (c .before .before .before .before .before .before .before .before .before .before .before .before .before .before .before .before .before .before .before .before .before .before .before .before .ty .ensures)
       (c .before .before .before .before .before .before .before .before .before .before .before .before .before .before .before .before .before .before .before .before .inner .given .1) in
       let d3 = then-eats (d2 .amid) (omega arith) (c .before .before .before .before .before .before .before .before .before .before .before .before .before .before .before .before .before .before .eat .ensures) (c .before .before .before .before .before .before .before .before .before .before .before .before .before .before .before .before .semi .given .1)
-      (sign-mark 11 16 tt) in
-      let d4 = then-eats d3 (omega arith) (c .before .before .before .before .before .before .before .before .before .before .before .before .before .before .eat2 .ensures) (c .before .before .before .before .before .before .before .before .before .before .before .before .decimal .given .1) (keeping-mark 11 28 tt) in
-      let d5 = then-eats d4 (omega arith) (c .before .before .before .before .before .before .before .before .before .before .eat3 .ensures) (c .before .before .before .before .before .before .before .before .bracket .given .1) (sign-mark 11 23 tt) in
+      (sign-mark kind.ArrayType class.Semi tt) in
+      let d4 = then-eats d3 (omega arith) (c .before .before .before .before .before .before .before .before .before .before .before .before .before .before .eat2 .ensures) (c .before .before .before .before .before .before .before .before .before .before .before .before .decimal .given .1) (keeping-mark kind.ArrayType class.DecLiteral tt) in
+      let d5 = then-eats d4 (omega arith) (c .before .before .before .before .before .before .before .before .before .before .eat3 .ensures) (c .before .before .before .before .before .before .before .before .bracket .given .1) (sign-mark kind.ArrayType class.RBracket tt) in
       let n = number-at d5 ∙ sym (value-is (c .before .before .before .before .before .before .before .before .before .before .before .before .before .before .before .before .before .before .before .before .before .before .before .before .before .before .before .before .before .before .before .args .draft .now)
       (c .before .before .before .before .before .before .before .before .before .before .before .before .before .before .before .before .before .before .before .before .before .before .before .before .before .before .before .before .before .before .before .args .tokens .now)
       (c .before .before .before .before .before .before .before .before .before .before .before .before .before .before .before .before .before .before .before .before .before .before .before .before .before .before .before .before .before .before .before .args .count) (d3 .lays .stands) (c .before .before .before .before .before .before .number .ensures)) in
-      as-nonterminal form.array-rule y e (read (shut 7 tt y o d5 (omega arith) (form.wide-is (form.array-head d5) n (c .before .before .before .before .low .ensures) (c .before .before .before .high .ensures)) tt TypeKind (omega arith, omega arith) (c .before .before .close .ensures)))
+      as-nonterminal form.array-rule y e (read (shut ArrayTypeShape tt y o d5 (omega arith) (form.wide-is (form.array-head d5) n (c .before .before .before .before .low .ensures) (c .before .before .before .high .ensures)) tt TypeKind (omega arith, omega arith) (c .before .before .close .ensures)))

@@ -21,6 +21,10 @@ use Rattle.parse.proofs.Lined.{AnyN, Lined}
 use Rattle.parse.proofs.Lined as lined
 use Rattle.parse.proofs.Forms.{shut, shut-judged, number-at, value-is, value-text, first-is}
 use Rattle.parse.proofs.TypeForms as form
+use Rattle.lexer.specs.Classes as class
+use Rattle.own.specs.Kinds as kind
+use Rattle.grammar.specs.TablesIndex.{n-type}
+use Rattle.grammar.specs.ShapeKind.{ArrayTypeShape, EitherTypeShape, ListTypeShape, NamedTypeShape, OptionTypeShape, TupleTypeShape}
 use borrow.Fn.Kinds.{In}
 use borrow.Fn.PlainCycle.{Measures, is, falls, and}
 use Rattle.parse.proofs.types.array.Reads as array
@@ -91,10 +95,10 @@ module _ (t : ℕ) where
       let e = c .before .before .before .before .before .before .before .before .before .before .before .before .before .pre .1 .1 in
       let o = opens-clean y (c .before .before .before .before .before .before .before .before .before .clean .ensures) (c .before .before .before .before .before .before .before .before .reserve .ensures) in
       let k = o .class-is ∙ form.at-list (c .before .before .before .before .before .before .before .before .before .before .before .before .before .args .st .class) e in
-      let a0 = starts 4 AnyN form.listRhs (c .before .before .before .before .before .before .before .before .before .before .before .before .before .args .tree .now) (o .stands) in
-      let a1 = advances a0 k (omega arith) (c .before .before .before .before .before .before .before .advance .ensures) (keeping-mark 4 43 tt) in
+      let a0 = starts kind.Alias AnyN form.listRhs (c .before .before .before .before .before .before .before .before .before .before .before .before .before .args .tree .now) (o .stands) in
+      let a1 = advances a0 k (omega arith) (c .before .before .before .before .before .before .before .advance .ensures) (keeping-mark kind.Alias class.List tt) in
       let a2 = then-turns [] a1 form.flat-list (form.list-alone (λ h. c .before .before .before .before .before .if1 .taken (a1 .lays .stands .class-is ∙ h))) in
-      as-nonterminal form.list-rule y e (read (shut-judged 4 y o a2 (omega arith) (form.list-alone-head a2) tt tt TypeKind (omega arith, omega arith) (c .before .before .before .close .ensures) (c .judged .ensures) (λ is u v. form.list-alone-fault (x .draft) is u)))
+      as-nonterminal form.list-rule y e (read (shut-judged ListTypeShape y o a2 (omega arith) (form.list-alone-head a2) tt tt TypeKind (omega arith, omega arith) (c .before .before .before .close .ensures) (c .judged .ensures) (λ is u v. form.list-alone-fault (x .draft) is u)))
 
   pub list-advance-requires-2 : list-lts.Need-advance-requires-2 (list-calls t) (list-at t) list.Post
   list-advance-requires-2 c κs =
@@ -105,11 +109,11 @@ module _ (t : ℕ) where
       let y = c .before .before .before .before .before .before .before .before .before .before .pre .1 .0 in
       let e = c .before .before .before .before .before .before .before .before .before .before .pre .1 .1 in
       let o = opens-clean y (c .before .before .before .before .before .before .clean .ensures) (c .before .before .before .before .before .reserve .ensures) in
-      let d0 = starts 12 AnyN form.listRhs (c .before .before .before .before .before .before .before .before .before .before .args .tree .now) (o .stands) in
+      let d0 = starts kind.ListType AnyN form.listRhs (c .before .before .before .before .before .before .before .before .before .before .args .tree .now) (o .stands) in
       let k = o .class-is ∙ form.at-list (c .before .before .before .before .before .before .before .before .before .before .args .st .class) e in
-      let d1 = advances d0 k (omega arith) (c .before .before .before .before .advance .ensures) (keeping-mark 12 43 tt) in
-      let d2 = then-turns (tok 26 ∷ nt 8 ∷ tok 17 ∷ tok 28 ∷ tok 27 ∷ []) d1 form.flat-list (form.list-angle (sym (d1 .lays .stands .class-is) ∙ c .before .before .if1 .left)) in
-      let d3 = advances d2 (c .before .before .if1 .left) (omega arith) (c .before .advance2 .ensures) (sign-mark 12 26 tt) in
+      let d1 = advances d0 k (omega arith) (c .before .before .before .before .advance .ensures) (keeping-mark kind.ListType class.List tt) in
+      let d2 = then-turns (tok class.LAngle ∷ nt n-type ∷ tok class.Comma ∷ tok class.DecLiteral ∷ tok class.RAngle ∷ []) d1 form.flat-list (form.list-angle (sym (d1 .lays .stands .class-is) ∙ c .before .before .if1 .left)) in
+      let d3 = advances d2 (c .before .before .if1 .left) (omega arith) (c .before .advance2 .ensures) (sign-mark kind.ListType class.LAngle tt) in
       let f3 = further y o d3 (omega arith) in
       let q = length-text (c .before .before .before .before .before .before .before .before .before .before .args .draft .now) (c .before .before .before .before .before .before .before .before .before .before .args .tokens .now) (c .before .before .before .before .before .before .before .before .before .before .args .count) in
       (omega (arith, f3 .ahead, f3 .within, q, c .before .before .before .before .before .before .before .before .before .before .pre .0), f3 .ready)
@@ -131,11 +135,11 @@ module _ (t : ℕ) where
       let y = c .before .before .before .before .before .before .before .before .before .before .before .before .before .before .before .pre .1 .0 in
       let e = c .before .before .before .before .before .before .before .before .before .before .before .before .before .before .before .pre .1 .1 in
       let o = opens-clean y (c .before .before .before .before .before .before .before .before .before .before .before .clean .ensures) (c .before .before .before .before .before .before .before .before .before .before .reserve .ensures) in
-      let d0 = starts 12 AnyN form.listRhs (c .before .before .before .before .before .before .before .before .before .before .before .before .before .before .before .args .tree .now) (o .stands) in
+      let d0 = starts kind.ListType AnyN form.listRhs (c .before .before .before .before .before .before .before .before .before .before .before .before .before .before .before .args .tree .now) (o .stands) in
       let k = o .class-is ∙ form.at-list (c .before .before .before .before .before .before .before .before .before .before .before .before .before .before .before .args .st .class) e in
-      let d1 = advances d0 k (omega arith) (c .before .before .before .before .before .before .before .before .before .advance .ensures) (keeping-mark 12 43 tt) in
-      let d2 = then-turns (tok 26 ∷ nt 8 ∷ tok 17 ∷ tok 28 ∷ tok 27 ∷ []) d1 form.flat-list (form.list-angle (sym (d1 .lays .stands .class-is) ∙ c .before .before .before .before .before .before .before .if1 .left)) in
-      let d3 = advances d2 (c .before .before .before .before .before .before .before .if1 .left) (omega arith) (c .before .before .before .before .before .before .advance2 .ensures) (sign-mark 12 26 tt) in
+      let d1 = advances d0 k (omega arith) (c .before .before .before .before .before .before .before .before .before .advance .ensures) (keeping-mark kind.ListType class.List tt) in
+      let d2 = then-turns (tok class.LAngle ∷ nt n-type ∷ tok class.Comma ∷ tok class.DecLiteral ∷ tok class.RAngle ∷ []) d1 form.flat-list (form.list-angle (sym (d1 .lays .stands .class-is) ∙ c .before .before .before .before .before .before .before .if1 .left)) in
+      let d3 = advances d2 (c .before .before .before .before .before .before .before .if1 .left) (omega arith) (c .before .before .before .before .before .before .advance2 .ensures) (sign-mark kind.ListType class.LAngle tt) in
       then-passed d3 (c .before .match .keys2) (enters form.list-rule y e o) (c .before .before .before .before .ty .ensures)
 
   pub list-eat-requires : list-lts.Need-eat-requires (list-calls t) (list-at t) list.Post
@@ -159,11 +163,11 @@ module _ (t : ℕ) where
       let y = c .before .before .before .before .before .before .before .before .before .before .before .before .before .before .before .before .before .before .before .pre .1 .0 in
       let e = c .before .before .before .before .before .before .before .before .before .before .before .before .before .before .before .before .before .before .before .pre .1 .1 in
       let o = opens-clean y (c .before .before .before .before .before .before .before .before .before .before .before .before .before .before .before .clean .ensures) (c .before .before .before .before .before .before .before .before .before .before .before .before .before .before .reserve .ensures) in
-      let d0 = starts 12 AnyN form.listRhs (c .before .before .before .before .before .before .before .before .before .before .before .before .before .before .before .before .before .before .before .args .tree .now) (o .stands) in
+      let d0 = starts kind.ListType AnyN form.listRhs (c .before .before .before .before .before .before .before .before .before .before .before .before .before .before .before .before .before .before .before .args .tree .now) (o .stands) in
       let k = o .class-is ∙ form.at-list (c .before .before .before .before .before .before .before .before .before .before .before .before .before .before .before .before .before .before .before .args .st .class) e in
-      let d1 = advances d0 k (omega arith) (c .before .before .before .before .before .before .before .before .before .before .before .before .before .advance .ensures) (keeping-mark 12 43 tt) in
-      let d2 = then-turns (tok 26 ∷ nt 8 ∷ tok 17 ∷ tok 28 ∷ tok 27 ∷ []) d1 form.flat-list (form.list-angle (sym (d1 .lays .stands .class-is) ∙ c .before .before .before .before .before .before .before .before .before .before .before .if1 .left)) in
-      let d3 = advances d2 (c .before .before .before .before .before .before .before .before .before .before .before .if1 .left) (omega arith) (c .before .before .before .before .before .before .before .before .before .before .advance2 .ensures) (sign-mark 12 26 tt) in
+      let d1 = advances d0 k (omega arith) (c .before .before .before .before .before .before .before .before .before .before .before .before .before .advance .ensures) (keeping-mark kind.ListType class.List tt) in
+      let d2 = then-turns (tok class.LAngle ∷ nt n-type ∷ tok class.Comma ∷ tok class.DecLiteral ∷ tok class.RAngle ∷ []) d1 form.flat-list (form.list-angle (sym (d1 .lays .stands .class-is) ∙ c .before .before .before .before .before .before .before .before .before .before .before .if1 .left)) in
+      let d3 = advances d2 (c .before .before .before .before .before .before .before .before .before .before .before .if1 .left) (omega arith) (c .before .before .before .before .before .before .before .before .before .before .advance2 .ensures) (sign-mark kind.ListType class.LAngle tt) in
       let d4 = then-node d3 (c .before .before .before .before .before .before .before .before .ty .ensures) (c .before .before .before .before .inner .given .1) in
       then-lacks (d4 .amid) (c .before .match2 .keys2) (enters form.list-rule y e o) (c .before .before .eat .ensures)
 
@@ -188,13 +192,13 @@ module _ (t : ℕ) where
       let y = c .before .before .before .before .before .before .before .before .before .before .before .before .before .before .before .before .before .before .before .before .before .before .before .pre .1 .0 in
       let e = c .before .before .before .before .before .before .before .before .before .before .before .before .before .before .before .before .before .before .before .before .before .before .before .pre .1 .1 in
       let o = opens-clean y (c .before .before .before .before .before .before .before .before .before .before .before .before .before .before .before .before .before .before .before .clean .ensures) (c .before .before .before .before .before .before .before .before .before .before .before .before .before .before .before .before .before .before .reserve .ensures) in
-      let d0 = starts 12 AnyN form.listRhs (c .before .before .before .before .before .before .before .before .before .before .before .before .before .before .before .before .before .before .before .before .before .before .before .args .tree .now) (o .stands) in
+      let d0 = starts kind.ListType AnyN form.listRhs (c .before .before .before .before .before .before .before .before .before .before .before .before .before .before .before .before .before .before .before .before .before .before .before .args .tree .now) (o .stands) in
       let k = o .class-is ∙ form.at-list (c .before .before .before .before .before .before .before .before .before .before .before .before .before .before .before .before .before .before .before .before .before .before .before .args .st .class) e in
-      let d1 = advances d0 k (omega arith) (c .before .before .before .before .before .before .before .before .before .before .before .before .before .before .before .before .before .advance .ensures) (keeping-mark 12 43 tt) in
-      let d2 = then-turns (tok 26 ∷ nt 8 ∷ tok 17 ∷ tok 28 ∷ tok 27 ∷ []) d1 form.flat-list (form.list-angle (sym (d1 .lays .stands .class-is) ∙ c .before .before .before .before .before .before .before .before .before .before .before .before .before .before .before .if1 .left)) in
-      let d3 = advances d2 (c .before .before .before .before .before .before .before .before .before .before .before .before .before .before .before .if1 .left) (omega arith) (c .before .before .before .before .before .before .before .before .before .before .before .before .before .before .advance2 .ensures) (sign-mark 12 26 tt) in
+      let d1 = advances d0 k (omega arith) (c .before .before .before .before .before .before .before .before .before .before .before .before .before .before .before .before .before .advance .ensures) (keeping-mark kind.ListType class.List tt) in
+      let d2 = then-turns (tok class.LAngle ∷ nt n-type ∷ tok class.Comma ∷ tok class.DecLiteral ∷ tok class.RAngle ∷ []) d1 form.flat-list (form.list-angle (sym (d1 .lays .stands .class-is) ∙ c .before .before .before .before .before .before .before .before .before .before .before .before .before .before .before .if1 .left)) in
+      let d3 = advances d2 (c .before .before .before .before .before .before .before .before .before .before .before .before .before .before .before .if1 .left) (omega arith) (c .before .before .before .before .before .before .before .before .before .before .before .before .before .before .advance2 .ensures) (sign-mark kind.ListType class.LAngle tt) in
       let d4 = then-node d3 (c .before .before .before .before .before .before .before .before .before .before .before .before .ty .ensures) (c .before .before .before .before .before .before .before .before .inner .given .1) in
-      let d5 = then-eats (d4 .amid) (omega arith) (c .before .before .before .before .before .before .eat .ensures) (c .before .before .before .before .comma .given .1) (sign-mark 12 17 tt) in
+      let d5 = then-eats (d4 .amid) (omega arith) (c .before .before .before .before .before .before .eat .ensures) (c .before .before .before .before .comma .given .1) (sign-mark kind.ListType class.Comma tt) in
       then-lacks d5 (c .before .match3 .keys2) (enters form.list-rule y e o) (c .before .before .eat2 .ensures)
 
   pub list-eat-requires-3 : list-lts.Need-eat-requires-3 (list-calls t) (list-at t) list.Post
@@ -219,15 +223,15 @@ module _ (t : ℕ) where
       let e = c .before .before .before .before .before .before .before .before .before .before .before .before .before .before .before .before .before .before .before .before .before .before .before .before .before .before .before .pre .1 .1 in
       let o = opens-clean y (c .before .before .before .before .before .before .before .before .before .before .before .before .before .before .before .before .before .before .before .before .before .before .before .clean .ensures)
       (c .before .before .before .before .before .before .before .before .before .before .before .before .before .before .before .before .before .before .before .before .before .before .reserve .ensures) in
-      let d0 = starts 12 AnyN form.listRhs (c .before .before .before .before .before .before .before .before .before .before .before .before .before .before .before .before .before .before .before .before .before .before .before .before .before .before .before .args .tree .now) (o .stands) in
+      let d0 = starts kind.ListType AnyN form.listRhs (c .before .before .before .before .before .before .before .before .before .before .before .before .before .before .before .before .before .before .before .before .before .before .before .before .before .before .before .args .tree .now) (o .stands) in
       let k = o .class-is ∙ form.at-list (c .before .before .before .before .before .before .before .before .before .before .before .before .before .before .before .before .before .before .before .before .before .before .before .before .before .before .before .args .st .class) e in
-      let d1 = advances d0 k (omega arith) (c .before .before .before .before .before .before .before .before .before .before .before .before .before .before .before .before .before .before .before .before .before .advance .ensures) (keeping-mark 12 43 tt) in
-      let d2 = then-turns (tok 26 ∷ nt 8 ∷ tok 17 ∷ tok 28 ∷ tok 27 ∷ []) d1 form.flat-list (form.list-angle (sym (d1 .lays .stands .class-is) ∙ c .before .before .before .before .before .before .before .before .before .before .before .before .before .before .before .before .before .before .before .if1 .left)) in
+      let d1 = advances d0 k (omega arith) (c .before .before .before .before .before .before .before .before .before .before .before .before .before .before .before .before .before .before .before .before .before .advance .ensures) (keeping-mark kind.ListType class.List tt) in
+      let d2 = then-turns (tok class.LAngle ∷ nt n-type ∷ tok class.Comma ∷ tok class.DecLiteral ∷ tok class.RAngle ∷ []) d1 form.flat-list (form.list-angle (sym (d1 .lays .stands .class-is) ∙ c .before .before .before .before .before .before .before .before .before .before .before .before .before .before .before .before .before .before .before .if1 .left)) in
       let d3 = advances d2 (c .before .before .before .before .before .before .before .before .before .before .before .before .before .before .before .before .before .before .before .if1 .left) (omega arith)
-      (c .before .before .before .before .before .before .before .before .before .before .before .before .before .before .before .before .before .before .advance2 .ensures) (sign-mark 12 26 tt) in
+      (c .before .before .before .before .before .before .before .before .before .before .before .before .before .before .before .before .before .before .advance2 .ensures) (sign-mark kind.ListType class.LAngle tt) in
       let d4 = then-node d3 (c .before .before .before .before .before .before .before .before .before .before .before .before .before .before .before .before .ty .ensures) (c .before .before .before .before .before .before .before .before .before .before .before .before .inner .given .1) in
-      let d5 = then-eats (d4 .amid) (omega arith) (c .before .before .before .before .before .before .before .before .before .before .eat .ensures) (c .before .before .before .before .before .before .before .before .comma .given .1) (sign-mark 12 17 tt) in
-      let d6 = then-eats d5 (omega arith) (c .before .before .before .before .before .before .eat2 .ensures) (c .before .before .before .before .decimal .given .1) (keeping-mark 12 28 tt) in
+      let d5 = then-eats (d4 .amid) (omega arith) (c .before .before .before .before .before .before .before .before .before .before .eat .ensures) (c .before .before .before .before .before .before .before .before .comma .given .1) (sign-mark kind.ListType class.Comma tt) in
+      let d6 = then-eats d5 (omega arith) (c .before .before .before .before .before .before .eat2 .ensures) (c .before .before .before .before .decimal .given .1) (keeping-mark kind.ListType class.DecLiteral tt) in
       then-lacks d6 (c .before .match4 .keys2) (enters form.list-rule y e o) (c .before .before .eat3 .ensures)
 
   pub list-number-requires : list-lts.Need-number-requires (list-calls t) (list-at t) list.Post
@@ -267,25 +271,26 @@ module _ (t : ℕ) where
       let e = c .before .before .before .before .before .before .before .before .before .before .before .before .before .before .before .before .before .before .before .before .before .before .before .before .before .before .before .before .before .before .before .before .before .before .before .before .before .pre .1 .1 in
       let o = opens-clean y (c .before .before .before .before .before .before .before .before .before .before .before .before .before .before .before .before .before .before .before .before .before .before .before .before .before .before .before .before .before .before .before .before .before .clean .ensures)
       (c .before .before .before .before .before .before .before .before .before .before .before .before .before .before .before .before .before .before .before .before .before .before .before .before .before .before .before .before .before .before .before .before .reserve .ensures) in
-      let d0 = starts 12 AnyN form.listRhs (c .before .before .before .before .before .before .before .before .before .before .before .before .before .before .before .before .before .before .before .before .before .before .before .before .before .before .before .before .before .before .before .before .before .before .before .before .before .args .tree .now) (o .stands) in
+      let d0 = starts kind.ListType AnyN form.listRhs
+      (c .before .before .before .before .before .before .before .before .before .before .before .before .before .before .before .before .before .before .before .before .before .before .before .before .before .before .before .before .before .before .before .before .before .before .before .before .before .args .tree .now) (o .stands) in
       let k = o .class-is ∙ form.at-list (c .before .before .before .before .before .before .before .before .before .before .before .before .before .before .before .before .before .before .before .before .before .before .before .before .before .before .before .before .before .before .before .before .before .before .before .before .before .args .st .class) e in
-      let d1 = advances d0 k (omega arith) (c .before .before .before .before .before .before .before .before .before .before .before .before .before .before .before .before .before .before .before .before .before .before .before .before .before .before .before .before .before .before .before .advance .ensures) (keeping-mark 12 43 tt) in
-      let d2 = then-turns (tok 26 ∷ nt 8 ∷ tok 17 ∷ tok 28 ∷ tok 27 ∷ []) d1 form.flat-list (form.list-angle (sym
+      let d1 = advances d0 k (omega arith) (c .before .before .before .before .before .before .before .before .before .before .before .before .before .before .before .before .before .before .before .before .before .before .before .before .before .before .before .before .before .before .before .advance .ensures) (keeping-mark kind.ListType class.List tt) in
+      let d2 = then-turns (tok class.LAngle ∷ nt n-type ∷ tok class.Comma ∷ tok class.DecLiteral ∷ tok class.RAngle ∷ []) d1 form.flat-list (form.list-angle (sym
       (d1 .lays .stands .class-is) ∙ c .before .before .before .before .before .before .before .before .before .before .before .before .before .before .before .before .before .before .before .before .before .before .before .before .before .before .before .before .before .if1 .left)) in
       let d3 = advances d2 (c .before .before .before .before .before .before .before .before .before .before .before .before .before .before .before .before .before .before .before .before .before .before .before .before .before .before .before .before .before .if1 .left) (omega arith)
-      (c .before .before .before .before .before .before .before .before .before .before .before .before .before .before .before .before .before .before .before .before .before .before .before .before .before .before .before .before .advance2 .ensures) (sign-mark 12 26 tt) in
+      (c .before .before .before .before .before .before .before .before .before .before .before .before .before .before .before .before .before .before .before .before .before .before .before .before .before .before .before .before .advance2 .ensures) (sign-mark kind.ListType class.LAngle tt) in
       let d4 = then-node d3 (c .before .before .before .before .before .before .before .before .before .before .before .before .before .before .before .before .before .before .before .before .before .before .before .before .before .before .ty .ensures)
       (c .before .before .before .before .before .before .before .before .before .before .before .before .before .before .before .before .before .before .before .before .before .before .inner .given .1) in
       let d5 = then-eats (d4 .amid) (omega arith) (c .before .before .before .before .before .before .before .before .before .before .before .before .before .before .before .before .before .before .before .before .eat .ensures)
-      (c .before .before .before .before .before .before .before .before .before .before .before .before .before .before .before .before .before .before .comma .given .1) (sign-mark 12 17 tt) in
-      let d6 = then-eats d5 (omega arith) (c .before .before .before .before .before .before .before .before .before .before .before .before .before .before .before .before .eat2 .ensures) (c .before .before .before .before .before .before .before .before .before .before .before .before .before .before .decimal .given .1) (keeping-mark 12 28 tt) in
-      let d7 = then-eats d6 (omega arith) (c .before .before .before .before .before .before .before .before .before .before .before .before .eat3 .ensures) (c .before .before .before .before .before .before .before .before .before .before .angle .given .1) (sign-mark 12 27 tt) in
+      (c .before .before .before .before .before .before .before .before .before .before .before .before .before .before .before .before .before .before .comma .given .1) (sign-mark kind.ListType class.Comma tt) in
+      let d6 = then-eats d5 (omega arith) (c .before .before .before .before .before .before .before .before .before .before .before .before .before .before .before .before .eat2 .ensures) (c .before .before .before .before .before .before .before .before .before .before .before .before .before .before .decimal .given .1) (keeping-mark kind.ListType class.DecLiteral tt) in
+      let d7 = then-eats d6 (omega arith) (c .before .before .before .before .before .before .before .before .before .before .before .before .eat3 .ensures) (c .before .before .before .before .before .before .before .before .before .before .angle .given .1) (sign-mark kind.ListType class.RAngle tt) in
       let v = value-is (c .before .before .before .before .before .before .before .before .before .before .before .before .before .before .before .before .before .before .before .before .before .before .before .before .before .before .before .before .before .before .before .before .before .before .before .before .before .args .draft .now)
       (c .before .before .before .before .before .before .before .before .before .before .before .before .before .before .before .before .before .before .before .before .before .before .before .before .before .before .before .before .before .before .before .before .before .before .before .before .before .args .tokens .now)
       (c .before .before .before .before .before .before .before .before .before .before .before .before .before .before .before .before .before .before .before .before .before .before .before .before .before .before .before .before .before .before .before .before .before .before .before .before .before .args .count) (d5 .lays .stands)
       (c .before .before .before .before .before .before .before .before .number .ensures) in
       let z = form.wide-is (form.list-head d7) (number-at d7 ∙ sym v) (c .before .before .before .before .before .before .low .ensures) (c .before .before .before .before .before .high .ensures) in
-      as-nonterminal form.list-rule y e (read (shut-judged 4 y o d7 (omega arith) z tt tt TypeKind (omega arith, omega arith) (c .before .before .before .before .close2 .ensures) (form.judged-at (c .judged2 .ensures) (c .before .bound .ensures) (d5 .lays .stands .start-is)) (λ is u v. form.list-fault (x .draft) is
+      as-nonterminal form.list-rule y e (read (shut-judged ListTypeShape y o d7 (omega arith) z tt tt TypeKind (omega arith, omega arith) (c .before .before .before .before .close2 .ensures) (form.judged-at (c .judged2 .ensures) (c .before .bound .ensures) (d5 .lays .stands .start-is)) (λ is u v. form.list-fault (x .draft) is
       (c .before .before .before .before .before .before .before .before .number .result) (tokAt x (c .before .before .before .before .before .before .before .before .before .before .before .before .before .before .before .before .before .before .comma .given .0 .0 .at)) u (first-is is u v) (value-text
       (c .before .before .before .before .before .before .before .before .before .before .before .before .before .before .before .before .before .before .before .before .before .before .before .before .before .before .before .before .before .before .before .before .before .before .before .before .before .args .draft .now)
       (c .before .before .before .before .before .before .before .before .before .before .before .before .before .before .before .before .before .before .before .before .before .before .before .before .before .before .before .before .before .before .before .before .before .before .before .before .before .args .tokens .now)

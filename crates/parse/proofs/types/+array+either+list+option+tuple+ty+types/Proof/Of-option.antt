@@ -21,6 +21,10 @@ use Rattle.parse.proofs.Lined.{AnyN, Lined}
 use Rattle.parse.proofs.Lined as lined
 use Rattle.parse.proofs.Forms.{shut, shut-judged, number-at, value-is, value-text, first-is}
 use Rattle.parse.proofs.TypeForms as form
+use Rattle.lexer.specs.Classes as class
+use Rattle.own.specs.Kinds as kind
+use Rattle.grammar.specs.TablesIndex.{n-type}
+use Rattle.grammar.specs.ShapeKind.{ArrayTypeShape, EitherTypeShape, ListTypeShape, NamedTypeShape, OptionTypeShape, TupleTypeShape}
 use borrow.Fn.Kinds.{In}
 use borrow.Fn.PlainCycle.{Measures, is, falls, and}
 use Rattle.parse.proofs.types.array.Reads as array
@@ -81,10 +85,10 @@ module _ (t : ℕ) where
       let e = c .before .before .before .before .before .before .before .before .before .before .before .pre .1 .1 in
       let o = opens y (c .before .before .before .before .before .before .before .reserve .ensures) in
       let k = o .class-is ∙ form.at-option (c .before .before .before .before .before .before .before .before .before .before .before .args .st .class) e in
-      let a0 = starts 4 AnyN form.optionRhs (c .before .before .before .before .before .before .before .before .before .before .before .args .tree .now) (o .stands) in
-      let a1 = advances a0 k (omega arith) (c .before .before .before .before .before .before .advance .ensures) (keeping-mark 4 42 tt) in
+      let a0 = starts kind.Alias AnyN form.optionRhs (c .before .before .before .before .before .before .before .before .before .before .before .args .tree .now) (o .stands) in
+      let a1 = advances a0 k (omega arith) (c .before .before .before .before .before .before .advance .ensures) (keeping-mark kind.Alias class.Option tt) in
       let a2 = then-turns [] a1 form.flat-option (form.option-alone (λ h. c .before .before .before .before .if1 .taken (a1 .lays .stands .class-is ∙ h))) in
-      as-nonterminal form.option-rule y e (read (shut 3 tt y o a2 (omega arith) (form.option-alone-head a2) tt TypeKind (omega arith, omega arith) (c .before .before .close .ensures)))
+      as-nonterminal form.option-rule y e (read (shut OptionTypeShape tt y o a2 (omega arith) (form.option-alone-head a2) tt TypeKind (omega arith, omega arith) (c .before .before .close .ensures)))
 
   pub option-advance-requires-2 : option-lts.Need-advance-requires-2 (option-calls t) (option-at t) option.Post
   option-advance-requires-2 c κs =
@@ -95,11 +99,11 @@ module _ (t : ℕ) where
       let y = c .before .before .before .before .before .before .before .before .before .pre .1 .0 in
       let e = c .before .before .before .before .before .before .before .before .before .pre .1 .1 in
       let o = opens y (c .before .before .before .before .before .reserve .ensures) in
-      let d0 = starts 9 AnyN form.optionRhs (c .before .before .before .before .before .before .before .before .before .args .tree .now) (o .stands) in
+      let d0 = starts kind.OptionType AnyN form.optionRhs (c .before .before .before .before .before .before .before .before .before .args .tree .now) (o .stands) in
       let k = o .class-is ∙ form.at-option (c .before .before .before .before .before .before .before .before .before .args .st .class) e in
-      let d1 = advances d0 k (omega arith) (c .before .before .before .before .advance .ensures) (keeping-mark 9 42 tt) in
-      let d2 = then-turns (tok 26 ∷ nt 8 ∷ tok 27 ∷ []) d1 form.flat-option (form.option-angle (sym (d1 .lays .stands .class-is) ∙ c .before .before .if1 .left)) in
-      let d3 = advances d2 (c .before .before .if1 .left) (omega arith) (c .before .advance2 .ensures) (sign-mark 9 26 tt) in
+      let d1 = advances d0 k (omega arith) (c .before .before .before .before .advance .ensures) (keeping-mark kind.OptionType class.Option tt) in
+      let d2 = then-turns (tok class.LAngle ∷ nt n-type ∷ tok class.RAngle ∷ []) d1 form.flat-option (form.option-angle (sym (d1 .lays .stands .class-is) ∙ c .before .before .if1 .left)) in
+      let d3 = advances d2 (c .before .before .if1 .left) (omega arith) (c .before .advance2 .ensures) (sign-mark kind.OptionType class.LAngle tt) in
       let f3 = further y o d3 (omega arith) in
       let q = length-text (c .before .before .before .before .before .before .before .before .before .args .draft .now) (c .before .before .before .before .before .before .before .before .before .args .tokens .now) (c .before .before .before .before .before .before .before .before .before .args .count) in
       (omega (arith, f3 .ahead, f3 .within, q, c .before .before .before .before .before .before .before .before .before .pre .0), f3 .ready)
@@ -121,11 +125,11 @@ module _ (t : ℕ) where
       let y = c .before .before .before .before .before .before .before .before .before .before .before .before .before .before .pre .1 .0 in
       let e = c .before .before .before .before .before .before .before .before .before .before .before .before .before .before .pre .1 .1 in
       let o = opens y (c .before .before .before .before .before .before .before .before .before .before .reserve .ensures) in
-      let d0 = starts 9 AnyN form.optionRhs (c .before .before .before .before .before .before .before .before .before .before .before .before .before .before .args .tree .now) (o .stands) in
+      let d0 = starts kind.OptionType AnyN form.optionRhs (c .before .before .before .before .before .before .before .before .before .before .before .before .before .before .args .tree .now) (o .stands) in
       let k = o .class-is ∙ form.at-option (c .before .before .before .before .before .before .before .before .before .before .before .before .before .before .args .st .class) e in
-      let d1 = advances d0 k (omega arith) (c .before .before .before .before .before .before .before .before .before .advance .ensures) (keeping-mark 9 42 tt) in
-      let d2 = then-turns (tok 26 ∷ nt 8 ∷ tok 27 ∷ []) d1 form.flat-option (form.option-angle (sym (d1 .lays .stands .class-is) ∙ c .before .before .before .before .before .before .before .if1 .left)) in
-      let d3 = advances d2 (c .before .before .before .before .before .before .before .if1 .left) (omega arith) (c .before .before .before .before .before .before .advance2 .ensures) (sign-mark 9 26 tt) in
+      let d1 = advances d0 k (omega arith) (c .before .before .before .before .before .before .before .before .before .advance .ensures) (keeping-mark kind.OptionType class.Option tt) in
+      let d2 = then-turns (tok class.LAngle ∷ nt n-type ∷ tok class.RAngle ∷ []) d1 form.flat-option (form.option-angle (sym (d1 .lays .stands .class-is) ∙ c .before .before .before .before .before .before .before .if1 .left)) in
+      let d3 = advances d2 (c .before .before .before .before .before .before .before .if1 .left) (omega arith) (c .before .before .before .before .before .before .advance2 .ensures) (sign-mark kind.OptionType class.LAngle tt) in
       then-passed d3 (c .before .match .keys2) (enters form.option-rule y e o) (c .before .before .before .before .ty .ensures)
 
   pub option-eat-requires : option-lts.Need-eat-requires (option-calls t) (option-at t) option.Post
@@ -149,11 +153,11 @@ module _ (t : ℕ) where
       let y = c .before .before .before .before .before .before .before .before .before .before .before .before .before .before .before .before .before .before .pre .1 .0 in
       let e = c .before .before .before .before .before .before .before .before .before .before .before .before .before .before .before .before .before .before .pre .1 .1 in
       let o = opens y (c .before .before .before .before .before .before .before .before .before .before .before .before .before .before .reserve .ensures) in
-      let d0 = starts 9 AnyN form.optionRhs (c .before .before .before .before .before .before .before .before .before .before .before .before .before .before .before .before .before .before .args .tree .now) (o .stands) in
+      let d0 = starts kind.OptionType AnyN form.optionRhs (c .before .before .before .before .before .before .before .before .before .before .before .before .before .before .before .before .before .before .args .tree .now) (o .stands) in
       let k = o .class-is ∙ form.at-option (c .before .before .before .before .before .before .before .before .before .before .before .before .before .before .before .before .before .before .args .st .class) e in
-      let d1 = advances d0 k (omega arith) (c .before .before .before .before .before .before .before .before .before .before .before .before .before .advance .ensures) (keeping-mark 9 42 tt) in
-      let d2 = then-turns (tok 26 ∷ nt 8 ∷ tok 27 ∷ []) d1 form.flat-option (form.option-angle (sym (d1 .lays .stands .class-is) ∙ c .before .before .before .before .before .before .before .before .before .before .before .if1 .left)) in
-      let d3 = advances d2 (c .before .before .before .before .before .before .before .before .before .before .before .if1 .left) (omega arith) (c .before .before .before .before .before .before .before .before .before .before .advance2 .ensures) (sign-mark 9 26 tt) in
+      let d1 = advances d0 k (omega arith) (c .before .before .before .before .before .before .before .before .before .before .before .before .before .advance .ensures) (keeping-mark kind.OptionType class.Option tt) in
+      let d2 = then-turns (tok class.LAngle ∷ nt n-type ∷ tok class.RAngle ∷ []) d1 form.flat-option (form.option-angle (sym (d1 .lays .stands .class-is) ∙ c .before .before .before .before .before .before .before .before .before .before .before .if1 .left)) in
+      let d3 = advances d2 (c .before .before .before .before .before .before .before .before .before .before .before .if1 .left) (omega arith) (c .before .before .before .before .before .before .before .before .before .before .advance2 .ensures) (sign-mark kind.OptionType class.LAngle tt) in
       let d4 = then-node d3 (c .before .before .before .before .before .before .before .before .ty .ensures) (c .before .before .before .before .inner .given .1) in
       then-lacks (d4 .amid) (c .before .match2 .keys2) (enters form.option-rule y e o) (c .before .before .eat .ensures)
 
@@ -170,14 +174,14 @@ module _ (t : ℕ) where
       let y = c .before .before .before .before .before .before .before .before .before .before .before .before .before .before .before .before .before .before .before .before .before .before .before .pre .1 .0 in
       let e = c .before .before .before .before .before .before .before .before .before .before .before .before .before .before .before .before .before .before .before .before .before .before .before .pre .1 .1 in
       let o = opens y (c .before .before .before .before .before .before .before .before .before .before .before .before .before .before .before .before .before .before .before .reserve .ensures) in
-      let d0 = starts 9 AnyN form.optionRhs (c .before .before .before .before .before .before .before .before .before .before .before .before .before .before .before .before .before .before .before .before .before .before .before .args .tree .now) (o .stands) in
+      let d0 = starts kind.OptionType AnyN form.optionRhs (c .before .before .before .before .before .before .before .before .before .before .before .before .before .before .before .before .before .before .before .before .before .before .before .args .tree .now) (o .stands) in
       let k = o .class-is ∙ form.at-option (c .before .before .before .before .before .before .before .before .before .before .before .before .before .before .before .before .before .before .before .before .before .before .before .args .st .class) e in
-      let d1 = advances d0 k (omega arith) (c .before .before .before .before .before .before .before .before .before .before .before .before .before .before .before .before .before .before .advance .ensures) (keeping-mark 9 42 tt) in
-      let d2 = then-turns (tok 26 ∷ nt 8 ∷ tok 27 ∷ []) d1 form.flat-option (form.option-angle (sym (d1 .lays .stands .class-is) ∙ c .before .before .before .before .before .before .before .before .before .before .before .before .before .before .before .before .if1 .left)) in
-      let d3 = advances d2 (c .before .before .before .before .before .before .before .before .before .before .before .before .before .before .before .before .if1 .left) (omega arith) (c .before .before .before .before .before .before .before .before .before .before .before .before .before .before .before .advance2 .ensures) (sign-mark 9 26 tt) in
+      let d1 = advances d0 k (omega arith) (c .before .before .before .before .before .before .before .before .before .before .before .before .before .before .before .before .before .before .advance .ensures) (keeping-mark kind.OptionType class.Option tt) in
+      let d2 = then-turns (tok class.LAngle ∷ nt n-type ∷ tok class.RAngle ∷ []) d1 form.flat-option (form.option-angle (sym (d1 .lays .stands .class-is) ∙ c .before .before .before .before .before .before .before .before .before .before .before .before .before .before .before .before .if1 .left)) in
+      let d3 = advances d2 (c .before .before .before .before .before .before .before .before .before .before .before .before .before .before .before .before .if1 .left) (omega arith) (c .before .before .before .before .before .before .before .before .before .before .before .before .before .before .before .advance2 .ensures) (sign-mark kind.OptionType class.LAngle tt) in
       let d4 = then-node d3 (c .before .before .before .before .before .before .before .before .before .before .before .before .before .ty .ensures) (c .before .before .before .before .before .before .before .before .before .inner .given .1) in
-      let d5 = then-eats (d4 .amid) (omega arith) (c .before .before .before .before .before .before .before .eat .ensures) (c .before .before .before .before .before .angle .given .1) (sign-mark 9 27 tt) in
+      let d5 = then-eats (d4 .amid) (omega arith) (c .before .before .before .before .before .before .before .eat .ensures) (c .before .before .before .before .before .angle .given .1) (sign-mark kind.OptionType class.RAngle tt) in
       let z = form.wide-is (form.option-head d5) (number-at d5 ∙ form.no-value (text (c .before .before .before .before .before .before .before .before .before .before .before .before .before .before .before .before .before .before .before .before .before .before .before .args .draft .now)
       (c .before .before .before .before .before .before .before .before .before .before .before .before .before .before .before .before .before .before .before .before .before .before .before .args .tokens .now)
       (c .before .before .before .before .before .before .before .before .before .before .before .before .before .before .before .before .before .before .before .before .before .before .before .args .count) .draft)) form.zero-low form.zero-high in
-      as-nonterminal form.option-rule y e (read (shut 3 tt y o d5 (omega arith) z tt TypeKind (omega arith, omega arith) (c .before .before .close2 .ensures)))
+      as-nonterminal form.option-rule y e (read (shut OptionTypeShape tt y o d5 (omega arith) z tt TypeKind (omega arith, omega arith) (c .before .before .close2 .ensures)))

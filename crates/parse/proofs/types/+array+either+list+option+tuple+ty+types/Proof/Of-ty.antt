@@ -21,6 +21,10 @@ use Rattle.parse.proofs.Lined.{AnyN, Lined}
 use Rattle.parse.proofs.Lined as lined
 use Rattle.parse.proofs.Forms.{shut, shut-judged, number-at, value-is, value-text, first-is}
 use Rattle.parse.proofs.TypeForms as form
+use Rattle.lexer.specs.Classes as class
+use Rattle.own.specs.Kinds as kind
+use Rattle.grammar.specs.TablesIndex.{n-type}
+use Rattle.grammar.specs.ShapeKind.{ArrayTypeShape, EitherTypeShape, ListTypeShape, NamedTypeShape, OptionTypeShape, TupleTypeShape}
 use borrow.Fn.Kinds.{In}
 use borrow.Fn.PlainCycle.{Measures, is, falls, and}
 use Rattle.parse.proofs.types.array.Reads as array
@@ -144,4 +148,4 @@ module _ (t : ℕ) where
   pub ty-returns-7 : ty-lts.Need-returns-7 (ty-calls t) (ty-at t) ty.Post
   ty-returns-7 c =
       let y = c .before .before .before .before .before .pre .1 in
-      stuck (y .stands .within) (λ τ. k-nt (ap (expand table 8) (sym (y .stands .class-is)) ∙ form.no-type (c .before .before .before .before .before .args .st .class) (c .before .types .result) (c .before .types .ensures) (c .match .rest)))
+      stuck (y .stands .within) (λ τ. k-nt (ap (expand table n-type) (sym (y .stands .class-is)) ∙ form.no-type (c .before .before .before .before .before .args .st .class) (c .before .types .result) (c .before .types .ensures) (c .match .rest)))

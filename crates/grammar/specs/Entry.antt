@@ -1,0 +1,34 @@
+-- What a draft is read as. All that tells one entry of the reader from another stands here, by clauses: what its drafts are made of, what
+-- is handed over of them, and the ownership that is promised of it.
+-- Assumes nothing.
+use mathlib.Core.List.{List}
+use Prim.Native.Nat.{ℕ}
+use Rattle.theory.specs.Ebnf.{Ex}
+use Rattle.own.specs.Tree.{Tok, Node, Rec, records}
+use Rattle.own.specs.Law.{Ownership}
+use Rattle.kinds.specs.Spelled.{Spelled}
+use Rattle.grammar.specs.ShapeKind.{function}
+use Rattle.grammar.specs.TablesIndex.{n-function}
+
+-- One function and then the end: "`Function::parser()` followed by the end".
+pub data Entry : Type 0 where
+  oneFunction : Entry
+
+-- Where the grammar starts: the expression that a whole draft is (Shapes.antt), and the nonterminal that stands for it (Tables.antt).
+abbrev pub startEx : Entry → Ex
+startEx oneFunction = function
+
+abbrev pub startNt : Entry → ℕ
+startNt oneFunction = n-function
+
+-- The records of a draft of so many bytes, from its trees side by side.
+abbrev pub recordsOf : Entry → ℕ → List Node → List Rec
+recordsOf oneFunction len ns = records ns
+
+-- Demand 3 of the tokens and records of a draft of so many bytes.
+abbrev pub Owned : Entry → ℕ → List Tok → List Rec → Type 0
+Owned oneFunction len ts rs = Ownership Spelled ts rs
+
+-- How many records there may be more than tokens.
+abbrev pub over : Entry → ℕ
+over oneFunction = 0

@@ -1,0 +1,4 @@
+pub mod Hex
+pub mod Form
+pub mod Lines
+pub mod Written

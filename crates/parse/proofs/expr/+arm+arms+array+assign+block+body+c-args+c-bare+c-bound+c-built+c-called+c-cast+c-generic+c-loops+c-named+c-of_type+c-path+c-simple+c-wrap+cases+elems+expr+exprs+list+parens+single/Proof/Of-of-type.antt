@@ -1,0 +1,289 @@
+-- Made by tools/cycle.py from tools/parse_answers: the answers are what people read and edit.
+-- Assumes nothing.
+use Prim.Native.Nat.{ℕ, _+_, _-_, _*_, _<_, _≤_}
+use mathlib.Core.Path.{_≡_, refl, sym, ap, _∙_}
+use mathlib.Core.List.{List, [], _∷_, _++_}
+use borrow.Author.Needs.{needs}
+use native.Mathlib.Omega.{arith}
+use lib.ListN.{length, getD}
+use Rattle.text.specs.Part.{partOf}
+use Rattle.theory.specs.Grammar.{Sym, tok, nt}
+use Rattle.theory.specs.Walk.{k-nt}
+use Rattle.theory.specs.Machine.{expand}
+use Rattle.grammar.specs.Tables.{table}
+use Rattle.parse.specs.Contract.{text, classes, tokAt, Ready, reserved, cleaned, Parsed, read, stuck, Node, ExprKind}
+use Rattle.parse.specs.Infos as info
+use Rattle.parse.proofs.Laws.{Amid, starts, then-turns, then-passed}
+use Rattle.parse.proofs.Shuts.{opens, opens-clean, as-nonterminal, enters}
+use Rattle.parse.proofs.Chain.{further, onward, onward-ahead, advances, advances-one, then-eats, then-lacks, then-node}
+use Rattle.parse.proofs.Tokens.{length-text}
+use Rattle.parse.proofs.Roles.{sign-mark, keeping-mark, word-mark}
+use Rattle.parse.proofs.Lined.{AnyN, Lined, finish}
+use Rattle.parse.proofs.Lined as lined
+use Rattle.parse.proofs.NameChain as chain2
+use Rattle.parse.proofs.Forms.{shut, shut-judged, number-at, value-is, value-text, first-is}
+use Rattle.own.specs.Law.{Sort, word, child}
+use Rattle.grammar.specs.Records.{lone}
+use Rattle.parse.proofs.PatternForms as pattern
+use Rattle.parse.proofs.Elements as elem
+use Rattle.parse.proofs.ExprForms as form
+use mathlib.Core.Logic.{_⊎_, inl, inr}
+use Rattle.parse.proofs.ArmForms as armed
+use Rattle.parse.proofs.ArmsLoop as arm-loop
+use Rattle.parse.proofs.MatchForm as match
+use Rattle.parse.proofs.CallForms as call
+use Rattle.parse.proofs.CallLaws as law
+use Rattle.parse.proofs.NameRules as rule
+use Rattle.lexer.specs.Classes as class
+use Rattle.own.specs.Kinds as kind
+use Rattle.grammar.specs.TablesIndex.{n-arguments, n-arm-choice, n-arm-choice-optional-Comma, n-bare-optional-DoubleColon, n-block, n-functionName, n-list-expression, n-named-optional, n-single, n-type}
+use Rattle.grammar.specs.ShapeKind.{ArrayShape, AssignmentShape, BareShape, BlockShape, CastCallShape, FoldingShape, ForWhileShape, ListShape, NamedShape, ParensShape, SimpleCallShape, TypedShape}
+use borrow.Fn.Kinds.{In}
+use borrow.Fn.PlainCycle.{Measures, is, falls, and}
+use Rattle.parse.proofs.expr.arm.Reads as arm
+use Rattle.parse.proofs.expr.arm.Kinds as arm-kinds
+use Rattle.parse.proofs.expr.+arm+arms+array+assign+block+body+c-args+c-bare+c-bound+c-built+c-called+c-cast+c-generic+c-loops+c-named+c-of_type+c-path+c-simple+c-wrap+cases+elems+expr+exprs+list+parens+single.Lts-arm as arm-lts
+use Rattle.parse.proofs.expr.arms.Reads as arms
+use Rattle.parse.proofs.expr.arms.Kinds as arms-kinds
+use Rattle.parse.proofs.expr.+arm+arms+array+assign+block+body+c-args+c-bare+c-bound+c-built+c-called+c-cast+c-generic+c-loops+c-named+c-of_type+c-path+c-simple+c-wrap+cases+elems+expr+exprs+list+parens+single.Lts-arms as arms-lts
+use Rattle.parse.proofs.expr.array.Reads as array
+use Rattle.parse.proofs.expr.array.Kinds as array-kinds
+use Rattle.parse.proofs.expr.+arm+arms+array+assign+block+body+c-args+c-bare+c-bound+c-built+c-called+c-cast+c-generic+c-loops+c-named+c-of_type+c-path+c-simple+c-wrap+cases+elems+expr+exprs+list+parens+single.Lts-array as array-lts
+use Rattle.parse.proofs.expr.assign.Reads as assign
+use Rattle.parse.proofs.expr.assign.Kinds as assign-kinds
+use Rattle.parse.proofs.expr.+arm+arms+array+assign+block+body+c-args+c-bare+c-bound+c-built+c-called+c-cast+c-generic+c-loops+c-named+c-of_type+c-path+c-simple+c-wrap+cases+elems+expr+exprs+list+parens+single.Lts-assign as assign-lts
+use Rattle.parse.proofs.expr.block.Reads as block
+use Rattle.parse.proofs.expr.block.Kinds as block-kinds
+use Rattle.parse.proofs.expr.+arm+arms+array+assign+block+body+c-args+c-bare+c-bound+c-built+c-called+c-cast+c-generic+c-loops+c-named+c-of_type+c-path+c-simple+c-wrap+cases+elems+expr+exprs+list+parens+single.Lts-block as block-lts
+use Rattle.parse.proofs.expr.body.Reads as body
+use Rattle.parse.proofs.expr.body.Kinds as body-kinds
+use Rattle.parse.proofs.expr.+arm+arms+array+assign+block+body+c-args+c-bare+c-bound+c-built+c-called+c-cast+c-generic+c-loops+c-named+c-of_type+c-path+c-simple+c-wrap+cases+elems+expr+exprs+list+parens+single.Lts-body as body-lts
+use Rattle.parse.proofs.expr.c.args.Reads as c·args
+use Rattle.parse.proofs.expr.c.args.Kinds as c·args-kinds
+use Rattle.parse.proofs.expr.+arm+arms+array+assign+block+body+c-args+c-bare+c-bound+c-built+c-called+c-cast+c-generic+c-loops+c-named+c-of_type+c-path+c-simple+c-wrap+cases+elems+expr+exprs+list+parens+single.Lts-c-args as c·args-lts
+use Rattle.parse.proofs.expr.c.bare.Reads as c·bare
+use Rattle.parse.proofs.expr.c.bare.Kinds as c·bare-kinds
+use Rattle.parse.proofs.expr.+arm+arms+array+assign+block+body+c-args+c-bare+c-bound+c-built+c-called+c-cast+c-generic+c-loops+c-named+c-of_type+c-path+c-simple+c-wrap+cases+elems+expr+exprs+list+parens+single.Lts-c-bare as c·bare-lts
+use Rattle.parse.proofs.expr.c.bound.Reads as c·bound
+use Rattle.parse.proofs.expr.c.bound.Kinds as c·bound-kinds
+use Rattle.parse.proofs.expr.+arm+arms+array+assign+block+body+c-args+c-bare+c-bound+c-built+c-called+c-cast+c-generic+c-loops+c-named+c-of_type+c-path+c-simple+c-wrap+cases+elems+expr+exprs+list+parens+single.Lts-c-bound as c·bound-lts
+use Rattle.parse.proofs.expr.c.built.Reads as c·built
+use Rattle.parse.proofs.expr.c.built.Kinds as c·built-kinds
+use Rattle.parse.proofs.expr.+arm+arms+array+assign+block+body+c-args+c-bare+c-bound+c-built+c-called+c-cast+c-generic+c-loops+c-named+c-of_type+c-path+c-simple+c-wrap+cases+elems+expr+exprs+list+parens+single.Lts-c-built as c·built-lts
+use Rattle.parse.proofs.expr.c.called.Reads as c·called
+use Rattle.parse.proofs.expr.c.called.Kinds as c·called-kinds
+use Rattle.parse.proofs.expr.+arm+arms+array+assign+block+body+c-args+c-bare+c-bound+c-built+c-called+c-cast+c-generic+c-loops+c-named+c-of_type+c-path+c-simple+c-wrap+cases+elems+expr+exprs+list+parens+single.Lts-c-called as c·called-lts
+use Rattle.parse.proofs.expr.c.cast.Reads as c·cast
+use Rattle.parse.proofs.expr.c.cast.Kinds as c·cast-kinds
+use Rattle.parse.proofs.expr.+arm+arms+array+assign+block+body+c-args+c-bare+c-bound+c-built+c-called+c-cast+c-generic+c-loops+c-named+c-of_type+c-path+c-simple+c-wrap+cases+elems+expr+exprs+list+parens+single.Lts-c-cast as c·cast-lts
+use Rattle.parse.proofs.expr.c.generic.Reads as c·generic
+use Rattle.parse.proofs.expr.c.generic.Kinds as c·generic-kinds
+use Rattle.parse.proofs.expr.+arm+arms+array+assign+block+body+c-args+c-bare+c-bound+c-built+c-called+c-cast+c-generic+c-loops+c-named+c-of_type+c-path+c-simple+c-wrap+cases+elems+expr+exprs+list+parens+single.Lts-c-generic as c·generic-lts
+use Rattle.parse.proofs.expr.c.loops.Reads as c·loops
+use Rattle.parse.proofs.expr.c.loops.Kinds as c·loops-kinds
+use Rattle.parse.proofs.expr.+arm+arms+array+assign+block+body+c-args+c-bare+c-bound+c-built+c-called+c-cast+c-generic+c-loops+c-named+c-of_type+c-path+c-simple+c-wrap+cases+elems+expr+exprs+list+parens+single.Lts-c-loops as c·loops-lts
+use Rattle.parse.proofs.expr.c.named.Reads as c·named
+use Rattle.parse.proofs.expr.c.named.Kinds as c·named-kinds
+use Rattle.parse.proofs.expr.+arm+arms+array+assign+block+body+c-args+c-bare+c-bound+c-built+c-called+c-cast+c-generic+c-loops+c-named+c-of_type+c-path+c-simple+c-wrap+cases+elems+expr+exprs+list+parens+single.Lts-c-named as c·named-lts
+use Rattle.parse.proofs.expr.c.of_type.Reads as c·of-type
+use Rattle.parse.proofs.expr.c.of_type.Kinds as c·of-type-kinds
+use Rattle.parse.proofs.expr.+arm+arms+array+assign+block+body+c-args+c-bare+c-bound+c-built+c-called+c-cast+c-generic+c-loops+c-named+c-of_type+c-path+c-simple+c-wrap+cases+elems+expr+exprs+list+parens+single.Lts-c-of_type as c·of-type-lts
+use Rattle.parse.proofs.expr.c.path.Reads as c·path
+use Rattle.parse.proofs.expr.c.path.Kinds as c·path-kinds
+use Rattle.parse.proofs.expr.+arm+arms+array+assign+block+body+c-args+c-bare+c-bound+c-built+c-called+c-cast+c-generic+c-loops+c-named+c-of_type+c-path+c-simple+c-wrap+cases+elems+expr+exprs+list+parens+single.Lts-c-path as c·path-lts
+use Rattle.parse.proofs.expr.c.simple.Reads as c·simple
+use Rattle.parse.proofs.expr.c.simple.Kinds as c·simple-kinds
+use Rattle.parse.proofs.expr.+arm+arms+array+assign+block+body+c-args+c-bare+c-bound+c-built+c-called+c-cast+c-generic+c-loops+c-named+c-of_type+c-path+c-simple+c-wrap+cases+elems+expr+exprs+list+parens+single.Lts-c-simple as c·simple-lts
+use Rattle.parse.proofs.expr.c.wrap.Reads as c·wrap
+use Rattle.parse.proofs.expr.c.wrap.Kinds as c·wrap-kinds
+use Rattle.parse.proofs.expr.+arm+arms+array+assign+block+body+c-args+c-bare+c-bound+c-built+c-called+c-cast+c-generic+c-loops+c-named+c-of_type+c-path+c-simple+c-wrap+cases+elems+expr+exprs+list+parens+single.Lts-c-wrap as c·wrap-lts
+use Rattle.parse.proofs.expr.cases.Reads as cases
+use Rattle.parse.proofs.expr.cases.Kinds as cases-kinds
+use Rattle.parse.proofs.expr.+arm+arms+array+assign+block+body+c-args+c-bare+c-bound+c-built+c-called+c-cast+c-generic+c-loops+c-named+c-of_type+c-path+c-simple+c-wrap+cases+elems+expr+exprs+list+parens+single.Lts-cases as cases-lts
+use Rattle.parse.proofs.expr.elems.Reads as elems
+use Rattle.parse.proofs.expr.elems.Kinds as elems-kinds
+use Rattle.parse.proofs.expr.+arm+arms+array+assign+block+body+c-args+c-bare+c-bound+c-built+c-called+c-cast+c-generic+c-loops+c-named+c-of_type+c-path+c-simple+c-wrap+cases+elems+expr+exprs+list+parens+single.Lts-elems as elems-lts
+use Rattle.parse.proofs.expr.expr.Reads as expr
+use Rattle.parse.proofs.expr.expr.Kinds as expr-kinds
+use Rattle.parse.proofs.expr.+arm+arms+array+assign+block+body+c-args+c-bare+c-bound+c-built+c-called+c-cast+c-generic+c-loops+c-named+c-of_type+c-path+c-simple+c-wrap+cases+elems+expr+exprs+list+parens+single.Lts-expr as expr-lts
+use Rattle.parse.proofs.expr.exprs.Reads as exprs
+use Rattle.parse.proofs.expr.exprs.Kinds as exprs-kinds
+use Rattle.parse.proofs.expr.+arm+arms+array+assign+block+body+c-args+c-bare+c-bound+c-built+c-called+c-cast+c-generic+c-loops+c-named+c-of_type+c-path+c-simple+c-wrap+cases+elems+expr+exprs+list+parens+single.Lts-exprs as exprs-lts
+use Rattle.parse.proofs.expr.list.Reads as list
+use Rattle.parse.proofs.expr.list.Kinds as list-kinds
+use Rattle.parse.proofs.expr.+arm+arms+array+assign+block+body+c-args+c-bare+c-bound+c-built+c-called+c-cast+c-generic+c-loops+c-named+c-of_type+c-path+c-simple+c-wrap+cases+elems+expr+exprs+list+parens+single.Lts-list as list-lts
+use Rattle.parse.proofs.expr.parens.Reads as parens
+use Rattle.parse.proofs.expr.parens.Kinds as parens-kinds
+use Rattle.parse.proofs.expr.+arm+arms+array+assign+block+body+c-args+c-bare+c-bound+c-built+c-called+c-cast+c-generic+c-loops+c-named+c-of_type+c-path+c-simple+c-wrap+cases+elems+expr+exprs+list+parens+single.Lts-parens as parens-lts
+use Rattle.parse.proofs.expr.single.Reads as single
+use Rattle.parse.proofs.expr.single.Kinds as single-kinds
+use Rattle.parse.proofs.expr.+arm+arms+array+assign+block+body+c-args+c-bare+c-bound+c-built+c-called+c-cast+c-generic+c-loops+c-named+c-of_type+c-path+c-simple+c-wrap+cases+elems+expr+exprs+list+parens+single.Lts-single as single-lts
+use Rattle.parse.proofs.arms.after.Reads as after-reads
+use Rattle.parse.proofs.arms.arrange.Reads as arrange-reads
+use Rattle.parse.proofs.arms.fault.Reads as fault-reads
+use Rattle.parse.proofs.arms.first_end.Reads as first-end-reads
+use Rattle.parse.proofs.arms.head.Reads as arms-head-reads
+use Rattle.parse.proofs.arms.kind.Reads as kind-reads
+use Rattle.parse.proofs.choice.singles.Reads as singles-reads
+use Rattle.parse.proofs.expr.first.Reads as first-reads
+use Rattle.parse.proofs.expr.literal.Reads as literal-reads
+use Rattle.parse.proofs.expr.only.Reads as only-reads
+use Rattle.parse.proofs.fault.clean.Reads as clean-reads
+use Rattle.parse.proofs.fault.judged.Reads as judged-reads
+use Rattle.parse.proofs.heads.head.Reads as heads-head-reads
+use Rattle.parse.proofs.names.alone.Reads as alone-reads
+use Rattle.parse.proofs.names.call.Reads as call-reads
+use Rattle.parse.proofs.names.callee.Reads as callee-reads
+use Rattle.parse.proofs.names.decimal.Reads as decimal-reads
+use Rattle.parse.proofs.names.function_name.Reads as function-name-reads
+use Rattle.parse.proofs.names.names.Reads as names-reads
+use Rattle.parse.proofs.names.number.Reads as number-reads
+use Rattle.parse.proofs.names.size_fault.Reads as size-fault-reads
+use Rattle.parse.proofs.names.wrapper.Reads as wrapper-reads
+use Rattle.parse.proofs.names.wrapping.Reads as wrapping-reads
+use Rattle.parse.proofs.pattern.pattern.Reads as pattern-reads
+use Rattle.parse.proofs.token.advance.Reads as advance-reads
+use Rattle.parse.proofs.token.closes.Reads as closes-reads
+use Rattle.parse.proofs.token.eat.Reads as eat-reads
+use Rattle.parse.proofs.tree.child.Reads as child-reads
+use Rattle.parse.proofs.tree.close.Reads as close-reads
+use Rattle.parse.proofs.tree.exchange.Reads as exchange-reads
+use Rattle.parse.proofs.tree.reserve.Reads as reserve-reads
+use Rattle.parse.proofs.types.ty.Reads as ty-reads
+use Rattle.parse.proofs.expr.+arm+arms+array+assign+block+body+c-args+c-bare+c-bound+c-built+c-called+c-cast+c-generic+c-loops+c-named+c-of_type+c-path+c-simple+c-wrap+cases+elems+expr+exprs+list+parens+single.Proof.Common.{c·of-type-at, c·of-type-calls}
+
+module _ (t : ℕ) where
+  pub c·of-type-advance-requires : c·of-type-lts.Need-advance-requires (c·of-type-calls t) (c·of-type-at t) c·of-type.Post
+  c·of-type-advance-requires c κs =
+      search needs
+
+  pub c·of-type-ty-requires : c·of-type-lts.Need-ty-requires (c·of-type-calls t) (c·of-type-at t) c·of-type.Post
+  c·of-type-ty-requires c κs =
+      let y = c .before .before .before .before .before .pre .1 .0 in
+      let e = c .before .before .before .before .before .pre .1 .1 .0 in
+      let o = opens y refl in
+      let d1 = law.angled y o (call.for-typed (c .before .before .before .before .before .args .st .class) e) AnyN (nt n-type ∷ tok class.RAngle ∷ nt n-arguments ∷ []) (c .before .before .before .before .before .args .tree .now) call.flat-typed (λ i h. call.typed-colons h) call.flat-of-type (λ i h. call.typed-angle h) (call.typed-mark
+      (c .before .before .before .before .before .args .st .class) e) (c .before .before .before .before .before .pre .1 .1 .1 .0) (c .before .before .before .before .before .pre .1 .1 .1 .1) (c .before .advance .ensures) in
+      let f1 = further y o d1 (omega arith) in
+      f1 .ready
+
+  pub c·of-type-enum-known-inner : c·of-type-lts.Need-enum-known-inner (c·of-type-calls t) (c·of-type-at t) c·of-type.Post
+  c·of-type-enum-known-inner c =
+      search needs
+
+  pub c·of-type-enum-told : c·of-type-lts.Need-enum-told (c·of-type-calls t) (c·of-type-at t) c·of-type.Post
+  c·of-type-enum-told c =
+      search needs
+
+  pub c·of-type-same-length : c·of-type-lts.Need-same-length (c·of-type-calls t) (c·of-type-at t) c·of-type.Post
+  c·of-type-same-length c =
+      c .before .before .before .before .ty .kept .1 .1 .1 .0
+
+  pub c·of-type-returns : c·of-type-lts.Need-returns (c·of-type-calls t) (c·of-type-at t) c·of-type.Post
+  c·of-type-returns c =
+      let y = c .before .before .before .before .before .before .before .before .before .before .pre .1 .0 in
+      let e = c .before .before .before .before .before .before .before .before .before .before .pre .1 .1 .0 in
+      let o = opens y refl in
+      let d1 = law.angled y o (call.for-typed (c .before .before .before .before .before .before .before .before .before .before .args .st .class) e) AnyN (nt n-type ∷ tok class.RAngle ∷ nt n-arguments ∷ []) (c .before .before .before .before .before .before .before .before .before .before .args .tree .now) call.flat-typed
+      (λ i h. call.typed-colons h) call.flat-of-type (λ i h. call.typed-angle h) (call.typed-mark (c .before .before .before .before .before .before .before .before .before .before .args .st .class) e) (c .before .before .before .before .before .before .before .before .before .before .pre .1 .1 .1 .0)
+      (c .before .before .before .before .before .before .before .before .before .before .pre .1 .1 .1 .1) (c .before .before .before .before .before .before .advance .ensures) in
+      then-passed d1 (c .before .match .keys2) (enters call.typed-rule y e o) (c .before .before .before .before .ty .ensures)
+
+  pub c·of-type-eat-requires : c·of-type-lts.Need-eat-requires (c·of-type-calls t) (c·of-type-at t) c·of-type.Post
+  c·of-type-eat-requires c κs =
+      search needs
+
+  pub c·of-type-enum-known-angle : c·of-type-lts.Need-enum-known-angle (c·of-type-calls t) (c·of-type-at t) c·of-type.Post
+  c·of-type-enum-known-angle c =
+      search needs
+
+  pub c·of-type-enum-told-2 : c·of-type-lts.Need-enum-told-2 (c·of-type-calls t) (c·of-type-at t) c·of-type.Post
+  c·of-type-enum-told-2 c =
+      search needs
+
+  pub c·of-type-same-length-2 : c·of-type-lts.Need-same-length-2 (c·of-type-calls t) (c·of-type-at t) c·of-type.Post
+  c·of-type-same-length-2 c =
+      c .before .before .before .before .before .before .before .before .ty .kept .1 .1 .1 .0
+
+  pub c·of-type-returns-2 : c·of-type-lts.Need-returns-2 (c·of-type-calls t) (c·of-type-at t) c·of-type.Post
+  c·of-type-returns-2 c =
+      let y = c .before .before .before .before .before .before .before .before .before .before .before .before .before .before .pre .1 .0 in
+      let e = c .before .before .before .before .before .before .before .before .before .before .before .before .before .before .pre .1 .1 .0 in
+      let o = opens y refl in
+      let d1 = law.angled y o (call.for-typed (c .before .before .before .before .before .before .before .before .before .before .before .before .before .before .args .st .class) e) AnyN (nt n-type ∷ tok class.RAngle ∷ nt n-arguments ∷ [])
+      (c .before .before .before .before .before .before .before .before .before .before .before .before .before .before .args .tree .now) call.flat-typed (λ i h. call.typed-colons h) call.flat-of-type (λ i h. call.typed-angle h) (call.typed-mark
+      (c .before .before .before .before .before .before .before .before .before .before .before .before .before .before .args .st .class) e) (c .before .before .before .before .before .before .before .before .before .before .before .before .before .before .pre .1 .1 .1 .0)
+      (c .before .before .before .before .before .before .before .before .before .before .before .before .before .before .pre .1 .1 .1 .1) (c .before .before .before .before .before .before .before .before .before .before .advance .ensures) in
+      let d2 = then-node d1 (c .before .before .before .before .before .before .before .before .ty .ensures) (c .before .before .before .before .inner .given .1) in
+      then-lacks (d2 .amid) (c .before .match2 .keys2) (enters call.typed-rule y e o) (c .before .before .eat .ensures)
+
+  pub c·of-type-args-requires : c·of-type-lts.Need-args-requires (c·of-type-calls t) (c·of-type-at t) c·of-type.Post
+  c·of-type-args-requires c κs =
+      let y = c .before .before .before .before .before .before .before .before .before .before .before .before .before .before .before .before .pre .1 .0 in
+      let e = c .before .before .before .before .before .before .before .before .before .before .before .before .before .before .before .before .pre .1 .1 .0 in
+      let o = opens y refl in
+      let q = length-text (c .before .before .before .before .before .before .before .before .before .before .before .before .before .before .before .before .args .draft .now) (c .before .before .before .before .before .before .before .before .before .before .before .before .before .before .before .before .args .tokens .now)
+      (c .before .before .before .before .before .before .before .before .before .before .before .before .before .before .before .before .args .count) in
+      let d1 = law.angled y o (call.for-typed (c .before .before .before .before .before .before .before .before .before .before .before .before .before .before .before .before .args .st .class) e) AnyN (nt n-type ∷ tok class.RAngle ∷ nt n-arguments ∷ [])
+      (c .before .before .before .before .before .before .before .before .before .before .before .before .before .before .before .before .args .tree .now) call.flat-typed (λ i h. call.typed-colons h) call.flat-of-type (λ i h. call.typed-angle h) (call.typed-mark
+      (c .before .before .before .before .before .before .before .before .before .before .before .before .before .before .before .before .args .st .class) e) (c .before .before .before .before .before .before .before .before .before .before .before .before .before .before .before .before .pre .1 .1 .1 .0)
+      (c .before .before .before .before .before .before .before .before .before .before .before .before .before .before .before .before .pre .1 .1 .1 .1) (c .before .before .before .before .before .before .before .before .before .before .before .before .advance .ensures) in
+      let d2 = then-node d1 (c .before .before .before .before .before .before .before .before .before .before .ty .ensures) (c .before .before .before .before .before .before .inner .given .1) in
+      let d3 = then-eats (d2 .amid) (omega arith) (c .before .before .before .before .eat .ensures) (c .before .before .angle .given .1) (sign-mark kind.Call class.RAngle tt) in
+      let f3 = further y o d3 (omega arith) in
+      (omega (arith, f3 .ahead, f3 .within, q, c .before .before .before .before .before .before .before .before .before .before .before .before .before .before .before .before .pre .0), law.near (f3 .ready))
+
+  pub c·of-type-enum-known-rest : c·of-type-lts.Need-enum-known-rest (c·of-type-calls t) (c·of-type-at t) c·of-type.Post
+  c·of-type-enum-known-rest c =
+      search needs
+
+  pub c·of-type-enum-told-3 : c·of-type-lts.Need-enum-told-3 (c·of-type-calls t) (c·of-type-at t) c·of-type.Post
+  c·of-type-enum-told-3 c =
+      search needs
+
+  pub c·of-type-same-length-3 : c·of-type-lts.Need-same-length-3 (c·of-type-calls t) (c·of-type-at t) c·of-type.Post
+  c·of-type-same-length-3 c =
+      c .before .before .before .before .args2 .kept .1 .1 .1 .0 ∙ c .before .before .before .before .before .before .before .before .before .before .before .before .before .before .before .ty .kept .1 .1 .1 .0
+
+  pub c·of-type-returns-3 : c·of-type-lts.Need-returns-3 (c·of-type-calls t) (c·of-type-at t) c·of-type.Post
+  c·of-type-returns-3 c =
+      let y = c .before .before .before .before .before .before .before .before .before .before .before .before .before .before .before .before .before .before .before .before .before .pre .1 .0 in
+      let e = c .before .before .before .before .before .before .before .before .before .before .before .before .before .before .before .before .before .before .before .before .before .pre .1 .1 .0 in
+      let o = opens y refl in
+      let d1 = law.angled y o (call.for-typed (c .before .before .before .before .before .before .before .before .before .before .before .before .before .before .before .before .before .before .before .before .before .args .st .class) e) AnyN (nt n-type ∷ tok class.RAngle ∷ nt n-arguments ∷ [])
+      (c .before .before .before .before .before .before .before .before .before .before .before .before .before .before .before .before .before .before .before .before .before .args .tree .now) call.flat-typed (λ i h. call.typed-colons h) call.flat-of-type (λ i h. call.typed-angle h) (call.typed-mark
+      (c .before .before .before .before .before .before .before .before .before .before .before .before .before .before .before .before .before .before .before .before .before .args .st .class) e)
+      (c .before .before .before .before .before .before .before .before .before .before .before .before .before .before .before .before .before .before .before .before .before .pre .1 .1 .1 .0)
+      (c .before .before .before .before .before .before .before .before .before .before .before .before .before .before .before .before .before .before .before .before .before .pre .1 .1 .1 .1) (c .before .before .before .before .before .before .before .before .before .before .before .before .before .before .before .before .before .advance .ensures) in
+      let d2 = then-node d1 (c .before .before .before .before .before .before .before .before .before .before .before .before .before .before .before .ty .ensures) (c .before .before .before .before .before .before .before .before .before .before .before .inner .given .1) in
+      let d3 = then-eats (d2 .amid) (omega arith) (c .before .before .before .before .before .before .before .before .before .eat .ensures) (c .before .before .before .before .before .before .before .angle .given .1) (sign-mark kind.Call class.RAngle tt) in
+      then-passed d3 (c .before .match3 .keys2) (enters call.typed-rule y e o) (c .before .before .before .before .args2 .ensures)
+
+  pub c·of-type-call-requires : c·of-type-lts.Need-call-requires (c·of-type-calls t) (c·of-type-at t) c·of-type.Post
+  c·of-type-call-requires c κs =
+      search needs
+
+  pub c·of-type-close-requires : c·of-type-lts.Need-close-requires (c·of-type-calls t) (c·of-type-at t) c·of-type.Post
+  c·of-type-close-requires c κs =
+      search needs
+
+  pub c·of-type-same-length-4 : c·of-type-lts.Need-same-length-4 (c·of-type-calls t) (c·of-type-at t) c·of-type.Post
+  c·of-type-same-length-4 c =
+      c .before .before .close .kept .0 ∙ c .before .before .before .before .before .before .before .before .before .before .args2 .kept .1 .1 .1 .0 ∙ c .before .before .before .before .before .before .before .before .before .before .before .before .before .before .before .before .before .before .before .before .before .ty .kept .1 .1 .1 .0
+
+  pub c·of-type-returns-4 : c·of-type-lts.Need-returns-4 (c·of-type-calls t) (c·of-type-at t) c·of-type.Post
+  c·of-type-returns-4 c =
+      let y = c .before .before .before .before .before .before .before .before .before .before .before .before .before .before .before .before .before .before .before .before .before .before .before .before .before .before .before .pre .1 .0 in
+      let e = c .before .before .before .before .before .before .before .before .before .before .before .before .before .before .before .before .before .before .before .before .before .before .before .before .before .before .before .pre .1 .1 .0 in
+      let o = opens y refl in
+      let d1 = law.angled y o (call.for-typed (c .before .before .before .before .before .before .before .before .before .before .before .before .before .before .before .before .before .before .before .before .before .before .before .before .before .before .before .args .st .class) e) AnyN (nt n-type ∷ tok class.RAngle ∷ nt n-arguments ∷ [])
+      (c .before .before .before .before .before .before .before .before .before .before .before .before .before .before .before .before .before .before .before .before .before .before .before .before .before .before .before .args .tree .now) call.flat-typed (λ i h. call.typed-colons h) call.flat-of-type (λ i h. call.typed-angle h) (call.typed-mark
+      (c .before .before .before .before .before .before .before .before .before .before .before .before .before .before .before .before .before .before .before .before .before .before .before .before .before .before .before .args .st .class) e)
+      (c .before .before .before .before .before .before .before .before .before .before .before .before .before .before .before .before .before .before .before .before .before .before .before .before .before .before .before .pre .1 .1 .1 .0)
+      (c .before .before .before .before .before .before .before .before .before .before .before .before .before .before .before .before .before .before .before .before .before .before .before .before .before .before .before .pre .1 .1 .1 .1)
+      (c .before .before .before .before .before .before .before .before .before .before .before .before .before .before .before .before .before .before .before .before .before .before .before .advance .ensures) in
+      let d2 = then-node d1 (c .before .before .before .before .before .before .before .before .before .before .before .before .before .before .before .before .before .before .before .before .before .ty .ensures) (c .before .before .before .before .before .before .before .before .before .before .before .before .before .before .before .before .before .inner .given .1) in
+      let d3 = then-eats (d2 .amid) (omega arith) (c .before .before .before .before .before .before .before .before .before .before .before .before .before .before .before .eat .ensures) (c .before .before .before .before .before .before .before .before .before .before .before .before .before .angle .given .1) (sign-mark kind.Call class.RAngle tt) in
+      let d4 = law.then-args d3 (c .before .before .before .before .before .before .before .before .before .before .args2 .ensures) (c .before .before .before .before .before .before .rest .given .1) in
+      as-nonterminal call.typed-rule y e (read (shut TypedShape tt y o (d4 .amid) (omega (arith, d4 .one)) (call.call-low (c .before .before .before .before .before .before .before .before .before .before .before .before .before .before .before .before .before .before .before .before .before .before .before .before .before .before .before .args .st .class)
+      (call.typed-head (d4 .amid)) (c .before .before .before .call .ensures)) tt ExprKind call.call-kind (c .before .before .close .ensures)))

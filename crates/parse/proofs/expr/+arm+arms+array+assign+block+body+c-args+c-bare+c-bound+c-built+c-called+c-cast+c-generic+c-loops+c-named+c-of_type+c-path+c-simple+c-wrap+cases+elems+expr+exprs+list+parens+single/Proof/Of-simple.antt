@@ -1,0 +1,223 @@
+-- Made by tools/cycle.py from tools/parse_answers: the answers are what people read and edit.
+-- Assumes nothing.
+use Prim.Native.Nat.{ℕ, _+_, _-_, _*_, _<_, _≤_}
+use mathlib.Core.Path.{_≡_, refl, sym, ap, _∙_}
+use mathlib.Core.List.{List, [], _∷_, _++_}
+use borrow.Author.Needs.{needs}
+use native.Mathlib.Omega.{arith}
+use lib.ListN.{length, getD}
+use Rattle.text.specs.Part.{partOf}
+use Rattle.theory.specs.Grammar.{Sym, tok, nt}
+use Rattle.theory.specs.Walk.{k-nt}
+use Rattle.theory.specs.Machine.{expand}
+use Rattle.grammar.specs.Tables.{table}
+use Rattle.parse.specs.Contract.{text, classes, tokAt, Ready, reserved, cleaned, Parsed, read, stuck, Node, ExprKind}
+use Rattle.parse.specs.Infos as info
+use Rattle.parse.proofs.Laws.{Amid, starts, then-turns, then-passed}
+use Rattle.parse.proofs.Shuts.{opens, opens-clean, as-nonterminal, enters}
+use Rattle.parse.proofs.Chain.{further, onward, onward-ahead, advances, advances-one, then-eats, then-lacks, then-node}
+use Rattle.parse.proofs.Tokens.{length-text}
+use Rattle.parse.proofs.Roles.{sign-mark, keeping-mark, word-mark}
+use Rattle.parse.proofs.Lined.{AnyN, Lined, finish}
+use Rattle.parse.proofs.Lined as lined
+use Rattle.parse.proofs.NameChain as chain2
+use Rattle.parse.proofs.Forms.{shut, shut-judged, number-at, value-is, value-text, first-is}
+use Rattle.own.specs.Law.{Sort, word, child}
+use Rattle.grammar.specs.Records.{lone}
+use Rattle.parse.proofs.PatternForms as pattern
+use Rattle.parse.proofs.Elements as elem
+use Rattle.parse.proofs.ExprForms as form
+use mathlib.Core.Logic.{_⊎_, inl, inr}
+use Rattle.parse.proofs.ArmForms as armed
+use Rattle.parse.proofs.ArmsLoop as arm-loop
+use Rattle.parse.proofs.MatchForm as match
+use Rattle.parse.proofs.CallForms as call
+use Rattle.parse.proofs.CallLaws as law
+use Rattle.parse.proofs.NameRules as rule
+use Rattle.lexer.specs.Classes as class
+use Rattle.own.specs.Kinds as kind
+use Rattle.grammar.specs.TablesIndex.{n-arguments, n-arm-choice, n-arm-choice-optional-Comma, n-bare-optional-DoubleColon, n-block, n-functionName, n-list-expression, n-named-optional, n-single, n-type}
+use Rattle.grammar.specs.ShapeKind.{ArrayShape, AssignmentShape, BareShape, BlockShape, CastCallShape, FoldingShape, ForWhileShape, ListShape, NamedShape, ParensShape, SimpleCallShape, TypedShape}
+use borrow.Fn.Kinds.{In}
+use borrow.Fn.PlainCycle.{Measures, is, falls, and}
+use Rattle.parse.proofs.expr.arm.Reads as arm
+use Rattle.parse.proofs.expr.arm.Kinds as arm-kinds
+use Rattle.parse.proofs.expr.+arm+arms+array+assign+block+body+c-args+c-bare+c-bound+c-built+c-called+c-cast+c-generic+c-loops+c-named+c-of_type+c-path+c-simple+c-wrap+cases+elems+expr+exprs+list+parens+single.Lts-arm as arm-lts
+use Rattle.parse.proofs.expr.arms.Reads as arms
+use Rattle.parse.proofs.expr.arms.Kinds as arms-kinds
+use Rattle.parse.proofs.expr.+arm+arms+array+assign+block+body+c-args+c-bare+c-bound+c-built+c-called+c-cast+c-generic+c-loops+c-named+c-of_type+c-path+c-simple+c-wrap+cases+elems+expr+exprs+list+parens+single.Lts-arms as arms-lts
+use Rattle.parse.proofs.expr.array.Reads as array
+use Rattle.parse.proofs.expr.array.Kinds as array-kinds
+use Rattle.parse.proofs.expr.+arm+arms+array+assign+block+body+c-args+c-bare+c-bound+c-built+c-called+c-cast+c-generic+c-loops+c-named+c-of_type+c-path+c-simple+c-wrap+cases+elems+expr+exprs+list+parens+single.Lts-array as array-lts
+use Rattle.parse.proofs.expr.assign.Reads as assign
+use Rattle.parse.proofs.expr.assign.Kinds as assign-kinds
+use Rattle.parse.proofs.expr.+arm+arms+array+assign+block+body+c-args+c-bare+c-bound+c-built+c-called+c-cast+c-generic+c-loops+c-named+c-of_type+c-path+c-simple+c-wrap+cases+elems+expr+exprs+list+parens+single.Lts-assign as assign-lts
+use Rattle.parse.proofs.expr.block.Reads as block
+use Rattle.parse.proofs.expr.block.Kinds as block-kinds
+use Rattle.parse.proofs.expr.+arm+arms+array+assign+block+body+c-args+c-bare+c-bound+c-built+c-called+c-cast+c-generic+c-loops+c-named+c-of_type+c-path+c-simple+c-wrap+cases+elems+expr+exprs+list+parens+single.Lts-block as block-lts
+use Rattle.parse.proofs.expr.body.Reads as body
+use Rattle.parse.proofs.expr.body.Kinds as body-kinds
+use Rattle.parse.proofs.expr.+arm+arms+array+assign+block+body+c-args+c-bare+c-bound+c-built+c-called+c-cast+c-generic+c-loops+c-named+c-of_type+c-path+c-simple+c-wrap+cases+elems+expr+exprs+list+parens+single.Lts-body as body-lts
+use Rattle.parse.proofs.expr.c.args.Reads as c·args
+use Rattle.parse.proofs.expr.c.args.Kinds as c·args-kinds
+use Rattle.parse.proofs.expr.+arm+arms+array+assign+block+body+c-args+c-bare+c-bound+c-built+c-called+c-cast+c-generic+c-loops+c-named+c-of_type+c-path+c-simple+c-wrap+cases+elems+expr+exprs+list+parens+single.Lts-c-args as c·args-lts
+use Rattle.parse.proofs.expr.c.bare.Reads as c·bare
+use Rattle.parse.proofs.expr.c.bare.Kinds as c·bare-kinds
+use Rattle.parse.proofs.expr.+arm+arms+array+assign+block+body+c-args+c-bare+c-bound+c-built+c-called+c-cast+c-generic+c-loops+c-named+c-of_type+c-path+c-simple+c-wrap+cases+elems+expr+exprs+list+parens+single.Lts-c-bare as c·bare-lts
+use Rattle.parse.proofs.expr.c.bound.Reads as c·bound
+use Rattle.parse.proofs.expr.c.bound.Kinds as c·bound-kinds
+use Rattle.parse.proofs.expr.+arm+arms+array+assign+block+body+c-args+c-bare+c-bound+c-built+c-called+c-cast+c-generic+c-loops+c-named+c-of_type+c-path+c-simple+c-wrap+cases+elems+expr+exprs+list+parens+single.Lts-c-bound as c·bound-lts
+use Rattle.parse.proofs.expr.c.built.Reads as c·built
+use Rattle.parse.proofs.expr.c.built.Kinds as c·built-kinds
+use Rattle.parse.proofs.expr.+arm+arms+array+assign+block+body+c-args+c-bare+c-bound+c-built+c-called+c-cast+c-generic+c-loops+c-named+c-of_type+c-path+c-simple+c-wrap+cases+elems+expr+exprs+list+parens+single.Lts-c-built as c·built-lts
+use Rattle.parse.proofs.expr.c.called.Reads as c·called
+use Rattle.parse.proofs.expr.c.called.Kinds as c·called-kinds
+use Rattle.parse.proofs.expr.+arm+arms+array+assign+block+body+c-args+c-bare+c-bound+c-built+c-called+c-cast+c-generic+c-loops+c-named+c-of_type+c-path+c-simple+c-wrap+cases+elems+expr+exprs+list+parens+single.Lts-c-called as c·called-lts
+use Rattle.parse.proofs.expr.c.cast.Reads as c·cast
+use Rattle.parse.proofs.expr.c.cast.Kinds as c·cast-kinds
+use Rattle.parse.proofs.expr.+arm+arms+array+assign+block+body+c-args+c-bare+c-bound+c-built+c-called+c-cast+c-generic+c-loops+c-named+c-of_type+c-path+c-simple+c-wrap+cases+elems+expr+exprs+list+parens+single.Lts-c-cast as c·cast-lts
+use Rattle.parse.proofs.expr.c.generic.Reads as c·generic
+use Rattle.parse.proofs.expr.c.generic.Kinds as c·generic-kinds
+use Rattle.parse.proofs.expr.+arm+arms+array+assign+block+body+c-args+c-bare+c-bound+c-built+c-called+c-cast+c-generic+c-loops+c-named+c-of_type+c-path+c-simple+c-wrap+cases+elems+expr+exprs+list+parens+single.Lts-c-generic as c·generic-lts
+use Rattle.parse.proofs.expr.c.loops.Reads as c·loops
+use Rattle.parse.proofs.expr.c.loops.Kinds as c·loops-kinds
+use Rattle.parse.proofs.expr.+arm+arms+array+assign+block+body+c-args+c-bare+c-bound+c-built+c-called+c-cast+c-generic+c-loops+c-named+c-of_type+c-path+c-simple+c-wrap+cases+elems+expr+exprs+list+parens+single.Lts-c-loops as c·loops-lts
+use Rattle.parse.proofs.expr.c.named.Reads as c·named
+use Rattle.parse.proofs.expr.c.named.Kinds as c·named-kinds
+use Rattle.parse.proofs.expr.+arm+arms+array+assign+block+body+c-args+c-bare+c-bound+c-built+c-called+c-cast+c-generic+c-loops+c-named+c-of_type+c-path+c-simple+c-wrap+cases+elems+expr+exprs+list+parens+single.Lts-c-named as c·named-lts
+use Rattle.parse.proofs.expr.c.of_type.Reads as c·of-type
+use Rattle.parse.proofs.expr.c.of_type.Kinds as c·of-type-kinds
+use Rattle.parse.proofs.expr.+arm+arms+array+assign+block+body+c-args+c-bare+c-bound+c-built+c-called+c-cast+c-generic+c-loops+c-named+c-of_type+c-path+c-simple+c-wrap+cases+elems+expr+exprs+list+parens+single.Lts-c-of_type as c·of-type-lts
+use Rattle.parse.proofs.expr.c.path.Reads as c·path
+use Rattle.parse.proofs.expr.c.path.Kinds as c·path-kinds
+use Rattle.parse.proofs.expr.+arm+arms+array+assign+block+body+c-args+c-bare+c-bound+c-built+c-called+c-cast+c-generic+c-loops+c-named+c-of_type+c-path+c-simple+c-wrap+cases+elems+expr+exprs+list+parens+single.Lts-c-path as c·path-lts
+use Rattle.parse.proofs.expr.c.simple.Reads as c·simple
+use Rattle.parse.proofs.expr.c.simple.Kinds as c·simple-kinds
+use Rattle.parse.proofs.expr.+arm+arms+array+assign+block+body+c-args+c-bare+c-bound+c-built+c-called+c-cast+c-generic+c-loops+c-named+c-of_type+c-path+c-simple+c-wrap+cases+elems+expr+exprs+list+parens+single.Lts-c-simple as c·simple-lts
+use Rattle.parse.proofs.expr.c.wrap.Reads as c·wrap
+use Rattle.parse.proofs.expr.c.wrap.Kinds as c·wrap-kinds
+use Rattle.parse.proofs.expr.+arm+arms+array+assign+block+body+c-args+c-bare+c-bound+c-built+c-called+c-cast+c-generic+c-loops+c-named+c-of_type+c-path+c-simple+c-wrap+cases+elems+expr+exprs+list+parens+single.Lts-c-wrap as c·wrap-lts
+use Rattle.parse.proofs.expr.cases.Reads as cases
+use Rattle.parse.proofs.expr.cases.Kinds as cases-kinds
+use Rattle.parse.proofs.expr.+arm+arms+array+assign+block+body+c-args+c-bare+c-bound+c-built+c-called+c-cast+c-generic+c-loops+c-named+c-of_type+c-path+c-simple+c-wrap+cases+elems+expr+exprs+list+parens+single.Lts-cases as cases-lts
+use Rattle.parse.proofs.expr.elems.Reads as elems
+use Rattle.parse.proofs.expr.elems.Kinds as elems-kinds
+use Rattle.parse.proofs.expr.+arm+arms+array+assign+block+body+c-args+c-bare+c-bound+c-built+c-called+c-cast+c-generic+c-loops+c-named+c-of_type+c-path+c-simple+c-wrap+cases+elems+expr+exprs+list+parens+single.Lts-elems as elems-lts
+use Rattle.parse.proofs.expr.expr.Reads as expr
+use Rattle.parse.proofs.expr.expr.Kinds as expr-kinds
+use Rattle.parse.proofs.expr.+arm+arms+array+assign+block+body+c-args+c-bare+c-bound+c-built+c-called+c-cast+c-generic+c-loops+c-named+c-of_type+c-path+c-simple+c-wrap+cases+elems+expr+exprs+list+parens+single.Lts-expr as expr-lts
+use Rattle.parse.proofs.expr.exprs.Reads as exprs
+use Rattle.parse.proofs.expr.exprs.Kinds as exprs-kinds
+use Rattle.parse.proofs.expr.+arm+arms+array+assign+block+body+c-args+c-bare+c-bound+c-built+c-called+c-cast+c-generic+c-loops+c-named+c-of_type+c-path+c-simple+c-wrap+cases+elems+expr+exprs+list+parens+single.Lts-exprs as exprs-lts
+use Rattle.parse.proofs.expr.list.Reads as list
+use Rattle.parse.proofs.expr.list.Kinds as list-kinds
+use Rattle.parse.proofs.expr.+arm+arms+array+assign+block+body+c-args+c-bare+c-bound+c-built+c-called+c-cast+c-generic+c-loops+c-named+c-of_type+c-path+c-simple+c-wrap+cases+elems+expr+exprs+list+parens+single.Lts-list as list-lts
+use Rattle.parse.proofs.expr.parens.Reads as parens
+use Rattle.parse.proofs.expr.parens.Kinds as parens-kinds
+use Rattle.parse.proofs.expr.+arm+arms+array+assign+block+body+c-args+c-bare+c-bound+c-built+c-called+c-cast+c-generic+c-loops+c-named+c-of_type+c-path+c-simple+c-wrap+cases+elems+expr+exprs+list+parens+single.Lts-parens as parens-lts
+use Rattle.parse.proofs.expr.single.Reads as single
+use Rattle.parse.proofs.expr.single.Kinds as single-kinds
+use Rattle.parse.proofs.expr.+arm+arms+array+assign+block+body+c-args+c-bare+c-bound+c-built+c-called+c-cast+c-generic+c-loops+c-named+c-of_type+c-path+c-simple+c-wrap+cases+elems+expr+exprs+list+parens+single.Lts-single as single-lts
+use Rattle.parse.proofs.arms.after.Reads as after-reads
+use Rattle.parse.proofs.arms.arrange.Reads as arrange-reads
+use Rattle.parse.proofs.arms.fault.Reads as fault-reads
+use Rattle.parse.proofs.arms.first_end.Reads as first-end-reads
+use Rattle.parse.proofs.arms.head.Reads as arms-head-reads
+use Rattle.parse.proofs.arms.kind.Reads as kind-reads
+use Rattle.parse.proofs.choice.singles.Reads as singles-reads
+use Rattle.parse.proofs.expr.first.Reads as first-reads
+use Rattle.parse.proofs.expr.literal.Reads as literal-reads
+use Rattle.parse.proofs.expr.only.Reads as only-reads
+use Rattle.parse.proofs.fault.clean.Reads as clean-reads
+use Rattle.parse.proofs.fault.judged.Reads as judged-reads
+use Rattle.parse.proofs.heads.head.Reads as heads-head-reads
+use Rattle.parse.proofs.names.alone.Reads as alone-reads
+use Rattle.parse.proofs.names.call.Reads as call-reads
+use Rattle.parse.proofs.names.callee.Reads as callee-reads
+use Rattle.parse.proofs.names.decimal.Reads as decimal-reads
+use Rattle.parse.proofs.names.function_name.Reads as function-name-reads
+use Rattle.parse.proofs.names.names.Reads as names-reads
+use Rattle.parse.proofs.names.number.Reads as number-reads
+use Rattle.parse.proofs.names.size_fault.Reads as size-fault-reads
+use Rattle.parse.proofs.names.wrapper.Reads as wrapper-reads
+use Rattle.parse.proofs.names.wrapping.Reads as wrapping-reads
+use Rattle.parse.proofs.pattern.pattern.Reads as pattern-reads
+use Rattle.parse.proofs.token.advance.Reads as advance-reads
+use Rattle.parse.proofs.token.closes.Reads as closes-reads
+use Rattle.parse.proofs.token.eat.Reads as eat-reads
+use Rattle.parse.proofs.tree.child.Reads as child-reads
+use Rattle.parse.proofs.tree.close.Reads as close-reads
+use Rattle.parse.proofs.tree.exchange.Reads as exchange-reads
+use Rattle.parse.proofs.tree.reserve.Reads as reserve-reads
+use Rattle.parse.proofs.types.ty.Reads as ty-reads
+use Rattle.parse.proofs.expr.+arm+arms+array+assign+block+body+c-args+c-bare+c-bound+c-built+c-called+c-cast+c-generic+c-loops+c-named+c-of_type+c-path+c-simple+c-wrap+cases+elems+expr+exprs+list+parens+single.Proof.Common.{c·simple-at, c·simple-calls}
+
+module _ (t : ℕ) where
+  pub c·simple-reserve-requires : c·simple-lts.Need-reserve-requires (c·simple-calls t) (c·simple-at t) c·simple.Post
+  c·simple-reserve-requires c κs =
+      search needs
+
+  pub c·simple-advance-requires : c·simple-lts.Need-advance-requires (c·simple-calls t) (c·simple-at t) c·simple.Post
+  c·simple-advance-requires c κs =
+      search needs
+
+  pub c·simple-callee-requires : c·simple-lts.Need-callee-requires (c·simple-calls t) (c·simple-at t) c·simple.Post
+  c·simple-callee-requires c κs =
+      search needs
+
+  pub c·simple-args-requires : c·simple-lts.Need-args-requires (c·simple-calls t) (c·simple-at t) c·simple.Post
+  c·simple-args-requires c κs =
+      let y = c .before .before .before .before .before .before .before .before .before .before .pre .1 .0 in
+      let e = c .before .before .before .before .before .before .before .before .before .before .pre .1 .1 in
+      let o = opens y (c .before .before .before .before .before .before .reserve .ensures) in
+      let q = length-text (c .before .before .before .before .before .before .before .before .before .before .args .draft .now) (c .before .before .before .before .before .before .before .before .before .before .args .tokens .now) (c .before .before .before .before .before .before .before .before .before .before .args .count) in
+      let p = call.simple-apart (c .before .before .before .before .before .before .before .before .before .before .args .st .class) e in
+      let d1 = law.first-called y o (call.for-simple (c .before .before .before .before .before .before .before .before .before .before .args .st .class) e) AnyN (nt n-arguments ∷ []) p (c .before .before .before .before .before .advance .ensures) (c .before .before .before .callee .ensures) in
+      (omega (arith, d1 .ahead, d1 .amid .lays .stands .within, q, o .at-is, c .before .before .before .before .before .before .before .before .before .before .pre .0), law.nearly y o (d1 .amid))
+
+  pub c·simple-enum-known-inner : c·simple-lts.Need-enum-known-inner (c·simple-calls t) (c·simple-at t) c·simple.Post
+  c·simple-enum-known-inner c =
+      search needs
+
+  pub c·simple-enum-told : c·simple-lts.Need-enum-told (c·simple-calls t) (c·simple-at t) c·simple.Post
+  c·simple-enum-told c =
+      search needs
+
+  pub c·simple-same-length : c·simple-lts.Need-same-length (c·simple-calls t) (c·simple-at t) c·simple.Post
+  c·simple-same-length c =
+      c .before .before .before .before .args2 .kept .1 .1 .1 .0 ∙ c .before .before .before .before .before .before .before .before .callee .kept .0
+
+  pub c·simple-returns : c·simple-lts.Need-returns (c·simple-calls t) (c·simple-at t) c·simple.Post
+  c·simple-returns c =
+      let y = c .before .before .before .before .before .before .before .before .before .before .before .before .before .before .before .pre .1 .0 in
+      let e = c .before .before .before .before .before .before .before .before .before .before .before .before .before .before .before .pre .1 .1 in
+      let o = opens y (c .before .before .before .before .before .before .before .before .before .before .before .reserve .ensures) in
+      let p = call.simple-apart (c .before .before .before .before .before .before .before .before .before .before .before .before .before .before .before .args .st .class) e in
+      let d1 = law.first-called y o (call.for-simple (c .before .before .before .before .before .before .before .before .before .before .before .before .before .before .before .args .st .class) e) AnyN (nt n-arguments ∷ []) p (c .before .before .before .before .before .before .before .before .before .before .advance .ensures)
+      (c .before .before .before .before .before .before .before .before .callee .ensures) in
+      then-passed (d1 .amid) (c .before .match .keys2) (enters call.simple-rule y e o) (c .before .before .before .before .args2 .ensures)
+
+  pub c·simple-call-requires : c·simple-lts.Need-call-requires (c·simple-calls t) (c·simple-at t) c·simple.Post
+  c·simple-call-requires c κs =
+      search needs
+
+  pub c·simple-close-requires : c·simple-lts.Need-close-requires (c·simple-calls t) (c·simple-at t) c·simple.Post
+  c·simple-close-requires c κs =
+      search needs
+
+  pub c·simple-same-length-2 : c·simple-lts.Need-same-length-2 (c·simple-calls t) (c·simple-at t) c·simple.Post
+  c·simple-same-length-2 c =
+      c .before .before .close .kept .0 ∙ c .before .before .before .before .before .before .before .before .before .before .args2 .kept .1 .1 .1 .0 ∙ c .before .before .before .before .before .before .before .before .before .before .before .before .before .before .callee .kept .0
+
+  pub c·simple-returns-2 : c·simple-lts.Need-returns-2 (c·simple-calls t) (c·simple-at t) c·simple.Post
+  c·simple-returns-2 c =
+      let y = c .before .before .before .before .before .before .before .before .before .before .before .before .before .before .before .before .before .before .before .before .before .pre .1 .0 in
+      let e = c .before .before .before .before .before .before .before .before .before .before .before .before .before .before .before .before .before .before .before .before .before .pre .1 .1 in
+      let o = opens y (c .before .before .before .before .before .before .before .before .before .before .before .before .before .before .before .before .before .reserve .ensures) in
+      let p = call.simple-apart (c .before .before .before .before .before .before .before .before .before .before .before .before .before .before .before .before .before .before .before .before .before .args .st .class) e in
+      let d1 = law.first-called y o (call.for-simple (c .before .before .before .before .before .before .before .before .before .before .before .before .before .before .before .before .before .before .before .before .before .args .st .class) e) AnyN (nt n-arguments ∷ []) p
+      (c .before .before .before .before .before .before .before .before .before .before .before .before .before .before .before .before .advance .ensures) (c .before .before .before .before .before .before .before .before .before .before .before .before .before .before .callee .ensures) in
+      let d2 = law.then-args (d1 .amid) (c .before .before .before .before .before .before .before .before .before .before .args2 .ensures) (c .before .before .before .before .before .before .inner .given .1) in
+      as-nonterminal call.simple-rule y e (read (shut SimpleCallShape tt y o (d2 .amid) (omega (arith, d2 .one)) (call.call-low (c .before .before .before .before .before .before .before .before .before .before .before .before .before .before .before .before .before .before .before .before .before .args .st .class) (call.form-simple (d2 .amid) ∙ call.unwrapped-is
+      (c .before .before .before .before .before .before .before .before .before .before .before .before .before .before .before .before .before .before .before .before .before .args .st .class) (d2 .W) p (call.simple-unwrapped
+      (c .before .before .before .before .before .before .before .before .before .before .before .before .before .before .before .before .before .before .before .before .before .args .st .class) e) (d2 .commas)) (c .before .before .before .call .ensures)) tt ExprKind call.call-kind (c .before .before .close .ensures)))
