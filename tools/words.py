@@ -66,15 +66,21 @@ def main():
     lengths = [len(w) for w in entries]
 
     def array(name, kind, values):
-        return f"pub const {name}: [{kind}; {len(values)}] = [\n" + "".join(f"    {v},\n" for v in values) + "];\n"
+        """As the formatter leaves it: a few numbers in one line, bytes as a byte string, others one to a line."""
+        head = f"pub const {name}: [{kind}; {len(values)}] = "
+        if len(values) < 14:
+            return head + "[" + ", ".join(map(str, values)) + "];\n"
+        if kind == "u8":
+            rows = ["".join(f"\\x{v:02x}" for v in values[i:i + 32]) for i in range(0, len(values), 32)]
+            return head + '*b"\\\n    ' + "\\\n    ".join(rows) + '";\n'
+        return head + "[\n" + "".join(f"    {v},\n" for v in values) + "];\n"
 
     code = "// The words in one constant byte string, and where each lies. Made by tools/words.py from the lists of specs/Words.antt.\n"
     code += f'pub const LETTERS: [u8; {len(letters)}] =\n    *b"{letters}";\n\n'
     code += "// Where each entry starts in LETTERS, and its length.\n" + array("STARTS", "u16", starts) + "\n" + array("SIZES", "u8", lengths) + "\n"
     code += "// The first entry of each table, and how many words it has.\n" + array("BASES", "u8", bases) + "\n" + array("COUNTS", "u8", [len(t) for t in tables]) + "\n"
-    code += "// For each table its slots: the word whose length and bytes lead there, 255 where there is none.\n"
+    code += "// For each table its slots: the word whose length and bytes lead there, 255 (ff) where there is none.\n"
     code += "\n".join(array(f"{name}_SLOTS", "u8", row) for (_, name), row in zip(order, slots))
-    code = re.sub(r"\[u8; (\d+)\] = \[\n((?:    \d+,\n)+)\]", lambda x: f"[u8; {x.group(1)}] = [" + ", ".join(x.group(2).replace(",", "").split()) + "]" if int(x.group(1)) < 14 else x.group(0), code)
 
     used = [n for _, n in order]
     parts, at = [], 0

@@ -13,12 +13,12 @@ use lib.Seq.{sets, sets-eq, length-sets, drop-drop, length-take-le, take-at}
 use Rattle.text.specs.Widths.{recWide}
 use Rattle.own.specs.Words.{recs, recWords}
 use Rattle.lines.specs.Form.{lineOf, wide, same-line}
-use Rattle.lines.specs.Lines.{widths, lineBytes, linesOf, lines, lines-wide}
+use Rattle.lines.specs.Lines.{widths, fieldCount, lineBytes, linesOf, lines, lines-wide}
 use Rattle.lines.specs.Written.{used, padded, held, linesIn}
 use Rattle.lines.proofs.Fields.{sets-next}
 
 -- the numbers of the first record of a buffer are its first words
-first-words : (w : List ℕ) (k : ℕ) → k < recWide → getD (recWords (recs 1 w)) k 0 ≡ getD w k 0
+first-words : (w : List ℕ) (k : ℕ) → k < fieldCount → getD (recWords (recs 1 w)) k 0 ≡ getD w k 0
 first-words w zero h = refl
 first-words w (suc zero) h = refl
 first-words w (suc (suc zero)) h = refl
@@ -27,11 +27,11 @@ first-words w (suc (suc (suc (suc zero)))) h = refl
 first-words w (suc (suc (suc (suc (suc zero))))) h = refl
 first-words w (suc (suc (suc (suc (suc (suc k)))))) h = absurd (omega arith)
 
-first-line : (ws w : List ℕ) → length ws ≤ recWide → lineOf ws (recWords (recs 1 w)) ≡ lineOf ws w
+first-line : (ws w : List ℕ) → length ws ≤ fieldCount → lineOf ws (recWords (recs 1 w)) ≡ lineOf ws w
 first-line ws w h = same-line ws (recWords (recs 1 w)) w (λ k b. first-words w k (omega (arith, h, b)))
 
 -- one record more
-lines-more : (ws : List ℕ) → length ws ≤ recWide → (n : ℕ) (w : List ℕ) → linesOf ws (recs (suc n) w) ≡ linesOf ws (recs n w) ++ lineOf ws (drop (recWide * n) w)
+lines-more : (ws : List ℕ) → length ws ≤ fieldCount → (n : ℕ) (w : List ℕ) → linesOf ws (recs (suc n) w) ≡ linesOf ws (recs n w) ++ lineOf ws (drop (recWide * n) w)
 unfolding linesOf
 lines-more ws h zero w = append-nil (lineOf ws (recWords (recs 1 w))) ∙ first-line ws w h
 lines-more ws h (suc n) w =
@@ -67,7 +67,7 @@ module _ {o ws w : List ℕ} {n : ℕ} {l : List ℕ} {p i : ℕ} (x : Listing o
   pub line-fits : i < n → wide ws * n ≤ length o → p + wide ws ≤ length l
   line-fits h r = let e = x .long in let m : wide ws * suc i ≤ wide ws * n = mul-le-mul-left (wide ws) h in omega (arith, e, m, r, next-end)
 
-  pub listing-more : {l₁ : List ℕ} {q : ℕ} → length ws ≤ recWide → i < n → q ≡ p + wide ws → l₁ ≡ sets l p (lineOf ws (drop (recWide * i) w)) → Listing o ws w n l₁ q (i + 1)
+  pub listing-more : {l₁ : List ℕ} {q : ℕ} → length ws ≤ fieldCount → i < n → q ≡ p + wide ws → l₁ ≡ sets l p (lineOf ws (drop (recWide * i) w)) → Listing o ws w n l₁ q (i + 1)
   listing-more {l₁} {q} f h d e =
       let s : suc i ≡ i + 1 = omega arith in
       let k = lines-long ws i w in

@@ -23,6 +23,13 @@ halfDigits = 8
 abbrev pub widths : List ℕ
 widths = kindDigits ∷ placeDigits ∷ placeDigits ∷ halfDigits ∷ halfDigits ∷ placeDigits ∷ []
 
+-- So many fields: the first words of a record, in their order.
+abbrev pub fieldCount : ℕ
+fieldCount = 6
+
+pub fields-counted : length widths ≡ fieldCount
+fields-counted = refl
+
 -- How many bytes a line has.
 abbrev pub lineBytes : ℕ
 lineBytes = wide widths

@@ -14,7 +14,9 @@ const PLACE_DIGITS: usize = 4;
 const HALF_DIGITS: usize = 8;
 
 // The form of a line, by its fields: kind, start, end, low, high, size.
-const WIDTHS: [usize; text::RECORD_WORDS] = [
+const FIELDS: usize = 6;
+
+const WIDTHS: [usize; FIELDS] = [
     KIND_DIGITS,
     PLACE_DIGITS,
     PLACE_DIGITS,
@@ -24,7 +26,7 @@ const WIDTHS: [usize; text::RECORD_WORDS] = [
 ];
 
 // How many bytes a line has: all digits, and one byte after each field.
-pub const LINE_BYTES: usize = KIND_DIGITS + 3 * PLACE_DIGITS + 2 * HALF_DIGITS + text::RECORD_WORDS;
+pub const LINE_BYTES: usize = KIND_DIGITS + 3 * PLACE_DIGITS + 2 * HALF_DIGITS + FIELDS;
 
 // How many places the digits of a place tell apart.
 pub const PLACES: usize = 1 << (4 * PLACE_DIGITS);

@@ -7,7 +7,7 @@ ghost use Rattle.text.specs.Widths.{recWide};
 ghost use Rattle.own.specs.Words.{recs};
 ghost use Rattle.lines.specs.Hex as spec;
 ghost use Rattle.lines.specs.Form as form;
-ghost use Rattle.lines.specs.Lines.{linesOf};
+ghost use Rattle.lines.specs.Lines.{fieldCount, linesOf};
 
 // The upper-case hexadecimal digits. They are held once and lent on, since a constant that is read is laid out anew at each read.
 const DIGITS: [u8; 16] = *b"0123456789ABCDEF";
@@ -71,7 +71,7 @@ fn line(
 
 // Writes the lines of the first records of a tree buffer, in this form, and returns where they end.
 pub(crate) fn lines(widths: &[usize], out: &mut [u8], tree: &[u32], records: usize) -> usize
-    requires { ⌜ length (now widths) ≤ recWide ⌝ }
+    requires { ⌜ length (now widths) ≤ fieldCount ⌝ }
     requires { ⌜ form.wide (now widths) * records ≤ length (now out) ⌝ }
     requires { ⌜ recWide * records ≤ length (now tree) ⌝ }
     ensures end { λ r. ⌜ r ≡ form.wide (now (widths .entry)) * records ⌝ }
