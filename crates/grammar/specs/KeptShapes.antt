@@ -1,14 +1,14 @@
 -- What a shape is made of, as the rules of the kinds see it: the expression of each shape as a sequence of marks and parts, and that
 -- the items of a shape tree spell it.
 -- Assumes nothing.
-use mathlib.Core.List.{List, [], _∷_, _++_, append-assoc, append-nil}
+use mathlib.Core.List.{List, [], _∷_, _++_, map, append-assoc, append-nil}
 use mathlib.Core.Logic.{_⊎_, inl, inr}
 use mathlib.Core.Option.{some}
 use mathlib.Core.Path.{_≡_, refl, sym, ap, _∙_, subst}
 use Prim.Native.Nat.{ℕ, zero, suc}
 use native.Mathlib.Omega.{arith}
 use lib.Dec.{T, eqb, eqb→eq}
-use lib.ListN.{getD, getElem?}
+use lib.ListN.{getD, getElem?, drop}
 use Rattle.theory.specs.Ebnf.{Ex, eps, part, seq, or, items, branches, choices}
 use Rattle.theory.specs.Ebnf as shape
 use Rattle.text.specs.Table.{first-of, second-of}
@@ -23,7 +23,7 @@ use Rattle.kinds.specs.Rules as rules
 use Rattle.kinds.specs.Build.{the-mark}
 use Rattle.kinds.specs.Families as family
 use Rattle.lexer.specs.Classes as t
-use Rattle.grammar.specs.Shapes.{shapes, elementsPart, argumentsPart, pathPart, headPathPart, pairPart}
+use Rattle.grammar.specs.Shapes.{shapes}
 
 -- The kinds of the records that the shapes of a category become.
 unfoldable pub kindsIn : ℕ → List ℕ
@@ -68,12 +68,12 @@ seen ps (shape.tail e c) = rest (seen ps e) c
 abbrev pub elementsShape : Shape
 elementsShape = many (element ▸ the t.Semi) ▸ optional expression
 
--- The named parts.
+-- The named parts: the elements of a block are the first; each other names at most parts that name none.
+abbrev partsAfter : List Ex
+partsAfter = drop 1 (shapes .parts)
+
 unfoldable pub partShapes : List Shape
-partShapes =
-    let args = seen [] argumentsPart in
-    let pair = seen [] pairPart in
-    elementsShape ∷ args ∷ seen (never ∷ args ∷ []) pathPart ∷ seen (never ∷ never ∷ never ∷ never ∷ pair ∷ []) headPathPart ∷ pair ∷ []
+partShapes = elementsShape ∷ map (seen (elementsShape ∷ map (seen []) partsAfter)) partsAfter
 
 abbrev pub spelt : Ex → Shape
 spelt e = seen partShapes e
@@ -245,15 +245,22 @@ elements-in (right (right (k.seq {v = s} p (left empty)))) =
     k.seq stop (right (subst (λ (l : List Sort). Spells expression l) (sym (append-nil s)) (expression-in family.expressions tt tt p)))
 elements-in (right (right (k.seq {v = s} p (right (k.seq {v = v} q r))))) = element-more s v (expression-in family.elements tt tt p) q r
 
--- the named parts are spelled as their expressions
+-- the named parts but the first are their expressions,
+parts-are : map (seen partShapes) partsAfter ≡ drop 1 partShapes
+unfolding shapes seen partShapes both kindsIn
+parts-are = refl
+
+nth-spelt : (l : List Ex) (P : ℕ) → spelt (getD l P eps) ≡ getD (map (seen partShapes) l) P nothing
+unfolding seen
+nth-spelt [] P = refl
+nth-spelt (e ∷ l) zero = refl
+nth-spelt (e ∷ l) (suc P) = nth-spelt l P
+
+-- and all are spelled as their expressions
 part-in : (P : ℕ) {w : List Sort} → Spells (spelt (getD (shapes .parts) P eps)) w → Spells (getD partShapes P nothing) w
 unfolding shapes seen partShapes both kindsIn
 part-in zero p = elements-in p
-part-in (suc zero) p = p
-part-in (suc (suc zero)) p = p
-part-in (suc (suc (suc zero))) p = p
-part-in (suc (suc (suc (suc zero)))) p = p
-part-in (suc (suc (suc (suc (suc P))))) p = p
+part-in (suc P) {w} p = subst (λ (x : Shape). Spells x w) (nth-spelt partsAfter P ∙ ap (λ (l : List Shape). getD l P nothing) parts-are) p
 
 -- what an expression is replaced by spells it
 pub choice-in : (e : Ex) (i : ℕ) (α : List Ex) → getElem? (choices shapes e) i ≡ some α → (w : List Sort) → Spells (row α) w → Spells (spelt e) w

@@ -6,7 +6,7 @@ use Prim.Native.Nat.{ℕ, _*_, _%_, _≤_}
 use native.Mathlib.Omega.{arith}
 use lib.ListN.{length}
 use Rattle.text.specs.Widths.{recWide}
-use Rattle.own.specs.Words.{recs}
+use Rattle.own.specs.Words.{recThen, recs}
 use Rattle.lines.specs.Hex.{hex, power, last-digits}
 use Rattle.lines.specs.Form.{space, lineOf}
 use Rattle.lines.specs.Lines.{kindDigits, placeDigits, halfDigits, linesOf, lines}
@@ -26,7 +26,7 @@ all-listed w m k h u b = (u ∙ ap (λ (x : List ℕ). used x k) (all-held w m h
 
 -- the words of a refusal, its place cut to the digits that a line has for it
 abbrev pub refusalWords : ℕ → ℕ → List ℕ
-refusalWords c p = 0 ∷ p % power placeDigits ∷ p % power placeDigits ∷ c ∷ 0 ∷ 1 ∷ []
+refusalWords c p = recThen 0 (p % power placeDigits) (p % power placeDigits) c 0 1 []
 
 -- are listed as its line;
 refusal-is : (c p : ℕ) → linesIn (refusalWords c p) 1 ≡ lines (listed (refused c p) [])

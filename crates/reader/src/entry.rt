@@ -23,7 +23,11 @@ fn refusal(number: u32, place: usize, out: &mut [u8]) -> usize
     ensures bytes { λ _. ⌜ now (out .exit) ≡ padded (lines (spec.listed (refused number place) [])) (length (now (out .entry))) ⌝ }
 {
     let p = (place % lines::PLACES) as u32;
-    let words = [0, p, p, number, 0, 1];
+    let mut words = [0u32; text::RECORD_WORDS];
+    words[1] = p;
+    words[2] = p;
+    words[3] = number;
+    words[5] = 1;
     lines::list(&words, 1, out)
 }
 

@@ -3,7 +3,7 @@
 //! [`list`] writes the lines into a lent buffer and allocates nothing; [`listing`] and [`read`] bring their own
 //! buffer. Every call may be made with any bytes and from any thread, and no answer depends on an earlier call.
 //! The reader keeps its tokens and its tree on the stack and calls itself for what is nested: the deepest drafts
-//! take about half a MiB, so lend its thread 1 MiB.
+//! take some 600,000 bytes, so lend its thread 1 MiB.
 //!
 //! ```
 //! let draft = b"fn f(){Left(1)}";

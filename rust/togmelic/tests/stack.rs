@@ -17,6 +17,7 @@ fn matches_in_every_bracket() {
         "[",
         "f(",
         "A::B(",
+        "fold::B(",
         "Left(",
         "list![",
         "fold::<g,2>(",

@@ -29,7 +29,7 @@ use Rattle.lexer.specs.Classes as class
 use Rattle.parse.proofs.NameSteps.{refuses-nt}
 use Rattle.lexer.specs.Classes as class
 use Rattle.own.specs.Kinds as kind
-use Rattle.grammar.specs.TablesIndex.{n-function-optional-Arrow, n-function-optional-Pub, n-type}
+use Rattle.grammar.specs.TablesIndex.{n-function-optional-Arrow, n-function-optional-Pub, n-list-parameter, n-type}
 use Rattle.grammar.specs.ShapeKind.{FunctionShape, ParameterShape}
 use Rattle.parse.proofs.program.parameters.Statement.{statement}
 use Rattle.parse.proofs.program.parameters.Tie as tie
@@ -39,7 +39,7 @@ use Rattle.parse.proofs.program.parameter.Reads as parameter-reads
 use Rattle.parse.proofs.token.advance.Reads as advance-reads
 
 abbrev Inv-loop : tie.InvT-loop
-Inv-loop draft tokens count tree₀ here₀ number₀ tree here number = Lined (text draft tokens count) 3 (form.Many number here₀ here) here₀ tree₀ here tree
+Inv-loop draft tokens count tree₀ here₀ number₀ tree here number = Lined (text draft tokens count) n-list-parameter (form.Many number here₀ here) here₀ tree₀ here tree
 
 abbrev μ-loop : tie.MeasureT-loop
 μ-loop draft tokens count tree₀ here₀ number₀ tree here number = count - here .at

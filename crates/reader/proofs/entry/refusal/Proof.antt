@@ -18,6 +18,22 @@ cast-p : tie.Need-cast-p
 cast-p c =
     search needs
 
+array-write-words : tie.Need-array-write-words
+array-write-words c =
+    search needs
+
+array-write-words-2 : tie.Need-array-write-words-2
+array-write-words-2 c =
+    search needs
+
+array-write-words-3 : tie.Need-array-write-words-3
+array-write-words-3 c =
+    search needs
+
+array-write-words-4 : tie.Need-array-write-words-4
+array-write-words-4 c =
+    search needs
+
 slice-aggregate-list : tie.Need-slice-aggregate-list
 slice-aggregate-list c =
     search needs
@@ -38,4 +54,5 @@ returns c =
     refusal-listed n p z (c .before .before .list .ensures .0) (c .before .before .list .ensures .1)
 
 pub refusal-spec : {M : Type 1} → statement M
-refusal-spec = tie.close (tie.spec cast-p slice-aggregate-list list-requires same-length returns)
+refusal-spec = tie.close (tie.spec cast-p array-write-words array-write-words-2 array-write-words-3 array-write-words-4 slice-aggregate-list
+    list-requires same-length returns)

@@ -398,7 +398,7 @@ abbrev pub elems-μ-loop : elems-lts.MeasureT-loop
 elems-μ-loop draft tokens count tree₀ here₀ tree here = count - here .at
 
 abbrev pub exprs-Inv-loop : exprs-lts.InvT-loop
-exprs-Inv-loop draft tokens count tree₀ here₀ lone₀ tree here lone = Lined (text draft tokens count) 24 (elem.Counted lone) here₀ tree₀ here tree
+exprs-Inv-loop draft tokens count tree₀ here₀ lone₀ tree here lone = Lined (text draft tokens count) n-list-expression (elem.Counted lone) here₀ tree₀ here tree
 
 abbrev pub exprs-μ-loop : exprs-lts.MeasureT-loop
 exprs-μ-loop draft tokens count tree₀ here₀ lone₀ tree here lone = count - here .at

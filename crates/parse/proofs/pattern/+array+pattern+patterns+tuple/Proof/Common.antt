@@ -23,7 +23,7 @@ use Rattle.parse.proofs.Forms.{shut, shut-judged, number-at, value-is, 
 use Rattle.parse.proofs.PatternForms as form
 use Rattle.lexer.specs.Classes as class
 use Rattle.own.specs.Kinds as kind
-use Rattle.grammar.specs.TablesIndex.{n-pattern}
+use Rattle.grammar.specs.TablesIndex.{n-list-pattern, n-pattern}
 use Rattle.grammar.specs.ShapeKind.{ArrayPatternShape, NamePatternShape, TuplePatternShape}
 use borrow.Fn.Kinds.{In}
 use borrow.Fn.PlainCycle.{Measures, is, falls, and}
@@ -84,7 +84,7 @@ abbrev pub tuple-below : ℕ → In 3 tuple-kinds.ps
 tuple-below t = and 3 tuple-kinds.ps (falls 3 tuple-kinds.ps _<_ μ-tuple t) tuple.Pre
 
 abbrev pub patterns-Inv-loop : patterns-lts.InvT-loop
-patterns-Inv-loop draft tokens count tree₀ here₀ tree here = Lined (text draft tokens count) 22 (λ w. Unit {0}) here₀ tree₀ here tree
+patterns-Inv-loop draft tokens count tree₀ here₀ tree here = Lined (text draft tokens count) n-list-pattern (λ w. Unit {0}) here₀ tree₀ here tree
 
 abbrev pub patterns-μ-loop : patterns-lts.MeasureT-loop
 patterns-μ-loop draft tokens count tree₀ here₀ tree here = count - here .at

@@ -23,7 +23,7 @@ use Rattle.parse.proofs.Forms.{shut, shut-judged, number-at, value-is, 
 use Rattle.parse.proofs.PatternForms as form
 use Rattle.lexer.specs.Classes as class
 use Rattle.own.specs.Kinds as kind
-use Rattle.grammar.specs.TablesIndex.{n-pattern}
+use Rattle.grammar.specs.TablesIndex.{n-list-pattern, n-pattern}
 use Rattle.grammar.specs.ShapeKind.{ArrayPatternShape, NamePatternShape, TuplePatternShape}
 use borrow.Fn.Kinds.{In}
 use borrow.Fn.PlainCycle.{Measures, is, falls, and}

@@ -23,7 +23,7 @@ use Rattle.parse.proofs.Forms.{shut, shut-judged, number-at, value-is, 
 use Rattle.parse.proofs.TypeForms as form
 use Rattle.lexer.specs.Classes as class
 use Rattle.own.specs.Kinds as kind
-use Rattle.grammar.specs.TablesIndex.{n-type}
+use Rattle.grammar.specs.TablesIndex.{n-list-type, n-type}
 use Rattle.grammar.specs.ShapeKind.{ArrayTypeShape, EitherTypeShape, ListTypeShape, NamedTypeShape, OptionTypeShape, TupleTypeShape}
 use borrow.Fn.Kinds.{In}
 use borrow.Fn.PlainCycle.{Measures, is, falls, and}
@@ -125,7 +125,7 @@ abbrev pub types-below : ℕ → In 3 types-kinds.ps
 types-below t = and 3 types-kinds.ps (falls 3 types-kinds.ps _<_ μ-types t) types.Pre
 
 abbrev pub types-Inv-loop : types-lts.InvT-loop
-types-Inv-loop draft tokens count tree₀ here₀ tree here = Lined (text draft tokens count) 15 (λ w. Unit {0}) here₀ tree₀ here tree
+types-Inv-loop draft tokens count tree₀ here₀ tree here = Lined (text draft tokens count) n-list-type (λ w. Unit {0}) here₀ tree₀ here tree
 
 abbrev pub types-μ-loop : types-lts.MeasureT-loop
 types-μ-loop draft tokens count tree₀ here₀ tree here = count - here .at

@@ -23,7 +23,7 @@ use Rattle.parse.proofs.Forms.{shut, shut-judged, number-at, value-is, 
 use Rattle.parse.proofs.TypeForms as form
 use Rattle.lexer.specs.Classes as class
 use Rattle.own.specs.Kinds as kind
-use Rattle.grammar.specs.TablesIndex.{n-type}
+use Rattle.grammar.specs.TablesIndex.{n-list-type, n-type}
 use Rattle.grammar.specs.ShapeKind.{ArrayTypeShape, EitherTypeShape, ListTypeShape, NamedTypeShape, OptionTypeShape, TupleTypeShape}
 use borrow.Fn.Kinds.{In}
 use borrow.Fn.PlainCycle.{Measures, is, falls, and}
