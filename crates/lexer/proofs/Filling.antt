@@ -8,9 +8,8 @@ use Prim.Native.Nat.{ℕ, suc, _+_, _-_, _*_, _≤_, _<_}
 use native.Mathlib.Omega.{arith}
 use borrow.Author.Tests.{lt-ltb, ltb-true, ltb-false, eqb-true, eqb-false}
 use lib.Dec.{ltb, eqb}
-use lib.ListN.{length, getD, drop, take, set, replicate, length-drop, length-append, length-set, drop-of-length-le, List·getD-append}
-use lib.Seq.{length-take-le, sets-eq, take-at, drop-at, drop-drop, getD-at}
-use borrow.Rule.Slice.PartMut.{putMid, midOf, postOf}
+use lib.ListN.{length, getD, drop, take, set, replicate, length-drop, length-append, length-set, List·getD-append}
+use lib.Seq.{sets-eq, take-at, drop-at, drop-drop, getD-at}
 use Rattle.text.specs.Refusals as refusal
 use Rattle.text.specs.Widths.{tokWide}
 use Rattle.lexer.specs.Lexemes.{Token, Lexemes, tokens, refusedAt, with-token, lexemesFrom, lexemes}
@@ -27,16 +26,6 @@ use Rattle.lexer.proofs.Nesting.{nest-snoc, nest-deep}
 use Rattle.lexer.proofs.Steps.{follow, Leads, rest-follows, step-leads}
 
 -- ---- the words of the buffer
-
--- zeros in the place of all that lies behind a
-pub cleared : (a : ℕ) (xs ys : List ℕ) → a ≤ length xs → ys ≡ replicate (length (midOf a (length xs - a) xs)) 0
-    → putMid a (length xs - a) xs ys ≡ take a xs ++ replicate (length xs - a) 0
-cleared a xs ys h e =
-    let k : length (drop a xs) ≡ length xs - a = length-drop a xs in
-    let n : length (midOf a (length xs - a) xs) ≡ length xs - a = length-take-le (length xs - a) (drop a xs) (omega arith) in
-    let g : length (drop a xs) ≤ length xs - a = omega arith in
-    let p : postOf a (length xs - a) xs ≡ [] = drop-of-length-le (drop a xs) g in
-    ap (λ l. take a xs ++ l) (ap₂ (λ y z. y ++ z) (e ∙ ap (λ m. replicate m 0) n) p ∙ append-nil _)
 
 words-length : (ts : List Token) → length (tokenWords ts) ≡ tokWide * length ts
 unfolding tokenWords

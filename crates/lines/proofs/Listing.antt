@@ -2,14 +2,15 @@
 -- Assumes nothing.
 use mathlib.Core.Bool.{cond}
 use mathlib.Core.List.{List, [], _++_, append-assoc, append-nil}
-use mathlib.Core.Path.{_≡_, refl, sym, ap, ap₂, _∙_}
+use mathlib.Core.Path.{_≡_, refl, sym, ap, _∙_}
 use Prim.Native.Nat.{ℕ, zero, suc, _+_, _-_, _*_, _/_, _≤_, _<_}
 use native.Mathlib.Omega.{arith}
 use native.Mathlib.Nat.{mul-suc, mul-le-mul-left, mul-zero}
 use borrow.Author.Tests.{lt-ltb, le-ltb}
-use borrow.Rule.Slice.PartMut.{putMid, midOf, postOf}
-use lib.ListN.{length, getD, drop, take, replicate, length-drop, drop-of-length-le}
-use lib.Seq.{sets, sets-eq, length-sets, drop-drop, length-take-le, take-at}
+use borrow.Rule.Slice.PartMut.{putMid, midOf}
+use lib.ListN.{length, getD, drop, take, replicate}
+use lib.Seq.{sets, sets-eq, length-sets, drop-drop, take-at}
+use Rattle.text.specs.Clear.{cleared}
 use Rattle.text.specs.Widths.{recWide}
 use Rattle.own.specs.Words.{recs, recWords}
 use Rattle.lines.specs.Form.{lineOf, wide, same-line}
@@ -86,16 +87,6 @@ module _ {o ws w : List ℕ} {n : ℕ} {l : List ℕ} {p i : ℕ} (x : Listing o
       let b = x .within in
       let e : i ≡ n = omega arith in
       (x .ends ∙ ap (λ (j : ℕ). wide ws * j) e, x .done ∙ ap (λ (j : ℕ). sets o 0 (linesOf ws (recs j w))) e)
-
--- zeros in the place of all that lies behind a
-cleared : (a : ℕ) (xs ys : List ℕ) → a ≤ length xs → ys ≡ replicate (length (midOf a (length xs - a) xs)) 0
-    → putMid a (length xs - a) xs ys ≡ take a xs ++ replicate (length xs - a) 0
-cleared a xs ys h e =
-    let k : length (drop a xs) ≡ length xs - a = length-drop a xs in
-    let n : length (midOf a (length xs - a) xs) ≡ length xs - a = length-take-le (length xs - a) (drop a xs) (omega arith) in
-    let g : length (drop a xs) ≤ length xs - a = omega arith in
-    let p : postOf a (length xs - a) xs ≡ [] = drop-of-length-le (drop a xs) g in
-    ap (λ l. take a xs ++ l) (ap₂ (λ y z. y ++ z) (e ∙ ap (λ m. replicate m 0) n) p ∙ append-nil _)
 
 -- how long the lines are
 text-long : (w : List ℕ) (m : ℕ) {n : ℕ} → n ≡ held w m → length (linesIn w m) ≡ lineBytes * n

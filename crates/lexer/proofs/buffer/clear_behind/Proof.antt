@@ -1,6 +1,6 @@
 -- The part behind the tokens is lent to `clear`.
 -- Assumes nothing.
-use Rattle.lexer.proofs.Filling.{cleared}
+use Rattle.text.specs.Clear.{cleared}
 use borrow.Author.Needs.{needs}
 use Rattle.lexer.proofs.buffer.clear_behind.Statement.{statement}
 use Rattle.lexer.proofs.buffer.clear_behind.Tie as tie
