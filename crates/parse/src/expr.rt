@@ -8,7 +8,7 @@ ghost use Rattle.lexer.specs.Classes as t;
 ghost use Rattle.theory.specs.Machine.{choose};
 ghost use Rattle.grammar.specs.Tables.{table};
 ghost use Rattle.grammar.specs.TablesIndex.{n-expression, n-block, n-elements, n-assignment, n-single, n-list-expression, n-many-arm, n-arm, n-arm-choice};
-ghost use Rattle.parse.specs.Choice as rule;
+ghost use Rattle.parse.specs.Choice as choice;
 ghost use Rattle.parse.specs.Contract.{text, Ready, Parses, Node, ExprKind};
 ghost use Rattle.parse.specs.Infos.{LetKind, Elements, Lone, Arms, Arm, Body};
 
@@ -45,7 +45,7 @@ fn first(lone: u32) -> u32
 // A boolean, a number, a witness or a parameter.
 fn literal(draft: &[u8], tokens: &[u32], count: usize, tree: &mut [u32], st: State) -> Step
     requires { ⌜ Ready (text (now draft) (now tokens) count) st ⌝ }
-    requires { ⌜ choose table n-single (st .class) ≡ rule.Literal ⌝ }
+    requires { ⌜ choose table n-single (st .class) ≡ choice.Literal ⌝ }
     ensures { λ r. ⌜ Parses n-single (Node ExprKind) (now (draft .entry)) (now (tokens .entry)) count st (now (tree .entry)) (now (tree .exit)) r ⌝ }
 {
     let a = token::advance(draft, tokens, count, tree::reserve(st));
@@ -183,7 +183,7 @@ pub(crate) fn single(
 // `(e)`, or a tuple.
 fn parens(draft: &[u8], tokens: &[u32], count: usize, tree: &mut [u32], st: State) -> Step
     requires { ⌜ Ready (text (now draft) (now tokens) count) st ⌝ }
-    requires { ⌜ choose table n-single (st .class) ≡ rule.Parens ⌝ }
+    requires { ⌜ choose table n-single (st .class) ≡ choice.Parens ⌝ }
     ensures { λ r. ⌜ Parses n-single (Node ExprKind) (now (draft .entry)) (now (tokens .entry)) count st (now (tree .entry)) (now (tree .exit)) r ⌝ }
 {
     let a = token::advance(draft, tokens, count, tree::reserve(st));
@@ -209,7 +209,7 @@ fn parens(draft: &[u8], tokens: &[u32], count: usize, tree: &mut [u32], st: Stat
 // `[e, …]`
 fn array(draft: &[u8], tokens: &[u32], count: usize, tree: &mut [u32], st: State) -> Step
     requires { ⌜ Ready (text (now draft) (now tokens) count) st ⌝ }
-    requires { ⌜ choose table n-single (st .class) ≡ rule.Array ⌝ }
+    requires { ⌜ choose table n-single (st .class) ≡ choice.Array ⌝ }
     ensures { λ r. ⌜ Parses n-single (Node ExprKind) (now (draft .entry)) (now (tokens .entry)) count st (now (tree .entry)) (now (tree .exit)) r ⌝ }
 {
     let a = token::advance(draft, tokens, count, tree::reserve(st));
@@ -228,7 +228,7 @@ fn array(draft: &[u8], tokens: &[u32], count: usize, tree: &mut [u32], st: State
 // `list![e, …]`
 fn list(draft: &[u8], tokens: &[u32], count: usize, tree: &mut [u32], st: State) -> Step
     requires { ⌜ Ready (text (now draft) (now tokens) count) st ⌝ }
-    requires { ⌜ choose table n-single (st .class) ≡ rule.List ⌝ }
+    requires { ⌜ choose table n-single (st .class) ≡ choice.List ⌝ }
     ensures { λ r. ⌜ Parses n-single (Node ExprKind) (now (draft .entry)) (now (tokens .entry)) count st (now (tree .entry)) (now (tree .exit)) r ⌝ }
 {
     let a = token::advance(draft, tokens, count, tree::reserve(st));
@@ -272,7 +272,7 @@ pub(crate) fn exprs(draft: &[u8], tokens: &[u32], count: usize, tree: &mut [u32]
 // `match e { arms }`. `match_expr_parser`, `assemble_match_arms`.
 fn cases(draft: &[u8], tokens: &[u32], count: usize, tree: &mut [u32], st: State) -> Step
     requires { ⌜ Ready (text (now draft) (now tokens) count) st ⌝ }
-    requires { ⌜ choose table n-single (st .class) ≡ rule.Match ⌝ }
+    requires { ⌜ choose table n-single (st .class) ≡ choice.Match ⌝ }
     ensures { λ r. ⌜ Parses n-single (Node ExprKind) (now (draft .entry)) (now (tokens .entry)) count st (now (tree .entry)) (now (tree .exit)) r ⌝ }
 {
     let a = token::advance(draft, tokens, count, tree::reserve(fault::clean(st)));

@@ -6,7 +6,7 @@ ghost use lib.Dec.{eqb};
 ghost use Rattle.lexer.specs.Classes as t;
 ghost use Rattle.grammar.specs.TablesIndex.{n-head, n-headPath, n-pair, n-headPath-optional-LParen, n-tail-pair};
 ghost use Rattle.own.specs.Arms as arm;
-ghost use Rattle.parse.specs.Choice as rule;
+ghost use Rattle.parse.specs.Choice as choice;
 ghost use Rattle.parse.specs.Contract.{text, Ready, Moved, Parses, headSort};
 ghost use Rattle.parse.specs.Infos.{ArmHead, HeadPath, Pairs, ManyPairs, MorePairs};
 use crate::State;
@@ -45,7 +45,7 @@ pub(crate) fn head(draft: &[u8], tokens: &[u32], count: usize, tree: &mut [u32],
 // `None`, or an enum path that begins with it.
 fn none(draft: &[u8], tokens: &[u32], count: usize, tree: &mut [u32], st: State) -> Step
     requires { ⌜ Ready (text (now draft) (now tokens) count) st ⌝ }
-    requires { ⌜ headSort (st .class) ≡ rule.NoneHead ⌝ }
+    requires { ⌜ headSort (st .class) ≡ choice.NoneHead ⌝ }
     ensures { λ r. ⌜ Parses n-head ArmHead (now (draft .entry)) (now (tokens .entry)) count st (now (tree .entry)) (now (tree .exit)) r ⌝ }
 {
     let a = token::advance(draft, tokens, count, st);
@@ -74,7 +74,7 @@ fn wrapper(class: u32) -> u32
 // `Left(p: T)` and kin, or an enum path that begins with such a word.
 fn wrapped(draft: &[u8], tokens: &[u32], count: usize, tree: &mut [u32], st: State) -> Step
     requires { ⌜ Ready (text (now draft) (now tokens) count) st ⌝ }
-    requires { ⌜ headSort (st .class) ≡ rule.WrappedHead ⌝ }
+    requires { ⌜ headSort (st .class) ≡ choice.WrappedHead ⌝ }
     ensures { λ r. ⌜ Parses n-head ArmHead (now (draft .entry)) (now (tokens .entry)) count st (now (tree .entry)) (now (tree .exit)) r ⌝ }
 {
     let a = token::advance(draft, tokens, count, st);
@@ -96,7 +96,7 @@ fn wrapped(draft: &[u8], tokens: &[u32], count: usize, tree: &mut [u32], st: Sta
 // An enum path that begins with Left, Right or Some.
 fn paths(draft: &[u8], tokens: &[u32], count: usize, tree: &mut [u32], st: State, a: State) -> Step
     requires { ⌜ Ready (text (now draft) (now tokens) count) st ⌝ }
-    requires { ⌜ headSort (st .class) ≡ rule.WrappedHead ⌝ }
+    requires { ⌜ headSort (st .class) ≡ choice.WrappedHead ⌝ }
     requires { ⌜ Moved (text (now draft) (now tokens) count) st a ⌝ }
     requires { ⌜ (a .class ≡ t.LParen → ⊥) ⌝ }
     ensures { λ r. ⌜ Parses n-head ArmHead (now (draft .entry)) (now (tokens .entry)) count st (now (tree .entry)) (now (tree .exit)) r ⌝ }
@@ -112,7 +112,7 @@ fn paths(draft: &[u8], tokens: &[u32], count: usize, tree: &mut [u32], st: State
 // An enum path that begins with any other name.
 fn other(draft: &[u8], tokens: &[u32], count: usize, tree: &mut [u32], st: State) -> Step
     requires { ⌜ Ready (text (now draft) (now tokens) count) st ⌝ }
-    requires { ⌜ headSort (st .class) ≡ rule.NamedHead ⌝ }
+    requires { ⌜ headSort (st .class) ≡ choice.NamedHead ⌝ }
     ensures { λ r. ⌜ Parses n-head ArmHead (now (draft .entry)) (now (tokens .entry)) count st (now (tree .entry)) (now (tree .exit)) r ⌝ }
 {
     let a = token::advance(draft, tokens, count, st);

@@ -3,7 +3,7 @@ ghost use mathlib.Core.Path.{_≡_};
 ghost use Rattle.theory.specs.Machine.{choose};
 ghost use Rattle.grammar.specs.Tables.{table};
 ghost use Rattle.grammar.specs.TablesIndex.{n-pattern, n-list-pattern};
-ghost use Rattle.parse.specs.Choice as rule;
+ghost use Rattle.parse.specs.Choice as choice;
 ghost use Rattle.parse.specs.Contract.{text, Ready, Parses, Node, PatternKind, Commas};
 use crate::State;
 use crate::Step;
@@ -35,7 +35,7 @@ pub(crate) fn pattern(
 // A name, or `_`.
 fn named(draft: &[u8], tokens: &[u32], count: usize, tree: &mut [u32], st: State) -> Step
     requires { ⌜ Ready (text (now draft) (now tokens) count) st ⌝ }
-    requires { ⌜ choose table n-pattern (st .class) ≡ rule.NamePattern ⌝ }
+    requires { ⌜ choose table n-pattern (st .class) ≡ choice.NamePattern ⌝ }
     ensures { λ r. ⌜ Parses n-pattern (Node PatternKind) (now (draft .entry)) (now (tokens .entry)) count st (now (tree .entry)) (now (tree .exit)) r ⌝ }
 {
     let a = token::advance(draft, tokens, count, tree::reserve(st));
@@ -47,7 +47,7 @@ fn named(draft: &[u8], tokens: &[u32], count: usize, tree: &mut [u32], st: State
 // `(p, …)`
 fn tuple(draft: &[u8], tokens: &[u32], count: usize, tree: &mut [u32], st: State) -> Step
     requires { ⌜ Ready (text (now draft) (now tokens) count) st ⌝ }
-    requires { ⌜ choose table n-pattern (st .class) ≡ rule.TuplePattern ⌝ }
+    requires { ⌜ choose table n-pattern (st .class) ≡ choice.TuplePattern ⌝ }
     ensures { λ r. ⌜ Parses n-pattern (Node PatternKind) (now (draft .entry)) (now (tokens .entry)) count st (now (tree .entry)) (now (tree .exit)) r ⌝ }
 {
     let a = token::advance(draft, tokens, count, tree::reserve(st));
@@ -66,7 +66,7 @@ fn tuple(draft: &[u8], tokens: &[u32], count: usize, tree: &mut [u32], st: State
 // `[p, …]`
 fn array(draft: &[u8], tokens: &[u32], count: usize, tree: &mut [u32], st: State) -> Step
     requires { ⌜ Ready (text (now draft) (now tokens) count) st ⌝ }
-    requires { ⌜ choose table n-pattern (st .class) ≡ rule.ArrayPattern ⌝ }
+    requires { ⌜ choose table n-pattern (st .class) ≡ choice.ArrayPattern ⌝ }
     ensures { λ r. ⌜ Parses n-pattern (Node PatternKind) (now (draft .entry)) (now (tokens .entry)) count st (now (tree .entry)) (now (tree .exit)) r ⌝ }
 {
     let a = token::advance(draft, tokens, count, tree::reserve(st));

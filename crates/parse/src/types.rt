@@ -3,7 +3,7 @@ ghost use mathlib.Core.Path.{_≡_};
 ghost use Rattle.theory.specs.Machine.{choose};
 ghost use Rattle.grammar.specs.Tables.{table};
 ghost use Rattle.grammar.specs.TablesIndex.{n-type, n-list-type};
-ghost use Rattle.parse.specs.Choice as rule;
+ghost use Rattle.parse.specs.Choice as choice;
 ghost use Rattle.parse.specs.Contract.{text, Ready, Parses, Node, TypeKind, Commas};
 use crate::State;
 use crate::Step;
@@ -33,7 +33,7 @@ pub(crate) fn ty(draft: &[u8], tokens: &[u32], count: usize, tree: &mut [u32], s
 // A name: an alias, a built-in alias, `bool` or an unsigned type.
 fn named(draft: &[u8], tokens: &[u32], count: usize, tree: &mut [u32], st: State) -> Step
     requires { ⌜ Ready (text (now draft) (now tokens) count) st ⌝ }
-    requires { ⌜ choose table n-type (st .class) ≡ rule.NamedType ⌝ }
+    requires { ⌜ choose table n-type (st .class) ≡ choice.NamedType ⌝ }
     ensures { λ r. ⌜ Parses n-type (Node TypeKind) (now (draft .entry)) (now (tokens .entry)) count st (now (tree .entry)) (now (tree .exit)) r ⌝ }
 {
     let a = token::advance(draft, tokens, count, tree::reserve(st));
@@ -45,7 +45,7 @@ fn named(draft: &[u8], tokens: &[u32], count: usize, tree: &mut [u32], st: State
 // `Either<A, B>`, or the name alone.
 fn either(draft: &[u8], tokens: &[u32], count: usize, tree: &mut [u32], st: State) -> Step
     requires { ⌜ Ready (text (now draft) (now tokens) count) st ⌝ }
-    requires { ⌜ choose table n-type (st .class) ≡ rule.EitherType ⌝ }
+    requires { ⌜ choose table n-type (st .class) ≡ choice.EitherType ⌝ }
     ensures { λ r. ⌜ Parses n-type (Node TypeKind) (now (draft .entry)) (now (tokens .entry)) count st (now (tree .entry)) (now (tree .exit)) r ⌝ }
 {
     let a = token::advance(draft, tokens, count, tree::reserve(st));
@@ -77,7 +77,7 @@ fn either(draft: &[u8], tokens: &[u32], count: usize, tree: &mut [u32], st: Stat
 // `Option<A>`, or the name alone.
 fn option(draft: &[u8], tokens: &[u32], count: usize, tree: &mut [u32], st: State) -> Step
     requires { ⌜ Ready (text (now draft) (now tokens) count) st ⌝ }
-    requires { ⌜ choose table n-type (st .class) ≡ rule.OptionType ⌝ }
+    requires { ⌜ choose table n-type (st .class) ≡ choice.OptionType ⌝ }
     ensures { λ r. ⌜ Parses n-type (Node TypeKind) (now (draft .entry)) (now (tokens .entry)) count st (now (tree .entry)) (now (tree .exit)) r ⌝ }
 {
     let a = token::advance(draft, tokens, count, tree::reserve(st));
@@ -101,7 +101,7 @@ fn option(draft: &[u8], tokens: &[u32], count: usize, tree: &mut [u32], st: Stat
 // `List<A, n>`, or the name alone.
 fn list(draft: &[u8], tokens: &[u32], count: usize, tree: &mut [u32], st: State) -> Step
     requires { ⌜ Ready (text (now draft) (now tokens) count) st ⌝ }
-    requires { ⌜ choose table n-type (st .class) ≡ rule.ListType ⌝ }
+    requires { ⌜ choose table n-type (st .class) ≡ choice.ListType ⌝ }
     ensures { λ r. ⌜ Parses n-type (Node TypeKind) (now (draft .entry)) (now (tokens .entry)) count st (now (tree .entry)) (now (tree .exit)) r ⌝ }
 {
     let a = token::advance(draft, tokens, count, tree::reserve(fault::clean(st)));
@@ -136,7 +136,7 @@ fn list(draft: &[u8], tokens: &[u32], count: usize, tree: &mut [u32], st: State)
 // `(A, …)`
 fn tuple(draft: &[u8], tokens: &[u32], count: usize, tree: &mut [u32], st: State) -> Step
     requires { ⌜ Ready (text (now draft) (now tokens) count) st ⌝ }
-    requires { ⌜ choose table n-type (st .class) ≡ rule.TupleType ⌝ }
+    requires { ⌜ choose table n-type (st .class) ≡ choice.TupleType ⌝ }
     ensures { λ r. ⌜ Parses n-type (Node TypeKind) (now (draft .entry)) (now (tokens .entry)) count st (now (tree .entry)) (now (tree .exit)) r ⌝ }
 {
     let a = token::advance(draft, tokens, count, tree::reserve(st));
@@ -155,7 +155,7 @@ fn tuple(draft: &[u8], tokens: &[u32], count: usize, tree: &mut [u32], st: State
 // `[A; n]`
 fn array(draft: &[u8], tokens: &[u32], count: usize, tree: &mut [u32], st: State) -> Step
     requires { ⌜ Ready (text (now draft) (now tokens) count) st ⌝ }
-    requires { ⌜ choose table n-type (st .class) ≡ rule.ArrayType ⌝ }
+    requires { ⌜ choose table n-type (st .class) ≡ choice.ArrayType ⌝ }
     ensures { λ r. ⌜ Parses n-type (Node TypeKind) (now (draft .entry)) (now (tokens .entry)) count st (now (tree .entry)) (now (tree .exit)) r ⌝ }
 {
     let a = token::advance(draft, tokens, count, tree::reserve(st));

@@ -7,7 +7,7 @@ ghost use Rattle.theory.specs.Machine.{choose};
 ghost use Rattle.grammar.specs.Tables.{table};
 ghost use Rattle.kinds.specs.Shape.{has};
 ghost use Rattle.grammar.specs.TablesIndex.{n-single, n-arguments, n-path};
-ghost use Rattle.parse.specs.Choice as rule;
+ghost use Rattle.parse.specs.Choice as choice;
 ghost use Rattle.parse.specs.Contract.{text, Ready, Near, Moved, reserved, Parses, Node, ExprKind};
 ghost use Rattle.parse.specs.Infos.{Begun, Generic, Leads, Args, Path};
 use crate::State;
@@ -52,7 +52,7 @@ pub(crate) fn simple(
     st: State,
 ) -> Step
     requires { ⌜ Ready (text (now draft) (now tokens) count) st ⌝ }
-    requires { ⌜ choose table n-single (st .class) ≡ rule.SimpleCall ⌝ }
+    requires { ⌜ choose table n-single (st .class) ≡ choice.SimpleCall ⌝ }
     ensures { λ r. ⌜ Parses n-single (Node ExprKind) (now (draft .entry)) (now (tokens .entry)) count st (now (tree .entry)) (now (tree .exit)) r ⌝ }
 {
     let a = token::advance(draft, tokens, count, tree::reserve(st));
@@ -68,7 +68,7 @@ pub(crate) fn simple(
 // `<T>::into(e, …)`
 pub(crate) fn cast(draft: &[u8], tokens: &[u32], count: usize, tree: &mut [u32], st: State) -> Step
     requires { ⌜ Ready (text (now draft) (now tokens) count) st ⌝ }
-    requires { ⌜ choose table n-single (st .class) ≡ rule.CastCall ⌝ }
+    requires { ⌜ choose table n-single (st .class) ≡ choice.CastCall ⌝ }
     ensures { λ r. ⌜ Parses n-single (Node ExprKind) (now (draft .entry)) (now (tokens .entry)) count st (now (tree .entry)) (now (tree .exit)) r ⌝ }
 {
     let a = token::advance(draft, tokens, count, tree::reserve(st));
@@ -99,7 +99,7 @@ pub(crate) fn cast(draft: &[u8], tokens: &[u32], count: usize, tree: &mut [u32],
 // A name: a call, a wrapper, an enum construction or a variable.
 pub(crate) fn named(draft: &[u8], tokens: &[u32], count: usize, tree: &mut [u32], st: State) -> Step
     requires { ⌜ Ready (text (now draft) (now tokens) count) st ⌝ }
-    requires { ⌜ choose table n-single (st .class) ≡ rule.Named ⌝ }
+    requires { ⌜ choose table n-single (st .class) ≡ choice.Named ⌝ }
     ensures { λ r. ⌜ Parses n-single (Node ExprKind) (now (draft .entry)) (now (tokens .entry)) count st (now (tree .entry)) (now (tree .exit)) r ⌝ }
 {
     let a = token::advance(draft, tokens, count, tree::reserve(st));
@@ -120,7 +120,7 @@ pub(crate) fn named(draft: &[u8], tokens: &[u32], count: usize, tree: &mut [u32]
 // A call of a name, from its arguments on; a wrapper where it is one expression and no comma.
 fn called(draft: &[u8], tokens: &[u32], count: usize, tree: &mut [u32], st: State, a: State) -> Step
     requires { ⌜ Ready (text (now draft) (now tokens) count) st ⌝ }
-    requires { ⌜ choose table n-single (st .class) ≡ rule.Named ⌝ }
+    requires { ⌜ choose table n-single (st .class) ≡ choice.Named ⌝ }
     requires { ⌜ Moved (text (now draft) (now tokens) count) (reserved st) a ⌝ }
     requires { ⌜ a .class ≡ t.LParen ⌝ }
     ensures { λ r. ⌜ Parses n-single (Node ExprKind) (now (draft .entry)) (now (tokens .entry)) count st (now (tree .entry)) (now (tree .exit)) r ⌝ }
@@ -140,7 +140,7 @@ fn called(draft: &[u8], tokens: &[u32], count: usize, tree: &mut [u32], st: Stat
 // `Left(e)` and kin; or a call of that name, whose record is put before the arguments.
 fn wrap(draft: &[u8], tokens: &[u32], count: usize, tree: &mut [u32], st: State, a: State) -> Step
     requires { ⌜ Ready (text (now draft) (now tokens) count) st ⌝ }
-    requires { ⌜ choose table n-single (st .class) ≡ rule.Named ⌝ }
+    requires { ⌜ choose table n-single (st .class) ≡ choice.Named ⌝ }
     requires { ⌜ has (t.Left ∷ t.Right ∷ t.Some ∷ []) (st .class) ≡ true ⌝ }
     requires { ⌜ Moved (text (now draft) (now tokens) count) (reserved st) a ⌝ }
     requires { ⌜ a .class ≡ t.LParen ⌝ }
@@ -198,7 +198,7 @@ fn path(draft: &[u8], tokens: &[u32], count: usize, tree: &mut [u32], st: State)
 // A name that is no call: `None`, a variable or the beginning of an enum construction.
 pub(crate) fn bare(draft: &[u8], tokens: &[u32], count: usize, tree: &mut [u32], st: State) -> Step
     requires { ⌜ Ready (text (now draft) (now tokens) count) st ⌝ }
-    requires { ⌜ choose table n-single (st .class) ≡ rule.Bare ⌝ }
+    requires { ⌜ choose table n-single (st .class) ≡ choice.Bare ⌝ }
     ensures { λ r. ⌜ Parses n-single (Node ExprKind) (now (draft .entry)) (now (tokens .entry)) count st (now (tree .entry)) (now (tree .exit)) r ⌝ }
 {
     let a = token::advance(draft, tokens, count, tree::reserve(st));
@@ -249,7 +249,7 @@ fn of_type(
     b: State,
 ) -> Step
     requires { ⌜ Ready (text (now draft) (now tokens) count) st ⌝ }
-    requires { ⌜ choose table n-single (st .class) ≡ rule.Typed ⌝ }
+    requires { ⌜ choose table n-single (st .class) ≡ choice.Typed ⌝ }
     requires { ⌜ Begun (text (now draft) (now tokens) count) (reserved st) b ⌝ }
     requires { ⌜ b .class ≡ t.LAngle ⌝ }
     ensures { λ r. ⌜ Parses n-single (Node ExprKind) (now (draft .entry)) (now (tokens .entry)) count st (now (tree .entry)) (now (tree .exit)) r ⌝ }
@@ -274,7 +274,7 @@ fn of_type(
 // `fold::<f, n>(e, …)` and `array_fold::<f, n>(e, …)`, from `<` on. What is refused inside is kept apart.
 fn bound(draft: &[u8], tokens: &[u32], count: usize, tree: &mut [u32], st: State, b: State) -> Step
     requires { ⌜ Ready (text (now draft) (now tokens) count) st ⌝ }
-    requires { ⌜ choose table n-single (st .class) ≡ rule.Folding ⌝ }
+    requires { ⌜ choose table n-single (st .class) ≡ choice.Folding ⌝ }
     requires { ⌜ Begun (text (now draft) (now tokens) count) (reserved st) b ⌝ }
     requires { ⌜ b .class ≡ t.LAngle ⌝ }
     ensures { λ r. ⌜ Parses n-single (Node ExprKind) (now (draft .entry)) (now (tokens .entry)) count st (now (tree .entry)) (now (tree .exit)) r ⌝ }
@@ -309,7 +309,7 @@ fn bound(draft: &[u8], tokens: &[u32], count: usize, tree: &mut [u32], st: State
 // `for_while::<f>(e, …)`, from `<` on.
 fn loops(draft: &[u8], tokens: &[u32], count: usize, tree: &mut [u32], st: State, b: State) -> Step
     requires { ⌜ Ready (text (now draft) (now tokens) count) st ⌝ }
-    requires { ⌜ choose table n-single (st .class) ≡ rule.ForWhile ⌝ }
+    requires { ⌜ choose table n-single (st .class) ≡ choice.ForWhile ⌝ }
     requires { ⌜ Begun (text (now draft) (now tokens) count) (reserved st) b ⌝ }
     requires { ⌜ b .class ≡ t.LAngle ⌝ }
     ensures { λ r. ⌜ Parses n-single (Node ExprKind) (now (draft .entry)) (now (tokens .entry)) count st (now (tree .entry)) (now (tree .exit)) r ⌝ }
