@@ -109,12 +109,7 @@ def main():
     rt = os.path.join(ROOT, "src", "choice.rt")
     files = {rt: between_marks(open(rt).read(), code(all_choices)), os.path.join(ROOT, "specs", "Choice.antt"): names(all_choices),
              os.path.join(ROOT, "proofs", "ChoiceTables.antt"): lists(all_choices)}
-    for path, text in files.items():
-        if "--check" not in sys.argv:
-            open(path, "w").write(text)
-        elif not os.path.exists(path) or open(path).read() != text:
-            print(f"{os.path.relpath(path, os.path.join(ROOT, '..', '..'))} is not what tools/choice.py writes", file=sys.stderr)
-            sys.exit(1)
+    tables.keep(files, "tools/choice.py")
 
 
 if __name__ == "__main__":

@@ -326,6 +326,16 @@ def load():
     return grammar, shapes, Table(means, rules)
 
 
+def keep(files, script):
+    """Writes the files of a script; with --check writes nothing, and exits with 1 where one is not what would be written."""
+    for path, text in files.items():
+        if "--check" not in sys.argv:
+            open(path, "w").write(text)
+        elif not os.path.exists(path) or open(path).read() != text:
+            print(f"{os.path.relpath(path, ROOT)} is not what {script} writes", file=sys.stderr)
+            sys.exit(1)
+
+
 def main():
     grammar, shapes, table = load()
     printer = Printer(grammar, shapes)
@@ -339,13 +349,7 @@ def main():
         print(len(table.rules), "nonterminals,", sum(map(len, table.rules)), "alternatives,", len(shapes["bodies"]), "kinds; greatest cost", max(table.cost))
         return
     files = {"Tables.antt": written(grammar, shapes, table, printer), "TablesIndex.antt": index(grammar, shapes, table, printer)}
-    for name, text in files.items():
-        path = os.path.join(SPECS, name)
-        if "--check" not in sys.argv:
-            open(path, "w").write(text)
-        elif not os.path.exists(path) or open(path).read() != text:
-            print(f"{name} is not what tools/grammar.py writes", file=sys.stderr)
-            sys.exit(1)
+    keep({os.path.join(SPECS, name): text for name, text in files.items()}, "tools/grammar.py")
 
 
 if __name__ == "__main__":
