@@ -7,7 +7,7 @@ variable, [] and ( x ∷ l ); application; the operators below; numerals; one fo
 import os
 import re
 
-OPERATORS = {"but": 61, "∷": 60, "++": 55, "⨾": 42, "∣": 41}  # all read as if they associated to the right
+OPERATORS = {"but": 61, "∷": 60, "++": 55, "⨾": 42, "¦": 41}  # all read as if they associated to the right
 
 
 def definitions(text):

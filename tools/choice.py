@@ -1,11 +1,11 @@
 #!/usr/bin/env python3
 """Writes which alternative the class of the next token leads to: the tables of crates/parse/src/choice.rt (the part between its two marks),
-the same as lists for the proofs (crates/parse/proofs/ChoiceTables.antt), and a name for each alternative (there, and specs/Choice.antt).
+the same as lists for the proofs (crates/parse/proofs/choice/Tables.antt), and a name for each alternative (there, and specs/Choice.antt).
 
     tools/choice.py            write the files
     tools/choice.py --check    write nothing; exit 1 if a file is not what would be written
 
-Nothing here needs trust: the crate's proofs compute over every class that a table says what grammar's table says (proofs/Choices.antt).
+Nothing here needs trust: the crate's proofs compute over every class that a table says what grammar's table says (proofs/choice/Checks.antt).
 """
 import os
 import re
@@ -89,7 +89,7 @@ def names(all_choices):
 
 
 def lists(all_choices):
-    """proofs/ChoiceTables.antt"""
+    """proofs/choice/Tables.antt"""
     out = "-- Made by tools/choice.py: the tables of src/choice.rt as lists.\n-- Assumes nothing.\n"
     out += "use mathlib.Core.List.{List, [], _∷_}\nuse Prim.Native.Nat.{ℕ}\n"
     for t in all_choices:
@@ -108,7 +108,7 @@ def main():
     all_choices = choices()
     rt = os.path.join(ROOT, "src", "choice.rt")
     files = {rt: between_marks(open(rt).read(), code(all_choices)), os.path.join(ROOT, "specs", "Choice.antt"): names(all_choices),
-             os.path.join(ROOT, "proofs", "ChoiceTables.antt"): lists(all_choices)}
+             os.path.join(ROOT, "proofs", "choice", "Tables.antt"): lists(all_choices)}
     tables.keep(files, "tools/choice.py")
 
 

@@ -36,7 +36,7 @@ def row(draft, listing):
 
 def spec(rows):
     text = "-- Drafts with the partner's answers.\n-- Assumes nothing.\nuse mathlib.Core.List.{List, [], _∷_, map}\nuse mathlib.Core.Path.{_≡_, refl}\n"
-    text += "use Rattle.grammar.specs.Cases.{refusedWith, lists, Case, defined, roomy}\n"
+    text += "use Rattle.grammar.specs.cases.Cases.{refusedWith, lists, Case, defined, roomy}\n"
     for k in range(0, len(rows), 20):
         text += f"\nunfoldable cases{k} : List Case\ncases{k} =\n    " + " ∷\n    ".join(rows[k:k + 20]) + " ∷ []\n"
         text += f"\nagree{k} : map defined cases{k} ≡ map (λ (c : Case). c .result) cases{k}\nunfolding cases{k} defined\nagree{k} = refl\n"

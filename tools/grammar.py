@@ -1,12 +1,12 @@
 #!/usr/bin/env python3
-"""Writes crates/grammar/specs/Tables.antt, the productions of the grammar that specs/Shapes.antt states, with their LL(1) table,
-and specs/TablesIndex.antt, a name for each nonterminal.
+"""Writes crates/grammar/specs/shapes/Tables.antt, the productions of the grammar that specs/shapes/Shapes.antt states, with their LL(1) table,
+and specs/shapes/TablesIndex.antt, a name for each nonterminal.
 
     tools/grammar.py            write the files
     tools/grammar.py --check    write nothing; exit 1 if a file is not what would be written
     tools/grammar.py --list     print the nonterminals
 
-The grammar is read from the specs (Classes of crate lexer; ShapeKind, Notation, Shapes) by tools/antt_terms.py. Nothing
+The grammar is read from the specs (Classes of crate lexer; ShapeKind, Notation and Shapes of specs/shapes) by tools/antt_terms.py. Nothing
 here needs trust: antt computes `good`, `sames` and `paid` on the result. A conflict of the table is named here, since the
 checks only say that there is one.
 """
@@ -18,7 +18,7 @@ sys.path.insert(0, os.path.dirname(os.path.abspath(__file__)))
 from antt_terms import Values  # noqa: E402
 
 ROOT = os.path.join(os.path.dirname(os.path.abspath(__file__)), "..")
-SPECS = os.path.join(ROOT, "crates", "grammar", "specs")
+SPECS = os.path.join(ROOT, "crates", "grammar", "specs", "shapes")
 CLASSES = os.path.join(ROOT, "crates", "lexer", "specs", "Classes.antt")
 SOURCES = [(CLASSES, "t")] + [(os.path.join(SPECS, name + ".antt"), None) for name in ("ShapeKind", "Notation", "Shapes")]
 PER_TOKEN = 64  # the fuel for each token, as in theory's Fuel.antt
@@ -307,8 +307,8 @@ def written(grammar, shapes, table, printer):
         "use Rattle.theory.specs.Grammar.{tok, nt, on, Row}",
         f"use Rattle.theory.specs.Ebnf.{{Ex, {', '.join(ebnf)}}}",
         "use Rattle.lexer.specs.Classes as t",
-        f"use Rattle.grammar.specs.ShapeKind.{{{', '.join(shapes_used['ShapeKind'])}}}",
-        f"use Rattle.grammar.specs.Shapes.{{{', '.join(shapes_used['Shapes'])}}}",
+        f"use Rattle.grammar.specs.shapes.ShapeKind.{{{', '.join(shapes_used['ShapeKind'])}}}",
+        f"use Rattle.grammar.specs.shapes.Shapes.{{{', '.join(shapes_used['Shapes'])}}}",
         "",
     ]
     for A, e in enumerate(table.means):

@@ -7,8 +7,8 @@ use Rattle.theory.specs.Ebnf.{Ex}
 use Rattle.own.specs.Tree.{Tok, Node, Rec, records}
 use Rattle.own.specs.Law.{Ownership}
 use Rattle.kinds.specs.Spelled.{Spelled}
-use Rattle.grammar.specs.ShapeKind.{function}
-use Rattle.grammar.specs.TablesIndex.{n-function}
+use Rattle.grammar.specs.shapes.ShapeKind.{function}
+use Rattle.grammar.specs.shapes.TablesIndex.{n-function}
 
 -- One function and then the end: "`Function::parser()` followed by the end".
 pub data Entry : Type 0 where

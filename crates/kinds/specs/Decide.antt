@@ -12,7 +12,7 @@ use Rattle.own.specs.Law.{Sort, word, child, made}
 use Rattle.own.specs.Lists.{All, nil, _&_, all-map, all-append}
 use Rattle.own.specs.Kinds as kind
 use Rattle.kinds.specs.Lists.{Some, here, there}
-use Rattle.kinds.specs.Shape.{has, has-left, has-right, Part, of, name, arm, bound, size, isBound, number, fits, Shape, nothing, never, mark, part, _▸_, _∣_, many, Spells, empty, one-mark, one-part, seq, left, right, stop, more}
+use Rattle.kinds.specs.Shape.{has, has-left, has-right, Part, of, name, arm, bound, size, isBound, number, fits, Shape, nothing, never, mark, part, _▸_, _¦_, many, Spells, empty, one-mark, one-part, seq, left, right, stop, more}
 use Rattle.kinds.specs.Rules.{Form}
 use Rattle.kinds.specs.Spelled.{formsOf, Written, Spelled}
 use Rattle.kinds.specs.Ownership.{Right, law-3}
@@ -32,7 +32,7 @@ gather f g never = []
 gather f g (mark cs) = f cs
 gather f g (part p) = g p
 gather f g (a ▸ b) = gather f g a ++ gather f g b
-gather f g (a ∣ b) = gather f g a ++ gather f g b
+gather f g (a ¦ b) = gather f g a ++ gather f g b
 gather f g (many a) = gather f g a
 
 -- The classes of a shape's marks.

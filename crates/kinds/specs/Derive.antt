@@ -11,7 +11,7 @@ use lib.Dec.{T}
 use Rattle.text.specs.Table.{first-of, second-of}
 use Rattle.own.specs.Law.{Sort, word, child}
 use Rattle.own.specs.Places.{pair, or-left, or-right, or-cases}
-use Rattle.kinds.specs.Shape.{has, Part, fits, Shape, nothing, never, mark, part, _▸_, _∣_, many, Spells, empty, one-mark, one-part, seq, left, right, stop, more}
+use Rattle.kinds.specs.Shape.{has, Part, fits, Shape, nothing, never, mark, part, _▸_, _¦_, many, Spells, empty, one-mark, one-part, seq, left, right, stop, more}
 
 -- Whether a shape has the empty sequence.
 unfoldable pub blank : Shape → Bool
@@ -20,7 +20,7 @@ blank never = false
 blank (mark cs) = false
 blank (part p) = false
 blank (a ▸ b) = blank a && blank b
-blank (a ∣ b) = blank a || blank b
+blank (a ¦ b) = blank a || blank b
 blank (many a) = true
 
 -- Whether a shape is the one that has no sequence.
@@ -30,7 +30,7 @@ dead never = true
 dead (mark cs) = false
 dead (part p) = false
 dead (a ▸ b) = false
-dead (a ∣ b) = false
+dead (a ¦ b) = false
 dead (many a) = false
 
 -- One after the other, and none at all if the first has no sequence.
@@ -39,7 +39,7 @@ then a b = cond (dead a) never (a ▸ b)
 
 -- Either, and the second if the first has no sequence.
 unfoldable pub either : Shape → Shape → Shape
-either a b = cond (dead a) b (a ∣ b)
+either a b = cond (dead a) b (a ¦ b)
 
 -- Whether a piece is a mark of one of these classes.
 unfoldable pub isMark : List ℕ → Sort → Bool
@@ -58,7 +58,7 @@ after s never = never
 after s (mark cs) = cond (isMark cs s) nothing never
 after s (part p) = cond (isPart p s) nothing never
 after s (a ▸ b) = either (then (after s a) b) (cond (blank a) (after s b) never)
-after s (a ∣ b) = either (after s a) (after s b)
+after s (a ¦ b) = either (after s a) (after s b)
 after s (many a) = then (after s a) (many a)
 
 -- Whether a shape has a sequence.
@@ -98,7 +98,7 @@ either-left : {a : Shape} (b : Shape) {w : List Sort} → Spells a w → Spells 
 unfolding either
 either-left {a} b {w} p = go (dead a) (λ t. dead-none t p)
   where
-    go : (d : Bool) → (T d → ⊥) → Spells (cond d b (a ∣ b)) w
+    go : (d : Bool) → (T d → ⊥) → Spells (cond d b (a ¦ b)) w
     go true n = absurd (n tt)
     go false n = left p
 
@@ -106,15 +106,15 @@ either-right : (a : Shape) {b : Shape} {w : List Sort} → Spells b w → Spells
 unfolding either
 either-right a {b} {w} p = go (dead a)
   where
-    go : (d : Bool) → Spells (cond d b (a ∣ b)) w
+    go : (d : Bool) → Spells (cond d b (a ¦ b)) w
     go true = p
     go false = right p
 
-either-out : (a b : Shape) {w : List Sort} → Spells (either a b) w → Spells (a ∣ b) w
+either-out : (a b : Shape) {w : List Sort} → Spells (either a b) w → Spells (a ¦ b) w
 unfolding either
 either-out a b {w} = go (dead a)
   where
-    go : (d : Bool) → Spells (cond d b (a ∣ b)) w → Spells (a ∣ b) w
+    go : (d : Bool) → Spells (cond d b (a ¦ b)) w → Spells (a ¦ b) w
     go true p = right p
     go false p = p
 
@@ -135,9 +135,9 @@ blank-has never t = absurd t
 blank-has (mark cs) t = absurd t
 blank-has (part p) t = absurd t
 blank-has (a ▸ b) t = seq (blank-has a (first-of (blank a) (blank b) t)) (blank-has b (second-of (blank a) (blank b) t))
-blank-has (a ∣ b) t = go (or-cases (blank a) (blank b) t) (blank-has a) (blank-has b)
+blank-has (a ¦ b) t = go (or-cases (blank a) (blank b) t) (blank-has a) (blank-has b)
   where
-    go : T (blank a) ⊎ T (blank b) → (T (blank a) → Spells a []) → (T (blank b) → Spells b []) → Spells (a ∣ b) []
+    go : T (blank a) ⊎ T (blank b) → (T (blank a) → Spells a []) → (T (blank b) → Spells b []) → Spells (a ¦ b) []
     go (inl u) f g = left (f u)
     go (inr u) f g = right (g u)
 blank-has (many a) t = stop
@@ -177,14 +177,14 @@ abbrev Sound : Sort → Shape → Type 0
 Sound s a = (w : List Sort) → Spells (after s a) w → Spells a (s ∷ w)
 
 seq-sound : (s : Sort) (a b : Shape) {w : List Sort} → Sound s a → Sound s b
-    → Spells (then (after s a) b ∣ cond (blank a) (after s b) never) w → Spells (a ▸ b) (s ∷ w)
+    → Spells (then (after s a) b ¦ cond (blank a) (after s b) never) w → Spells (a ▸ b) (s ∷ w)
 seq-sound s a b f g (left p) = go (then-out (after s a) b p)
   where
     go : {w : List Sort} → Spells (after s a ▸ b) w → Spells (a ▸ b) (s ∷ w)
     go (seq {v = v} q r) = seq (f v q) r
 seq-sound s a b {w} f g (right p) = let q = when-out (blank a) (after s b) p in seq (blank-has a (q .0)) (g w (q .1))
 
-either-sound : (s : Sort) (a b : Shape) {w : List Sort} → Sound s a → Sound s b → Spells (after s a ∣ after s b) w → Spells (a ∣ b) (s ∷ w)
+either-sound : (s : Sort) (a b : Shape) {w : List Sort} → Sound s a → Sound s b → Spells (after s a ¦ after s b) w → Spells (a ¦ b) (s ∷ w)
 either-sound s a b {w} f g (left p) = left (f w p)
 either-sound s a b {w} f g (right p) = right (g w p)
 
@@ -198,7 +198,7 @@ after-sound s never w p = absurd (dead-none tt p)
 after-sound s (mark cs) w p = let q = when-out (isMark cs s) nothing p in mark-sound cs s (q .0) (q .1)
 after-sound s (part x) w p = let q = when-out (isPart x s) nothing p in part-sound x s (q .0) (q .1)
 after-sound s (a ▸ b) w p = seq-sound s a b (after-sound s a) (after-sound s b) (either-out (then (after s a) b) (cond (blank a) (after s b) never) p)
-after-sound s (a ∣ b) w p = either-sound s a b (after-sound s a) (after-sound s b) (either-out (after s a) (after s b) p)
+after-sound s (a ¦ b) w p = either-sound s a b (after-sound s a) (after-sound s b) (either-out (after s a) (after s b) p)
 after-sound s (many a) w p = many-sound s a (after-sound s a) (then-out (after s a) (many a) p)
 
 -- and of a sequence of the shape that begins with the piece, the rest is left

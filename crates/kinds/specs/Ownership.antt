@@ -19,7 +19,7 @@ use Rattle.own.specs.Kinds as kind
 use Rattle.own.specs.Arms as arm
 use Rattle.kinds.specs.Words.{classOf}
 use Rattle.kinds.specs.Lists.{some, all, all-keep, all-some, from-some, only-one}
-use Rattle.kinds.specs.Shape.{count, span, arm, fits, Shape, nothing, never, part, _▸_, _∣_, many, Spells, empty, one-mark, one-part, seq, left, right, stop, more}
+use Rattle.kinds.specs.Shape.{count, span, arm, fits, Shape, nothing, never, part, _▸_, _¦_, many, Spells, empty, one-mark, one-part, seq, left, right, stop, more}
 use Rattle.kinds.specs.Shape as shape
 use Rattle.lexer.specs.Classes as t
 use Rattle.kinds.specs.Rules.{forms, the, expression, braces, arms, partners}
@@ -32,7 +32,7 @@ marked never = true
 marked (shape.mark cs) = true
 marked (part p) = false
 marked (a ▸ b) = marked a || marked b
-marked (a ∣ b) = marked a && marked b
+marked (a ¦ b) = marked a && marked b
 marked (many a) = false
 
 -- Each form has a mark of its own, by one computation over the table.

@@ -8,7 +8,7 @@ use Rattle.own.specs.Calls as call
 use Rattle.own.specs.Arms as arm
 use Rattle.lexer.specs.Classes as t
 use Rattle.kinds.specs.Fields.{Fields, plain, low, below, among, wide, bounded, parameters, names, pairs}
-use Rattle.kinds.specs.Shape.{doubled, of, name, arm, bound, size, Shape, nothing, mark, part, _▸_, _∣_, many}
+use Rattle.kinds.specs.Shape.{doubled, of, name, arm, bound, size, Shape, nothing, mark, part, _▸_, _¦_, many}
 use Rattle.kinds.specs.Families as family
 
 -- Names that may be variables: "`None` is itself unless `::` follows".
@@ -69,7 +69,7 @@ functionName = part (name t.functionNames)
 
 -- Or nothing.
 abbrev pub optional : Shape → Shape
-optional a = nothing ∣ a
+optional a = nothing ¦ a
 
 -- At least one, with commas between; the list may end in a comma.
 abbrev pub some : Shape → Shape
@@ -109,15 +109,15 @@ typed = pattern ▸ the t.Colon ▸ type
 
 -- The end of an arm: "the fat arrow, an expression, and a comma; only after a block may the comma be missing".
 abbrev pub body : Shape
-body = the t.FatArrow ▸ (block ▸ optional (the t.Comma) ∣ single ▸ the t.Comma)
+body = the t.FatArrow ▸ (block ▸ optional (the t.Comma) ¦ single ▸ the t.Comma)
 
 -- Two built-in arms, in the order written.
 abbrev pub arms : ℕ → ℕ → Shape
-arms a b = part (arm a) ▸ part (arm b) ∣ part (arm b) ▸ part (arm a)
+arms a b = part (arm a) ▸ part (arm b) ¦ part (arm b) ▸ part (arm a)
 
 -- Two that are partners: Left with Right, None with Some, False with True.
 abbrev pub partners : Shape
-partners = arms arm.Left arm.Right ∣ arms arm.None arm.Some ∣ arms arm.False arm.True
+partners = arms arm.Left arm.Right ¦ arms arm.None arm.Some ¦ arms arm.False arm.True
 
 -- How many builtin aliases and how many unsigned types there are: "low 0–23 in `BuiltinAlias` order", "`u1` to `u256`, powers of two only".
 abbrev pub builtinCount : ℕ

@@ -83,14 +83,14 @@ fits size k low high class = eqb k kind.Number && ltb 0 (number low high)
 
 -- A shape: nothing; none at all; a token of one of these classes; a part; one after the other; either; any number of times.
 infixr 60 _▸_
-infixr 50 _∣_
+infixr 50 _¦_
 pub data Shape : Type 0 where
   nothing : Shape
   never : Shape
   mark : List ℕ → Shape
   part : Part → Shape
   _▸_ : Shape → Shape → Shape
-  _∣_ : Shape → Shape → Shape
+  _¦_ : Shape → Shape → Shape
   many : Shape → Shape
 
 -- The sequences that a shape has.
@@ -99,7 +99,7 @@ pub data Spells : Shape → List Sort → Type 0 where
   one-mark : {cs : List ℕ} (c : ℕ) → T (has cs c) → Spells (mark cs) (word c ∷ [])
   one-part : {p : Part} (k l h c : ℕ) → T (fits p k l h c) → Spells (part p) (child k l h c ∷ [])
   seq : {a b : Shape} {v w : List Sort} → Spells a v → Spells b w → Spells (a ▸ b) (v ++ w)
-  left : {a b : Shape} {w : List Sort} → Spells a w → Spells (a ∣ b) w
-  right : {a b : Shape} {w : List Sort} → Spells b w → Spells (a ∣ b) w
+  left : {a b : Shape} {w : List Sort} → Spells a w → Spells (a ¦ b) w
+  right : {a b : Shape} {w : List Sort} → Spells b w → Spells (a ¦ b) w
   stop : {a : Shape} → Spells (many a) []
   more : {a : Shape} {v w : List Sort} → Spells a v → Spells (many a) w → Spells (many a) (v ++ w)

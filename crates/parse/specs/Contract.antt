@@ -30,12 +30,12 @@ use Rattle.kinds.specs.Shape.{has, halfRange}
 use Rattle.kinds.specs.Fields.{counted}
 use Rattle.kinds.specs.Families as family
 use Rattle.lexer.specs.Classes as t
-use Rattle.grammar.specs.Shapes.{shapes}
-use Rattle.grammar.specs.Tables.{means, table}
-use Rattle.grammar.specs.TablesIndex.{n-arm, n-head}
-use Rattle.grammar.specs.Records.{reads, lowHalf, highHalf, sees, nameCount, arranged, textOf, recordItems}
-use Rattle.grammar.specs.Faults.{Fault, earlier, earliest, faults}
-use Rattle.grammar.specs.KeptTokens.{classesOf}
+use Rattle.grammar.specs.shapes.Shapes.{shapes}
+use Rattle.grammar.specs.shapes.Tables.{means, table}
+use Rattle.grammar.specs.shapes.TablesIndex.{n-arm, n-head}
+use Rattle.grammar.specs.records.Records.{reads, lowHalf, highHalf, sees, nameCount, arranged, textOf, recordItems}
+use Rattle.grammar.specs.records.Faults.{Fault, earlier, earliest, faults}
+use Rattle.grammar.specs.spelled.TreeTokens.{classesOf}
 use Rattle.parse.specs.declared.State.{State}
 use Rattle.parse.specs.declared.token.Lexeme.{Lexeme}
 use Rattle.parse.specs.declared.Step.{Step}

@@ -14,10 +14,10 @@ use Rattle.text.specs.Widths.{tokWide, recWide}
 use Rattle.text.specs.Refusals as refusal
 use Rattle.own.specs.Words.{recWords}
 use Rattle.grammar.specs.Entry.{Entry}
-use Rattle.grammar.specs.WellShaped.{shapeOf}
-use Rattle.grammar.specs.KeptTokens.{classesOf}
-use Rattle.grammar.specs.Answer as reader
-use Rattle.grammar.specs.Answer.{toksOf, startOf, Reading, shaped, fitted, content, recordsIn}
+use Rattle.grammar.specs.shapes.WellShaped.{shapeOf}
+use Rattle.grammar.specs.spelled.TreeTokens.{classesOf}
+use Rattle.grammar.specs.answers.Answer as reader
+use Rattle.grammar.specs.answers.Answer.{toksOf, startOf, Reading, shaped, fitted, content, recordsIn}
 use Rattle.parse.specs.Contract.{Text, kept, Stands}
 use Rattle.parse.specs.declared.State.{State}
 use Rattle.parse.specs.declared.Step as steps

@@ -18,9 +18,9 @@ use Rattle.own.specs.Kinds as kind
 use Rattle.kinds.specs.Fields.{counted}
 use Rattle.kinds.specs.Families as family
 use Rattle.lexer.specs.Classes as t
-use Rattle.grammar.specs.Records.{Head, head, sees, nameCount, lone, unended, armHead, arranged}
-use Rattle.grammar.specs.Tables.{table}
-use Rattle.grammar.specs.TablesIndex.{n-single}
+use Rattle.grammar.specs.records.Records.{Head, head, sees, nameCount, lone, unended, armHead, arranged}
+use Rattle.grammar.specs.shapes.Tables.{table}
+use Rattle.grammar.specs.shapes.TablesIndex.{n-single}
 use Rattle.text.specs.Refusals as refusal
 use Rattle.parse.specs.Contract.{Text, Moved, Only, Turned, countable}
 use Rattle.parse.specs.Choice as choice

@@ -2,8 +2,8 @@
 // class.
 ghost use mathlib.Core.Path.{_≡_};
 ghost use Rattle.theory.specs.Machine.{choose};
-ghost use Rattle.grammar.specs.Tables.{table};
-ghost use Rattle.grammar.specs.TablesIndex.{n-type, n-pattern, n-single};
+ghost use Rattle.grammar.specs.shapes.Tables.{table};
+ghost use Rattle.grammar.specs.shapes.TablesIndex.{n-type, n-pattern, n-single};
 ghost use Rattle.parse.specs.Contract.{nameSort, headSort};
 
 // Written by tools/choice.py, to the second mark.

@@ -5,7 +5,7 @@ ghost use lib.ListN.{length};
 ghost use Rattle.text.specs.Widths.{tokWide};
 ghost use Rattle.lexer.specs.Buffer.{tokensIn};
 ghost use Rattle.grammar.specs.Entry.{oneFunction};
-ghost use Rattle.grammar.specs.Answer.{startOf};
+ghost use Rattle.grammar.specs.answers.Answer.{startOf};
 ghost use Rattle.parse.specs.Contract.{text, countable};
 ghost use Rattle.parse.specs.Entry.{tooMany, Starts, ended, judged, answerOf, treeOf};
 use crate::Answer;

@@ -4,7 +4,7 @@ ghost use mathlib.Core.Bool.{cond};
 ghost use mathlib.Core.Path.{_≡_};
 ghost use lib.Dec.{eqb};
 ghost use Rattle.lexer.specs.Classes as t;
-ghost use Rattle.grammar.specs.TablesIndex.{n-head, n-headPath, n-pair, n-headPath-optional-LParen, n-tail-pair};
+ghost use Rattle.grammar.specs.shapes.TablesIndex.{n-head, n-headPath, n-pair, n-headPath-optional-LParen, n-tail-pair};
 ghost use Rattle.own.specs.Arms as arm;
 ghost use Rattle.parse.specs.Choice as choice;
 ghost use Rattle.parse.specs.Contract.{text, Ready, Moved, Parses, headSort};

@@ -1,8 +1,8 @@
 // Patterns: `Pattern::parser` of src/parse/grammar/types.rs.
 ghost use mathlib.Core.Path.{_≡_};
 ghost use Rattle.theory.specs.Machine.{choose};
-ghost use Rattle.grammar.specs.Tables.{table};
-ghost use Rattle.grammar.specs.TablesIndex.{n-pattern, n-list-pattern};
+ghost use Rattle.grammar.specs.shapes.Tables.{table};
+ghost use Rattle.grammar.specs.shapes.TablesIndex.{n-pattern, n-list-pattern};
 ghost use Rattle.parse.specs.Choice as choice;
 ghost use Rattle.parse.specs.Contract.{text, Ready, Parses, Node, PatternKind, Commas};
 use crate::State;

@@ -2,7 +2,7 @@
 ghost use mathlib.Core.List.{List};
 ghost use Prim.Native.Nat.{ℕ};
 ghost use Rattle.lexer.specs.Classes as t;
-ghost use Rattle.grammar.specs.TablesIndex.{n-function, n-function-optional-Pub, n-function-optional-Arrow, n-block, n-parameter, n-list-parameter};
+ghost use Rattle.grammar.specs.shapes.TablesIndex.{n-function, n-function-optional-Pub, n-function-optional-Arrow, n-block, n-parameter, n-list-parameter};
 ghost use Rattle.parse.specs.Contract.{text, Ready, Near, Parses, Node, ExprKind};
 ghost use Rattle.parse.specs.Infos.{ParameterKind, FunctionKind, Parameters, Optional, public, result};
 use crate::State;

@@ -1,8 +1,8 @@
 // Types: src/parse/grammar/types.rs.
 ghost use mathlib.Core.Path.{_≡_};
 ghost use Rattle.theory.specs.Machine.{choose};
-ghost use Rattle.grammar.specs.Tables.{table};
-ghost use Rattle.grammar.specs.TablesIndex.{n-type, n-list-type};
+ghost use Rattle.grammar.specs.shapes.Tables.{table};
+ghost use Rattle.grammar.specs.shapes.TablesIndex.{n-type, n-list-type};
 ghost use Rattle.parse.specs.Choice as choice;
 ghost use Rattle.parse.specs.Contract.{text, Ready, Parses, Node, TypeKind, Commas};
 use crate::State;

@@ -20,11 +20,11 @@ use Rattle.text.specs.Widths.{tokWide}
 use Rattle.text.specs.Refusals as refusal
 use Rattle.own.specs.Words.{recWords}
 use Rattle.grammar.specs.Entry.{Entry}
-use Rattle.grammar.specs.WellShaped.{shapeOf}
-use Rattle.grammar.specs.KeptTokens.{classesOf}
-use Rattle.grammar.specs.Answer as grammar
-use Rattle.grammar.specs.Answer.{Answer, toksOf, Reading, shaped, lexed, reading, fitted, answer, content, tokensRead, recordsIn, tokenBuffer, treeBuffer, recordsRead}
-use Rattle.grammar.specs.Laws.{law-1, token-buffer-lexed, law-4-refused}
+use Rattle.grammar.specs.shapes.WellShaped.{shapeOf}
+use Rattle.grammar.specs.spelled.TreeTokens.{classesOf}
+use Rattle.grammar.specs.answers.Answer as grammar
+use Rattle.grammar.specs.answers.Answer.{Answer, toksOf, Reading, shaped, lexed, reading, fitted, answer, content, tokensRead, recordsIn, tokenBuffer, treeBuffer, recordsRead}
+use Rattle.grammar.specs.answers.Laws.{law-1, token-buffer-lexed, law-4-refused}
 use Rattle.parse.specs.Entry as parser
 use Rattle.parse.specs.Entry.{tooMany, readingOf, answered, answerOf, treeOf}
 use Rattle.parse.specs.declared.Answer as parse

@@ -11,8 +11,8 @@ use Rattle.lines.specs.Hex.{hex, power, last-digits}
 use Rattle.lines.specs.Form.{space, lineOf}
 use Rattle.lines.specs.Lines.{kindDigits, placeDigits, halfDigits, linesOf, lines}
 use Rattle.lines.specs.Written.{used, padded, held, linesIn}
-use Rattle.grammar.specs.Answer.{refused, returned}
-use Rattle.grammar.specs.Lines.{listed, refusalRec}
+use Rattle.grammar.specs.answers.Answer.{refused, returned}
+use Rattle.grammar.specs.answers.Lines.{listed, refusalRec}
 
 -- Records that the buffer holds are all listed,
 all-held : (w : List ℕ) (m : ℕ) → recWide * m ≤ length w → linesIn w m ≡ lines (recs m w)

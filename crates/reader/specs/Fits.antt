@@ -13,9 +13,9 @@ use Rattle.own.specs.Tree.{Rec}
 use Rattle.text.specs.Widths.{tokWide, recWide}
 use Rattle.text.specs.Refusals as refusal
 use Rattle.grammar.specs.Entry.{oneFunction}
-use Rattle.grammar.specs.Answer.{Answer, accepted, refused, Reading, unread, read, reading, answer, fitted, recordsIn, recordsRead}
+use Rattle.grammar.specs.answers.Answer.{Answer, accepted, refused, Reading, unread, read, reading, answer, fitted, recordsIn, recordsRead}
 use Rattle.lines.specs.Lines.{lineBytes, lines, lines-length}
-use Rattle.grammar.specs.Lines.{listed, listing}
+use Rattle.grammar.specs.answers.Lines.{listed, listing}
 use Rattle.reader.specs.Listed.{listingOf, usedOf}
 
 -- As many records as there may be tokens,

@@ -7,7 +7,7 @@ use Rattle.lexer.specs.Limits.{draftLimits}
 use Rattle.text.specs.Widths.{tokWide, recWide}
 use Rattle.lines.specs.Written.{used, padded}
 use Rattle.grammar.specs.Entry.{oneFunction}
-use Rattle.grammar.specs.Lines.{listing}
+use Rattle.grammar.specs.answers.Lines.{listing}
 
 -- The listing of a draft, by a reader with buffers for as many tokens as a draft may have, and as many records.
 abbrev pub listingOf : List ℕ → List ℕ

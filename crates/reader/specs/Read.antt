@@ -13,9 +13,9 @@ use Rattle.text.specs.Refusals as refusal
 use Rattle.own.specs.Words.{toks, recs}
 use Rattle.kinds.specs.Words.{classOf}
 use Rattle.grammar.specs.Entry.{Entry, Owned}
-use Rattle.grammar.specs.Answer.{Answer, accepted, refused, answer, tokenBuffer, treeBuffer}
-use Rattle.grammar.specs.Outcome as outcome
-use Rattle.grammar.specs.Laws.{Misshapen, law-1, refusals-in-order, law-2, law-3, law-4-refused, law-4-accepted}
+use Rattle.grammar.specs.answers.Answer.{Answer, accepted, refused, answer, tokenBuffer, treeBuffer}
+use Rattle.grammar.specs.answers.Outcome as outcome
+use Rattle.grammar.specs.answers.Laws.{Misshapen, law-1, refusals-in-order, law-2, law-3, law-4-refused, law-4-accepted}
 use Rattle.reader.specs.declared.Reading.{Reading}
 use Rattle.reader.specs.declared.Reading.the-variants.{Accepted, Refused}
 

@@ -16,10 +16,10 @@ use Rattle.lexer.specs.declared.Lexed.the-variants.{Tokens, Refused}
 use Rattle.text.specs.Widths.{tokWide, recWide}
 use Rattle.text.specs.Refusals as refusal
 use Rattle.grammar.specs.Entry.{Entry, oneFunction, over}
-use Rattle.grammar.specs.Answer.{Answer, accepted, refused, Reading, unread, read, lexed, reading, answer, fitted, recordsIn, recordsRead}
-use Rattle.grammar.specs.Laws.{space-enough}
+use Rattle.grammar.specs.answers.Answer.{Answer, accepted, refused, Reading, unread, read, lexed, reading, answer, fitted, recordsIn, recordsRead}
+use Rattle.grammar.specs.answers.Laws.{space-enough}
 use Rattle.lines.specs.Lines.{lines}
-use Rattle.grammar.specs.Lines.{listed, listing}
+use Rattle.grammar.specs.answers.Lines.{listed, listing}
 
 few-tokens : (at m : ℕ) (ts : List Token) → at ≤ m → Between at m ts → at + length ts ≤ m
 few-tokens at m [] h b = omega arith

@@ -6,8 +6,8 @@ ghost use Rattle.lexer.specs.Limits.{draftLimits};
 ghost use Rattle.lines.specs.Lines.{lines};
 ghost use Rattle.lines.specs.Written.{used, padded};
 ghost use Rattle.grammar.specs.Entry.{oneFunction};
-ghost use Rattle.grammar.specs.Answer.{refused};
-ghost use Rattle.grammar.specs.Lines as spec;
+ghost use Rattle.grammar.specs.answers.Answer.{refused};
+ghost use Rattle.grammar.specs.answers.Lines as spec;
 ghost use Rattle.reader.specs.Listed.{usedOf, bytesOf};
 use crate::Reading;
 

@@ -4,7 +4,7 @@ ghost use lib.ListN.{length};
 ghost use Rattle.lexer.specs.Limits.{draftLimits, lexedOf, bufferOf};
 ghost use Rattle.lexer.specs.declared.Lexed.the-variants.{Tokens};
 ghost use Rattle.grammar.specs.Entry.{oneFunction};
-ghost use Rattle.grammar.specs.Answer.{answer, tokenBuffer, treeBuffer};
+ghost use Rattle.grammar.specs.answers.Answer.{answer, tokenBuffer, treeBuffer};
 ghost use Rattle.reader.specs.Read.{handed, Promised};
 use lexer::Lexed;
 use text::refusal;

@@ -5,7 +5,7 @@ use borrow.Author.Needs.{needs}
 use lib.ListN.{length, replicate}
 use Rattle.lexer.specs.Limits.{draftLimits}
 use Rattle.grammar.specs.Entry.{oneFunction}
-use Rattle.grammar.specs.Answer.{answer, tokenBuffer, treeBuffer}
+use Rattle.grammar.specs.answers.Answer.{answer, tokenBuffer, treeBuffer}
 use Rattle.reader.specs.Read.{handed, promised}
 use Rattle.reader.proofs.Laws as law
 use Rattle.reader.proofs.read.Statement.{statement}

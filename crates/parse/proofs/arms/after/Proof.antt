@@ -9,7 +9,7 @@ use Rattle.own.specs.Kinds as kind
 use Rattle.own.specs.Arms as arm
 use Rattle.parse.specs.Infos.{afterArm}
 use Rattle.parse.specs.Orders as order
-use Rattle.parse.proofs.ArmOrder.{built-low}
+use Rattle.parse.proofs.arms.Order.{built-low}
 use Rattle.parse.proofs.arms.after.Statement.{statement}
 use Rattle.parse.proofs.arms.after.Tie as tie
 

@@ -4,7 +4,7 @@ use mathlib.Core.Path.{refl}
 use borrow.Author.Tests.{ne-eqb}
 use Rattle.parse.specs.Infos.{orderKind}
 use Rattle.parse.specs.Orders as order
-use Rattle.parse.proofs.Keys.{keyed}
+use Rattle.parse.proofs.choice.Keys.{keyed}
 use Rattle.parse.proofs.arms.kind.Statement.{statement}
 use Rattle.parse.proofs.arms.kind.Tie as tie
 

@@ -4,7 +4,7 @@ use native.Mathlib.Omega.{arith}
 use Rattle.own.specs.Tree.{partner}
 use Rattle.own.specs.Arms as arm
 use Rattle.parse.specs.Infos.{pairArm}
-use Rattle.parse.proofs.ArmOrder.{pair-is, pair-no}
+use Rattle.parse.proofs.arms.Order.{pair-is, pair-no}
 use Rattle.parse.proofs.arms.pair.Statement.{statement}
 use Rattle.parse.proofs.arms.pair.Tie as tie
 

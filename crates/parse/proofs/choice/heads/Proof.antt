@@ -2,8 +2,8 @@
 -- Assumes nothing.
 use native.Mathlib.Omega.{arith}
 use borrow.Author.Needs.{needs}
-use Rattle.parse.proofs.ChoiceTables.{head-choices}
-use Rattle.parse.proofs.Choices.{head-small, head-at, head-past}
+use Rattle.parse.proofs.choice.Tables.{head-choices}
+use Rattle.parse.proofs.choice.Checks.{head-small, head-at, head-past}
 use Rattle.parse.proofs.choice.heads.Statement.{statement}
 use Rattle.parse.proofs.choice.heads.Tie as tie
 

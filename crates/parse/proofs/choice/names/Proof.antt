@@ -2,8 +2,8 @@
 -- Assumes nothing.
 use native.Mathlib.Omega.{arith}
 use borrow.Author.Needs.{needs}
-use Rattle.parse.proofs.ChoiceTables.{name-choices}
-use Rattle.parse.proofs.Choices.{name-small, name-at, name-past}
+use Rattle.parse.proofs.choice.Tables.{name-choices}
+use Rattle.parse.proofs.choice.Checks.{name-small, name-at, name-past}
 use Rattle.parse.proofs.choice.names.Statement.{statement}
 use Rattle.parse.proofs.choice.names.Tie as tie
 

@@ -2,8 +2,8 @@
 -- Assumes nothing.
 use native.Mathlib.Omega.{arith}
 use borrow.Author.Needs.{needs}
-use Rattle.parse.proofs.ChoiceTables.{pattern-choices}
-use Rattle.parse.proofs.Choices.{pattern-small, pattern-at, pattern-past}
+use Rattle.parse.proofs.choice.Tables.{pattern-choices}
+use Rattle.parse.proofs.choice.Checks.{pattern-small, pattern-at, pattern-past}
 use Rattle.parse.proofs.choice.patterns.Statement.{statement}
 use Rattle.parse.proofs.choice.patterns.Tie as tie
 

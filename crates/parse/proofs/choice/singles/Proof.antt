@@ -2,8 +2,8 @@
 -- Assumes nothing.
 use native.Mathlib.Omega.{arith}
 use borrow.Author.Needs.{needs}
-use Rattle.parse.proofs.ChoiceTables.{single-choices}
-use Rattle.parse.proofs.Choices.{single-small, single-at, single-past}
+use Rattle.parse.proofs.choice.Tables.{single-choices}
+use Rattle.parse.proofs.choice.Checks.{single-small, single-at, single-past}
 use Rattle.parse.proofs.choice.singles.Statement.{statement}
 use Rattle.parse.proofs.choice.singles.Tie as tie
 

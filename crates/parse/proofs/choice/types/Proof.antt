@@ -2,8 +2,8 @@
 -- Assumes nothing.
 use native.Mathlib.Omega.{arith}
 use borrow.Author.Needs.{needs}
-use Rattle.parse.proofs.ChoiceTables.{type-choices}
-use Rattle.parse.proofs.Choices.{type-small, type-at, type-past}
+use Rattle.parse.proofs.choice.Tables.{type-choices}
+use Rattle.parse.proofs.choice.Checks.{type-small, type-at, type-past}
 use Rattle.parse.proofs.choice.types.Statement.{statement}
 use Rattle.parse.proofs.choice.types.Tie as tie
 

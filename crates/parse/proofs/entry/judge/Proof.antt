@@ -10,9 +10,9 @@ use Rattle.text.specs.Refusals as refusal
 use Rattle.grammar.specs.Entry.{oneFunction}
 use Rattle.parse.specs.Contract.{text}
 use Rattle.parse.specs.Entry.{ended, judged}
-use Rattle.parse.proofs.EntryLaws as law
+use Rattle.parse.proofs.entry.Laws as law
 use Rattle.parse.specs.declared.Answer.the-variants.{Records, Refused, TooMany}
-use Rattle.parse.proofs.Tokens.{length-text}
+use Rattle.parse.proofs.token.Tokens.{length-text}
 use Rattle.parse.proofs.entry.judge.Statement.{statement}
 use Rattle.parse.proofs.entry.judge.Tie as tie
 use Rattle.parse.proofs.entry.judge.Reads as reads

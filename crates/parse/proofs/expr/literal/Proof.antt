@@ -10,30 +10,30 @@ use Rattle.text.specs.Part.{partOf}
 use Rattle.theory.specs.Grammar.{Sym, tok, nt}
 use Rattle.theory.specs.Walk.{k-nt}
 use Rattle.theory.specs.Machine.{expand}
-use Rattle.grammar.specs.Tables.{table}
+use Rattle.grammar.specs.shapes.Tables.{table}
 use Rattle.parse.specs.Contract.{text, classes, tokAt, Ready, reserved, cleaned, Parsed, read, stuck, Node, ExprKind}
 use Rattle.parse.specs.Infos as info
-use Rattle.parse.proofs.Laws.{Amid, starts, then-turns, then-passed}
-use Rattle.parse.proofs.Shuts.{opens, opens-clean, as-nonterminal, enters}
-use Rattle.parse.proofs.Chain.{further, onward, onward-ahead, advances, advances-one, then-eats, then-lacks, then-node}
-use Rattle.parse.proofs.Tokens.{length-text}
-use Rattle.parse.proofs.Roles.{sign-mark, keeping-mark, word-mark}
-use Rattle.parse.proofs.Lined.{AnyN, Lined, finish}
-use Rattle.parse.proofs.Lined as lined
-use Rattle.parse.proofs.NameChain as chain2
-use Rattle.parse.proofs.Forms.{shut, shut-judged, number-at, value-is, value-text, first-is}
+use Rattle.parse.proofs.rule.Amid.{Amid, starts, then-turns, then-passed}
+use Rattle.parse.proofs.rule.Closing.{opens, opens-clean, as-nonterminal, enters}
+use Rattle.parse.proofs.rule.Chain.{further, onward, onward-ahead, advances, advances-one, then-eats, then-lacks, then-node}
+use Rattle.parse.proofs.token.Tokens.{length-text}
+use Rattle.parse.proofs.rule.Marks.{sign-mark, keeping-mark, word-mark}
+use Rattle.parse.proofs.rule.Commas.{AnyN, Lined, finish}
+use Rattle.parse.proofs.rule.Commas as lined
+use Rattle.parse.proofs.names.Chain as chain2
+use Rattle.parse.proofs.rule.Heads.{shut, shut-judged, number-at, value-is, value-text, first-is}
 use Rattle.own.specs.Law.{Sort, word, child}
-use Rattle.grammar.specs.Records.{lone}
-use Rattle.parse.proofs.PatternForms as pattern
-use Rattle.parse.proofs.Elements as elem
-use Rattle.parse.proofs.ExprForms as form
+use Rattle.grammar.specs.records.Records.{lone}
+use Rattle.parse.proofs.pattern.Forms as pattern
+use Rattle.parse.proofs.expr.Elements as elem
+use Rattle.parse.proofs.expr.Forms as form
 use mathlib.Core.Logic.{_⊎_, inl, inr}
-use Rattle.parse.proofs.ArmForms as arm
-use Rattle.parse.proofs.ArmsLoop as arms
-use Rattle.parse.proofs.MatchForm as match
-use Rattle.parse.proofs.CallForms as call
-use Rattle.parse.proofs.CallLaws as law
-use Rattle.grammar.specs.ShapeKind.{LiteralShape}
+use Rattle.parse.proofs.expr.ArmForms as arm
+use Rattle.parse.proofs.expr.ArmsLoop as arms
+use Rattle.parse.proofs.expr.MatchForm as match
+use Rattle.parse.proofs.expr.CallForms as call
+use Rattle.parse.proofs.expr.CallLaws as law
+use Rattle.grammar.specs.shapes.ShapeKind.{LiteralShape}
 use Rattle.parse.proofs.expr.literal.Statement.{statement}
 use Rattle.parse.proofs.expr.literal.Tie as tie
 use Rattle.parse.proofs.expr.literal.Reads as reads

@@ -6,9 +6,9 @@ use mathlib.Core.Path.{_≡_, sym, ap, ap₂, _∙_}
 use Prim.Native.Nat.{ℕ}
 use borrow.Author.Tests.{eq-eqb, ne-eqb, lt-ltb, le-ltb}
 use lib.Dec.{ltb}
-use Rattle.grammar.specs.Faults.{Fault, earlier}
+use Rattle.grammar.specs.records.Faults.{Fault, earlier}
 use Rattle.parse.specs.Contract.{fault, sooner}
-use Rattle.parse.proofs.Lists.{sooner-none}
+use Rattle.parse.proofs.rule.Lists.{sooner-none}
 use Rattle.parse.proofs.fault.earlier.Statement.{statement}
 use Rattle.parse.proofs.fault.earlier.Tie as tie
 

@@ -9,19 +9,19 @@ use native.Mathlib.Omega.{arith}
 use lib.ListN.{length}
 use Rattle.theory.specs.Grammar.{Sym, tok, nt}
 use Rattle.parse.specs.Contract.{text, read, raw}
-use Rattle.parse.proofs.Laws.{then-passed, went, Amid, starts, then-went}
-use Rattle.parse.proofs.Chain.{then-lacks, advances, advances-one, then-eats, onward}
-use Rattle.parse.proofs.PairForms as pairs
+use Rattle.parse.proofs.rule.Amid.{then-passed, went, Amid, starts, then-went}
+use Rattle.parse.proofs.rule.Chain.{then-lacks, advances, advances-one, then-eats, onward}
+use Rattle.parse.proofs.heads.PairForms as pairs
 use Rattle.own.specs.Rules.{sorts}
-use Rattle.parse.proofs.NameChain.{then-names, then-names-passed}
-use Rattle.parse.proofs.NameSteps.{child-nt}
-use Rattle.parse.proofs.Roles.{sign-mark, keeping-mark}
-use Rattle.parse.proofs.Lined.{AnyN}
-use Rattle.parse.proofs.HeadForms as form
+use Rattle.parse.proofs.names.Chain.{then-names, then-names-passed}
+use Rattle.parse.proofs.names.Steps.{child-nt}
+use Rattle.parse.proofs.rule.Marks.{sign-mark, keeping-mark}
+use Rattle.parse.proofs.rule.Commas.{AnyN}
+use Rattle.parse.proofs.heads.Forms as form
 use Rattle.lexer.specs.Classes as class
 use Rattle.own.specs.Kinds as kind
 use Rattle.own.specs.Arms as arm
-use Rattle.grammar.specs.TablesIndex.{n-head, n-head-choice, n-head-optional, n-head-word, n-headPath, n-headPath-optional-LParen, n-identifier, n-otherName, n-pair, n-path-many-DoubleColon, n-pattern, n-tail-pair, n-type}
+use Rattle.grammar.specs.shapes.TablesIndex.{n-head, n-head-choice, n-head-optional, n-head-word, n-headPath, n-headPath-optional-LParen, n-identifier, n-otherName, n-pair, n-path-many-DoubleColon, n-pattern, n-tail-pair, n-type}
 use Rattle.parse.proofs.heads.wrapped.Statement.{statement}
 use Rattle.parse.proofs.heads.wrapped.Tie as tie
 use Rattle.parse.proofs.heads.wrapped.Reads as reads

@@ -2,7 +2,7 @@
 -- Assumes nothing.
 use mathlib.Core.Path.{refl}
 use borrow.Author.Tests.{eq-eqb, ne-eqb}
-use Rattle.grammar.specs.Records.{aloneHead}
+use Rattle.grammar.specs.records.Records.{aloneHead}
 use Rattle.parse.proofs.names.alone.Statement.{statement}
 use Rattle.parse.proofs.names.alone.Tie as tie
 

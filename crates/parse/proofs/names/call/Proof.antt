@@ -4,9 +4,9 @@ use mathlib.Core.List.{List, [], _∷_}
 use Prim.Native.Nat.{ℕ}
 use Rattle.lexer.specs.Classes as t
 use Rattle.kinds.specs.Shape.{has}
-use Rattle.grammar.specs.Records.{callHead, placeIn, callWords}
+use Rattle.grammar.specs.records.Records.{callHead, placeIn, callWords}
 use Rattle.own.specs.Calls as call
-use Rattle.parse.proofs.Keys.{keyed, unkeyed, place-past}
+use Rattle.parse.proofs.choice.Keys.{keyed, unkeyed, place-past}
 use Rattle.parse.proofs.names.call.Statement.{statement}
 use Rattle.parse.proofs.names.call.Tie as tie
 

@@ -3,7 +3,7 @@
 use mathlib.Core.Path.{refl, sym, _∙_}
 use borrow.Author.Needs.{needs}
 use Rattle.parse.specs.Contract.{named, marked}
-use Rattle.parse.proofs.NameTests.{jet-called, name-called, none-called}
+use Rattle.parse.proofs.names.Tests.{jet-called, name-called, none-called}
 use Rattle.parse.proofs.names.callee.Statement.{statement}
 use Rattle.parse.proofs.names.callee.Tie as tie
 

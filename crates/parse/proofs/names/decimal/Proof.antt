@@ -2,9 +2,9 @@
 -- Assumes nothing.
 use mathlib.Core.Path.{ap, _∙_}
 use borrow.Author.Needs.{needs}
-use Rattle.grammar.specs.Records.{reads, lowHalf, highHalf}
+use Rattle.grammar.specs.records.Records.{reads, lowHalf, highHalf}
 use Rattle.parse.specs.Contract.{text}
-use Rattle.parse.proofs.NameSteps.{refuses-tok, child-decimal}
+use Rattle.parse.proofs.names.Steps.{refuses-tok, child-decimal}
 use Rattle.parse.proofs.names.decimal.Statement.{statement}
 use Rattle.parse.proofs.names.decimal.Tie as tie
 

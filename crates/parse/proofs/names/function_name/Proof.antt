@@ -3,8 +3,8 @@
 use mathlib.Core.Path.{sym, _∙_}
 use native.Mathlib.Omega.{arith}
 use borrow.Author.Needs.{needs}
-use Rattle.parse.proofs.NameRows.{is-function-name, no-function-name, flat-function-name, name-pos}
-use Rattle.parse.proofs.NameSteps.{refuses-nt, child-nt}
+use Rattle.parse.proofs.names.Rows.{is-function-name, no-function-name, flat-function-name, name-pos}
+use Rattle.parse.proofs.names.Steps.{refuses-nt, child-nt}
 use Rattle.parse.proofs.names.function_name.Statement.{statement}
 use Rattle.parse.proofs.names.function_name.Tie as tie
 

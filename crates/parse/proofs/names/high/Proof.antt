@@ -2,7 +2,7 @@
 -- Assumes nothing.
 use mathlib.Core.Path.{refl}
 use borrow.Author.Needs.{needs}
-use Rattle.grammar.specs.Records.{reads, highHalf}
+use Rattle.grammar.specs.records.Records.{reads, highHalf}
 use Rattle.parse.proofs.names.high.Statement.{statement}
 use Rattle.parse.proofs.names.high.Tie as tie
 

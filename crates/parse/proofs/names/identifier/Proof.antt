@@ -2,8 +2,8 @@
 -- Assumes nothing.
 use mathlib.Core.Path.{sym, _∙_}
 use borrow.Author.Needs.{needs}
-use Rattle.parse.proofs.NameRows.{is-identifier, no-identifier, flat-identifier, name-pos}
-use Rattle.parse.proofs.NameSteps.{refuses-near, child-near}
+use Rattle.parse.proofs.names.Rows.{is-identifier, no-identifier, flat-identifier, name-pos}
+use Rattle.parse.proofs.names.Steps.{refuses-near, child-near}
 use Rattle.parse.proofs.names.identifier.Statement.{statement}
 use Rattle.parse.proofs.names.identifier.Tie as tie
 

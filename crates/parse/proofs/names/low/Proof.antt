@@ -2,7 +2,7 @@
 -- Assumes nothing.
 use mathlib.Core.Path.{refl}
 use borrow.Author.Needs.{needs}
-use Rattle.grammar.specs.Records.{reads, lowHalf}
+use Rattle.grammar.specs.records.Records.{reads, lowHalf}
 use Rattle.parse.proofs.names.low.Statement.{statement}
 use Rattle.parse.proofs.names.low.Tie as tie
 

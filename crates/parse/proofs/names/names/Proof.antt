@@ -5,8 +5,8 @@ use native.Mathlib.Omega.{arith}
 use lib.ListN.{length}
 use borrow.Author.Needs.{needs}
 use Rattle.parse.specs.Contract.{text, read}
-use Rattle.parse.proofs.NameSteps.{ready-near}
-use Rattle.parse.proofs.Named.{Joined, joined-starts, joined-less, joined-within, joined-again, names-passed, first-ready, names-few, next-ready, next-passed, names-went}
+use Rattle.parse.proofs.names.Steps.{ready-near}
+use Rattle.parse.proofs.names.Joined.{Joined, joined-starts, joined-less, joined-within, joined-again, names-passed, first-ready, names-few, next-ready, next-passed, names-went}
 use Rattle.parse.proofs.names.names.Statement.{statement}
 use Rattle.parse.proofs.names.names.Tie as tie
 

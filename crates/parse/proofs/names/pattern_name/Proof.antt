@@ -1,7 +1,7 @@
 -- Only a plain name of one byte is looked at.
 -- Assumes nothing.
 use borrow.Author.Needs.{needs}
-use Rattle.parse.proofs.NameTests.{is-underscore, is-other, is-longer, no-plain-name}
+use Rattle.parse.proofs.names.Tests.{is-underscore, is-other, is-longer, no-plain-name}
 use Rattle.parse.proofs.names.pattern_name.Statement.{statement}
 use Rattle.parse.proofs.names.pattern_name.Tie as tie
 

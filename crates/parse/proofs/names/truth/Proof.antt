@@ -2,10 +2,10 @@
 -- Assumes nothing.
 use mathlib.Core.List.{[], _∷_}
 use Rattle.kinds.specs.Shape.{has}
-use Rattle.grammar.specs.Records.{literalHead}
+use Rattle.grammar.specs.records.Records.{literalHead}
 use Rattle.lexer.specs.Classes as t
-use Rattle.parse.proofs.Keys.{keyed, unkeyed}
-use Rattle.parse.proofs.LiteralHead.{low, low-past}
+use Rattle.parse.proofs.choice.Keys.{keyed, unkeyed}
+use Rattle.parse.proofs.names.LiteralHead.{low, low-past}
 use Rattle.parse.proofs.names.truth.Statement.{statement}
 use Rattle.parse.proofs.names.truth.Tie as tie
 

@@ -5,7 +5,7 @@ use Prim.Native.Nat.{_-_, _<_}
 use native.Mathlib.Omega.{arith}
 use borrow.Author.Needs.{needs}
 use borrow.Author.Tests.{eq-eqb, ne-eqb, lt-ltb, le-ltb}
-use Rattle.parse.proofs.TypeNames.{typeAt, by-table, other-name, few, shifted}
+use Rattle.parse.proofs.names.TypeTable.{typeAt, by-table, other-name, few, shifted}
 use Rattle.parse.proofs.names.type_name.Statement.{statement}
 use Rattle.parse.proofs.names.type_name.Tie as tie
 

@@ -5,8 +5,8 @@ use Prim.Native.Nat.{ℕ}
 use Rattle.lexer.specs.Classes as t
 use Rattle.kinds.specs.Shape.{has}
 use Rattle.kinds.specs.Rules.{wrappers}
-use Rattle.grammar.specs.Records.{placeIn}
-use Rattle.parse.proofs.Keys.{keyed, unkeyed, place-past}
+use Rattle.grammar.specs.records.Records.{placeIn}
+use Rattle.parse.proofs.choice.Keys.{keyed, unkeyed, place-past}
 use Rattle.parse.proofs.names.wrapper.Statement.{statement}
 use Rattle.parse.proofs.names.wrapper.Tie as tie
 

@@ -5,9 +5,9 @@ use Prim.Native.Nat.{ℕ}
 use Rattle.lexer.specs.Classes as t
 use Rattle.kinds.specs.Shape.{has}
 use Rattle.kinds.specs.Rules.{wrappers}
-use Rattle.grammar.specs.Records.{placeIn, wrapperHead}
+use Rattle.grammar.specs.records.Records.{placeIn, wrapperHead}
 use Rattle.own.specs.Kinds as kind
-use Rattle.parse.proofs.Keys.{keyed, unkeyed, place-past}
+use Rattle.parse.proofs.choice.Keys.{keyed, unkeyed, place-past}
 use Rattle.parse.proofs.names.wrapping.Statement.{statement}
 use Rattle.parse.proofs.names.wrapping.Tie as tie
 

@@ -8,29 +8,29 @@ use native.Mathlib.Omega.{arith}
 use lib.ListN.{length, getD}
 use Rattle.theory.specs.Grammar.{Sym, tok, nt}
 use Rattle.theory.specs.Machine.{expand}
-use Rattle.grammar.specs.Tables.{table}
+use Rattle.grammar.specs.shapes.Tables.{table}
 use Rattle.parse.specs.Contract.{text, tokAt, Ready, Parsed, read, stuck, Node, TypeKind}
 use Rattle.parse.specs.Infos.{ParameterKind, FunctionKind, public, result}
-use Rattle.parse.proofs.Laws.{class-at, Amid, starts, then-turns, then-passed, done}
-use Rattle.parse.proofs.Shuts.{opens, as-nonterminal, enters}
-use Rattle.parse.proofs.Chain.{further, onward, advances, then-eats, then-lacks, then-node}
-use Rattle.parse.proofs.NameChain.{then-named}
-use Rattle.parse.proofs.Tokens.{length-text}
-use Rattle.parse.proofs.Roles.{sign-mark}
-use Rattle.parse.proofs.NameRows.{name-role}
-use Rattle.parse.proofs.Named.{identifier-class, function-name-class}
-use Rattle.parse.proofs.Lined.{AnyN, Lined}
-use Rattle.parse.proofs.Lined as lined
-use Rattle.parse.proofs.Forms.{shut}
-use Rattle.parse.proofs.ProgramForms as form
+use Rattle.parse.proofs.rule.Amid.{class-at, Amid, starts, then-turns, then-passed, done}
+use Rattle.parse.proofs.rule.Closing.{opens, as-nonterminal, enters}
+use Rattle.parse.proofs.rule.Chain.{further, onward, advances, then-eats, then-lacks, then-node}
+use Rattle.parse.proofs.names.Chain.{then-named}
+use Rattle.parse.proofs.token.Tokens.{length-text}
+use Rattle.parse.proofs.rule.Marks.{sign-mark}
+use Rattle.parse.proofs.names.Rows.{name-role}
+use Rattle.parse.proofs.names.Joined.{identifier-class, function-name-class}
+use Rattle.parse.proofs.rule.Commas.{AnyN, Lined}
+use Rattle.parse.proofs.rule.Commas as lined
+use Rattle.parse.proofs.rule.Heads.{shut}
+use Rattle.parse.proofs.program.Forms as form
 use Rattle.kinds.specs.Shape.{has}
 use Rattle.kinds.specs.Fields.{counted}
 use Rattle.lexer.specs.Classes as class
-use Rattle.parse.proofs.NameSteps.{refuses-nt}
+use Rattle.parse.proofs.names.Steps.{refuses-nt}
 use Rattle.lexer.specs.Classes as class
 use Rattle.own.specs.Kinds as kind
-use Rattle.grammar.specs.TablesIndex.{n-function-optional-Arrow, n-function-optional-Pub, n-list-parameter, n-type}
-use Rattle.grammar.specs.ShapeKind.{FunctionShape, ParameterShape}
+use Rattle.grammar.specs.shapes.TablesIndex.{n-function-optional-Arrow, n-function-optional-Pub, n-list-parameter, n-type}
+use Rattle.grammar.specs.shapes.ShapeKind.{FunctionShape, ParameterShape}
 use Rattle.parse.proofs.program.block.Statement.{statement}
 use Rattle.parse.proofs.program.block.Tie as tie
 use Rattle.parse.proofs.program.block.Reads as reads

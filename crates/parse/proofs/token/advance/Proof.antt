@@ -3,8 +3,8 @@
 use denote.Ref.{now}
 use mathlib.Core.Path.{refl, sym, _∙_}
 use Rattle.parse.specs.Contract.{text}
-use Rattle.parse.proofs.Laws.{class-at}
-use Rattle.parse.proofs.Tokens.{next-in}
+use Rattle.parse.proofs.rule.Amid.{class-at}
+use Rattle.parse.proofs.token.Tokens.{next-in}
 use borrow.Author.Needs.{needs}
 use Rattle.parse.proofs.token.advance.Statement.{statement}
 use Rattle.parse.proofs.token.advance.Tie as tie

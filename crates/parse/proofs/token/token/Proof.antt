@@ -4,7 +4,7 @@ use native.Mathlib.Omega.{arith}
 use denote.Ref.{now}
 use Prim.Native.Nat.{_+_, _*_}
 use Rattle.text.specs.Widths.{tokWide}
-use Rattle.parse.proofs.Tokens.{token-in, token-out, token-beyond}
+use Rattle.parse.proofs.token.Tokens.{token-in, token-out, token-beyond}
 use borrow.Author.Needs.{needs}
 use Rattle.parse.proofs.token.token.Statement.{statement}
 use Rattle.parse.proofs.token.token.Tie as tie

@@ -6,7 +6,7 @@ use Prim.Native.Nat.{ℕ, _-_, _*_}
 use mathlib.Core.List.{List, _++_}
 use lib.ListN.{take, drop}
 use Rattle.text.specs.Widths.{recWide}
-use Rattle.parse.proofs.Splice.{turns}
+use Rattle.parse.proofs.tree.Splice.{turns}
 use borrow.Author.Needs.{needs}
 use Rattle.parse.proofs.tree.exchange.Statement.{statement}
 use Rattle.parse.proofs.tree.exchange.Tie as tie

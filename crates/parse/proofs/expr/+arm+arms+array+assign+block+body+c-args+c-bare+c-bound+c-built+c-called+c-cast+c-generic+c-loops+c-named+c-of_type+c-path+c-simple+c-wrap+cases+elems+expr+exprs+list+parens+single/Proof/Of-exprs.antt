@@ -10,34 +10,34 @@ use Rattle.text.specs.Part.{partOf}
 use Rattle.theory.specs.Grammar.{Sym, tok, nt}
 use Rattle.theory.specs.Walk.{k-nt}
 use Rattle.theory.specs.Machine.{expand}
-use Rattle.grammar.specs.Tables.{table}
+use Rattle.grammar.specs.shapes.Tables.{table}
 use Rattle.parse.specs.Contract.{text, classes, tokAt, Ready, reserved, cleaned, Parsed, read, stuck, Node, ExprKind}
 use Rattle.parse.specs.Infos as info
-use Rattle.parse.proofs.Laws.{Amid, starts, then-turns, then-passed}
-use Rattle.parse.proofs.Shuts.{opens, opens-clean, as-nonterminal, enters}
-use Rattle.parse.proofs.Chain.{further, onward, onward-ahead, advances, advances-one, then-eats, then-lacks, then-node}
-use Rattle.parse.proofs.Tokens.{length-text}
-use Rattle.parse.proofs.Roles.{sign-mark, keeping-mark, word-mark}
-use Rattle.parse.proofs.Lined.{AnyN, Lined, finish}
-use Rattle.parse.proofs.Lined as lined
-use Rattle.parse.proofs.NameChain as chain2
-use Rattle.parse.proofs.Forms.{shut, shut-judged, number-at, value-is, value-text, first-is}
+use Rattle.parse.proofs.rule.Amid.{Amid, starts, then-turns, then-passed}
+use Rattle.parse.proofs.rule.Closing.{opens, opens-clean, as-nonterminal, enters}
+use Rattle.parse.proofs.rule.Chain.{further, onward, onward-ahead, advances, advances-one, then-eats, then-lacks, then-node}
+use Rattle.parse.proofs.token.Tokens.{length-text}
+use Rattle.parse.proofs.rule.Marks.{sign-mark, keeping-mark, word-mark}
+use Rattle.parse.proofs.rule.Commas.{AnyN, Lined, finish}
+use Rattle.parse.proofs.rule.Commas as lined
+use Rattle.parse.proofs.names.Chain as chain2
+use Rattle.parse.proofs.rule.Heads.{shut, shut-judged, number-at, value-is, value-text, first-is}
 use Rattle.own.specs.Law.{Sort, word, child}
-use Rattle.grammar.specs.Records.{lone}
-use Rattle.parse.proofs.PatternForms as pattern
-use Rattle.parse.proofs.Elements as elem
-use Rattle.parse.proofs.ExprForms as form
+use Rattle.grammar.specs.records.Records.{lone}
+use Rattle.parse.proofs.pattern.Forms as pattern
+use Rattle.parse.proofs.expr.Elements as elem
+use Rattle.parse.proofs.expr.Forms as form
 use mathlib.Core.Logic.{_⊎_, inl, inr}
-use Rattle.parse.proofs.ArmForms as armed
-use Rattle.parse.proofs.ArmsLoop as arm-loop
-use Rattle.parse.proofs.MatchForm as match
-use Rattle.parse.proofs.CallForms as call
-use Rattle.parse.proofs.CallLaws as law
-use Rattle.parse.proofs.NameRules as rule
+use Rattle.parse.proofs.expr.ArmForms as armed
+use Rattle.parse.proofs.expr.ArmsLoop as arm-loop
+use Rattle.parse.proofs.expr.MatchForm as match
+use Rattle.parse.proofs.expr.CallForms as call
+use Rattle.parse.proofs.expr.CallLaws as law
+use Rattle.parse.proofs.expr.NameRules as rule
 use Rattle.lexer.specs.Classes as class
 use Rattle.own.specs.Kinds as kind
-use Rattle.grammar.specs.TablesIndex.{n-arguments, n-arm-choice, n-arm-choice-optional-Comma, n-bare-optional-DoubleColon, n-block, n-functionName, n-list-expression, n-named-optional, n-single, n-type}
-use Rattle.grammar.specs.ShapeKind.{ArrayShape, AssignmentShape, BareShape, BlockShape, CastCallShape, FoldingShape, ForWhileShape, ListShape, NamedShape, ParensShape, SimpleCallShape, TypedShape}
+use Rattle.grammar.specs.shapes.TablesIndex.{n-arguments, n-arm-choice, n-arm-choice-optional-Comma, n-bare-optional-DoubleColon, n-block, n-functionName, n-list-expression, n-named-optional, n-single, n-type}
+use Rattle.grammar.specs.shapes.ShapeKind.{ArrayShape, AssignmentShape, BareShape, BlockShape, CastCallShape, FoldingShape, ForWhileShape, ListShape, NamedShape, ParensShape, SimpleCallShape, TypedShape}
 use borrow.Fn.Kinds.{In}
 use borrow.Fn.PlainCycle.{Measures, is, falls, and}
 use Rattle.parse.proofs.expr.arm.Reads as arm

@@ -10,21 +10,21 @@ use Rattle.theory.specs.Grammar.{Sym, tok, nt}
 use Rattle.text.specs.Part.{partOf}
 use Rattle.theory.specs.Walk.{k-nt}
 use Rattle.theory.specs.Machine.{expand}
-use Rattle.grammar.specs.Tables.{table}
+use Rattle.grammar.specs.shapes.Tables.{table}
 use Rattle.parse.specs.Contract.{text, tokAt, Ready, Parsed, read, stuck, Node, TypeKind, Commas}
-use Rattle.parse.proofs.Laws.{Amid, starts, then-turns, then-passed}
-use Rattle.parse.proofs.Shuts.{opens, opens-clean, as-nonterminal, enters}
-use Rattle.parse.proofs.Chain.{further, advances, advances-one, then-eats, then-lacks, then-node}
-use Rattle.parse.proofs.Tokens.{length-text}
-use Rattle.parse.proofs.Roles.{sign-mark, keeping-mark}
-use Rattle.parse.proofs.Lined.{AnyN, Lined}
-use Rattle.parse.proofs.Lined as lined
-use Rattle.parse.proofs.Forms.{shut, shut-judged, number-at, value-is, value-text, first-is}
-use Rattle.parse.proofs.TypeForms as form
+use Rattle.parse.proofs.rule.Amid.{Amid, starts, then-turns, then-passed}
+use Rattle.parse.proofs.rule.Closing.{opens, opens-clean, as-nonterminal, enters}
+use Rattle.parse.proofs.rule.Chain.{further, advances, advances-one, then-eats, then-lacks, then-node}
+use Rattle.parse.proofs.token.Tokens.{length-text}
+use Rattle.parse.proofs.rule.Marks.{sign-mark, keeping-mark}
+use Rattle.parse.proofs.rule.Commas.{AnyN, Lined}
+use Rattle.parse.proofs.rule.Commas as lined
+use Rattle.parse.proofs.rule.Heads.{shut, shut-judged, number-at, value-is, value-text, first-is}
+use Rattle.parse.proofs.types.Forms as form
 use Rattle.lexer.specs.Classes as class
 use Rattle.own.specs.Kinds as kind
-use Rattle.grammar.specs.TablesIndex.{n-list-type, n-type}
-use Rattle.grammar.specs.ShapeKind.{ArrayTypeShape, EitherTypeShape, ListTypeShape, NamedTypeShape, OptionTypeShape, TupleTypeShape}
+use Rattle.grammar.specs.shapes.TablesIndex.{n-list-type, n-type}
+use Rattle.grammar.specs.shapes.ShapeKind.{ArrayTypeShape, EitherTypeShape, ListTypeShape, NamedTypeShape, OptionTypeShape, TupleTypeShape}
 use borrow.Fn.Kinds.{In}
 use borrow.Fn.PlainCycle.{Measures, is, falls, and}
 use Rattle.parse.proofs.types.array.Reads as array

@@ -1,0 +1,4 @@
+-- Drafts with known results, computed.
+pub mod Cases
+pub mod Known
+pub mod Boundaries

@@ -1,0 +1,81 @@
+-- The refusals of the shapes, each with its place, and the earliest of a shape tree (document 01, "What the reader hands over").
+-- Assumes nothing.
+use mathlib.Core.Bool.{Bool, true, false, _&&_, _||_, not, cond}
+use mathlib.Core.List.{List, [], _∷_, _++_}
+use mathlib.Core.Option.{Option, none, some}
+use Prim.Native.Nat.{ℕ}
+use lib.Dec.{eqb, ltb}
+use lib.ListN.{length, drop}
+use Rattle.text.specs.Refusals as refusal
+use Rattle.num.specs.declared.Value.{Value}
+use Rattle.num.specs.Bound.{boundOk, sizeOk}
+use Rattle.theory.specs.Ebnf as shape
+use Rattle.own.specs.Tree.{Tok, Items, marks, partner}
+use Rattle.own.specs.Law.{Sort, word, child}
+use Rattle.own.specs.Rules.{sorts}
+use Rattle.own.specs.Kinds as kind
+use Rattle.kinds.specs.Fields.{counted}
+use Rattle.lexer.specs.Classes as t
+use Rattle.grammar.specs.shapes.ShapeKind.{ListTypeShape, MatchShape, FoldingShape}
+use Rattle.grammar.specs.records.Records.{sees, opening, firstTok, firstOf, decimal, recordItems}
+
+-- A refusal: its number and its place.
+pub record Fault : Type 0 where
+  pub number : ℕ
+  pub place : ℕ
+
+-- The refusal of this number at a token, where the test fails.
+unfoldable pub unless : Bool → ℕ → Tok → List Fault
+unless ok n t = cond ok [] (record { number = n; place = t .start } ∷ [])
+
+-- The lows of the built-in arms among the parts of a match.
+unfoldable pub armLows : List Sort → List ℕ
+armLows [] = []
+armLows (word c ∷ w) = armLows w
+armLows (child k l h c ∷ w) = cond (eqb k kind.BuiltinArm) (l ∷ armLows w) (armLows w)
+
+-- "Left with Right, None with Some, False with True", in either order.
+unfoldable pub mates : List ℕ → Bool
+mates [] = false
+mates (a ∷ []) = false
+mates (a ∷ b ∷ []) = partner a b || partner b a
+mates (a ∷ b ∷ c ∷ l) = false
+
+-- The refusal of a match with e enum arms and these built-in arms, or 0: 11 "match without arms", 12 "enum and built-in arms in one
+-- match", 13 "built-in arms only, 1 or over 2", 14 "two built-in arms, not Left with Right, None with Some, False with True".
+unfoldable pub armsFault : ℕ → List ℕ → ℕ
+armsFault e lows =
+    cond (eqb e 0) (cond (eqb (length lows) 0) refusal.NoArms (cond (eqb (length lows) 2) (cond (mates lows) 0 refusal.NoPartners) refusal.ArmCount))
+    (cond (eqb (length lows) 0) 0 refusal.MixedArms)
+
+-- The refusals of one shape of kind k, made of these items: 9 "`List` or `fold` bound not a power of two from 2 to
+-- 9,223,372,036,854,775,808" and 10 "`array_fold` size 0 or over 18,446,744,073,709,551,615", at the number; 11 to 14 at `match`.
+-- Without `<` a List is an alias name, and `fold` a variable or a path.
+unfoldable pub faultsAt : List ℕ → ℕ → Items → List Fault
+faultsAt draft k is =
+    let w = sorts is in
+    let number = firstOf t.DecLiteral (marks is) in
+    cond (eqb k ListTypeShape) (unless (not (sees t.LAngle w) || boundOk (decimal draft is)) refusal.Bound number)
+    (cond (eqb k FoldingShape)
+    (cond (eqb (opening w) t.array-fold) (unless (not (sees t.LAngle w) || sizeOk (decimal draft is)) refusal.Size number)
+    (unless (not (sees t.LAngle w) || boundOk (decimal draft is)) refusal.Bound number))
+    (cond (eqb k MatchShape) (let f = armsFault (counted (kind.EnumArm ∷ []) w) (armLows w) in unless (eqb f 0) f (firstTok (marks is))) []))
+
+-- The refusals of all shapes side by side, whose tokens are those that the list begins with.
+unfoldable pub faults : List ℕ → shape.Items → List Tok → List Fault
+faults draft shape.nil ts = []
+faults draft (shape.word c r) ts = faults draft r (drop 1 ts)
+faults draft (shape.sub k js r) ts = faultsAt draft k (recordItems draft js ts) ++ (faults draft js ts ++ faults draft r (drop (length (shape.yield js)) ts))
+
+-- "of 9 to 14 the earliest place": the one of two, and of a list.
+unfoldable pub earlier : Fault → Option Fault → Option Fault
+earlier f none = some f
+earlier f (some g) = cond (ltb (g .place) (f .place)) (some g) (some f)
+
+unfoldable pub earliest : List Fault → Option Fault
+earliest [] = none
+earliest (f ∷ l) = earlier f (earliest l)
+
+-- The refusal of a shape tree, if it has one.
+unfoldable pub faultOf : List ℕ → List Tok → shape.Items → Option Fault
+faultOf draft ts r = earliest (faults draft r ts)

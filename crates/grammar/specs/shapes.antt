@@ -1,0 +1,8 @@
+-- Document 01, "Well-shaped drafts": the shapes as a grammar, the tables made from it, and what is well-shaped.
+pub mod ShapeKind
+pub mod Notation
+pub mod Shapes
+pub mod Tables
+pub mod TablesIndex
+pub mod WellShaped
+pub mod Samples

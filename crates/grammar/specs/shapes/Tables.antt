@@ -1,0 +1,251 @@
+-- Made by tools/grammar.py from Shapes.antt: do not edit; `tools/grammar.py --check` says whether it is up to date.
+-- The productions of the shapes with their LL(1) table, and what each nonterminal stands for. The script needs no trust: the
+-- checks in WellShaped.antt are computed on what stands here.
+-- Assumes nothing.
+use mathlib.Core.Bool.{true, false}
+use mathlib.Core.List.{List, [], _∷_}
+use Rattle.theory.specs.Grammar.{tok, nt, on, Row}
+use Rattle.theory.specs.Ebnf.{Ex, eps, mark, seq, or, many, list, tail}
+use Rattle.lexer.specs.Classes as t
+use Rattle.grammar.specs.shapes.ShapeKind.{function, parameter, type, pattern, block, assignment, single, arm, elements, arguments, path, headPath, pair}
+use Rattle.grammar.specs.shapes.Shapes.{expression, identifier, functionName, namedType, literal, otherName, head}
+
+-- 0: function
+abbrev r0 : Row
+r0 = record { alts = (nt 1 ∷ tok 4 ∷ nt 2 ∷ tok 20 ∷ nt 3 ∷ tok 21 ∷ nt 4 ∷ nt 5 ∷ []) ∷ []; cases = on 1 1 ∷ on 4 1 ∷ []; other = 0; first = 1 ∷ 4 ∷ []; follow = 0 ∷ []; null = false; cost = 3; least = 1 }
+
+-- 1: optional Pub
+abbrev r1 : Row
+r1 = record { alts = [] ∷ (tok 1 ∷ []) ∷ []; cases = on 1 2 ∷ []; other = 1; first = 1 ∷ []; follow = 4 ∷ []; null = true; cost = 1; least = 1 }
+
+-- 2: functionName
+abbrev r2 : Row
+r2 = record { alts = (tok 32 ∷ []) ∷ (tok 37 ∷ []) ∷ (tok 38 ∷ []) ∷ (tok 39 ∷ []) ∷ (tok 40 ∷ []) ∷ (tok 41 ∷ []) ∷ (tok 42 ∷ []) ∷ (tok 43 ∷ []) ∷ []; cases = on 32 1 ∷ on 37 2 ∷ on 38 3 ∷ on 39 4 ∷ on 40 5 ∷ on 41 6 ∷ on 42 7 ∷ on 43 8 ∷ []; other = 0; first = 32 ∷ 37 ∷ 38 ∷ 39 ∷ 40 ∷ 41 ∷ 42 ∷ 43 ∷ []; follow = 17 ∷ 20 ∷ 27 ∷ []; null = false; cost = 1; least = 1 }
+
+-- 3: list of parameter
+abbrev r3 : Row
+r3 = record { alts = [] ∷ (nt 6 ∷ nt 7 ∷ []) ∷ []; cases = on 21 1 ∷ []; other = 2; first = 32 ∷ 37 ∷ 38 ∷ 39 ∷ 40 ∷ 41 ∷ 42 ∷ 43 ∷ 44 ∷ 45 ∷ 46 ∷ 47 ∷ 48 ∷ 49 ∷ 50 ∷ 51 ∷ 53 ∷ 54 ∷ 55 ∷ 56 ∷ []; follow = 21 ∷ []; null = true; cost = 4; least = 1 }
+
+-- 4: optional (Arrow type)
+abbrev r4 : Row
+r4 = record { alts = [] ∷ (tok 13 ∷ nt 8 ∷ []) ∷ []; cases = on 13 2 ∷ []; other = 1; first = 13 ∷ []; follow = 24 ∷ []; null = true; cost = 1; least = 1 }
+
+-- 5: block
+abbrev r5 : Row
+r5 = record { alts = (tok 24 ∷ nt 9 ∷ tok 25 ∷ []) ∷ []; cases = on 24 1 ∷ []; other = 0; first = 24 ∷ []; follow = 0 ∷ 16 ∷ 17 ∷ 21 ∷ 23 ∷ 24 ∷ 25 ∷ 32 ∷ 37 ∷ 38 ∷ 39 ∷ 40 ∷ 41 ∷ 42 ∷ 43 ∷ 44 ∷ 45 ∷ 46 ∷ 47 ∷ 48 ∷ 49 ∷ 50 ∷ 51 ∷ 53 ∷ 54 ∷ 55 ∷ 56 ∷ 61 ∷ 62 ∷ []; null = false; cost = 1; least = 1 }
+
+-- 6: parameter
+abbrev r6 : Row
+r6 = record { alts = (nt 10 ∷ tok 15 ∷ nt 8 ∷ []) ∷ []; cases = on 32 1 ∷ on 37 1 ∷ on 38 1 ∷ on 39 1 ∷ on 40 1 ∷ on 41 1 ∷ on 42 1 ∷ on 43 1 ∷ on 44 1 ∷ on 45 1 ∷ on 46 1 ∷ on 47 1 ∷ on 48 1 ∷ on 49 1 ∷ on 50 1 ∷ on 51 1 ∷ on 53 1 ∷ on 54 1 ∷ on 55 1 ∷ on 56 1 ∷ []; other = 0; first = 32 ∷ 37 ∷ 38 ∷ 39 ∷ 40 ∷ 41 ∷ 42 ∷ 43 ∷ 44 ∷ 45 ∷ 46 ∷ 47 ∷ 48 ∷ 49 ∷ 50 ∷ 51 ∷ 53 ∷ 54 ∷ 55 ∷ 56 ∷ []; follow = 17 ∷ 21 ∷ []; null = false; cost = 3; least = 1 }
+
+-- 7: what follows an item of: list of parameter
+abbrev r7 : Row
+r7 = record { alts = [] ∷ (tok 17 ∷ nt 3 ∷ []) ∷ []; cases = on 17 2 ∷ []; other = 1; first = 17 ∷ []; follow = 21 ∷ []; null = true; cost = 1; least = 1 }
+
+-- 8: type
+abbrev r8 : Row
+r8 = record { alts = (tok 41 ∷ nt 11 ∷ []) ∷ (tok 42 ∷ nt 12 ∷ []) ∷ (tok 43 ∷ nt 13 ∷ []) ∷ (nt 14 ∷ []) ∷ (tok 20 ∷ nt 15 ∷ tok 21 ∷ []) ∷ (tok 22 ∷ nt 8 ∷ tok 16 ∷ tok 28 ∷ tok 23 ∷ []) ∷ []; cases = on 20 5 ∷ on 22 6 ∷ on 32 4 ∷ on 37 4 ∷ on 38 4 ∷ on 39 4 ∷ on 40 4 ∷ on 41 1 ∷ on 42 2 ∷ on 43 3 ∷ on 44 4 ∷ on 45 4 ∷ on 46 4 ∷ on 47 4 ∷ on 48 4 ∷ on 49 4 ∷ on 50 4 ∷ on 51 4 ∷ on 53 4 ∷ on 54 4 ∷ on 55 4 ∷ on 56 4 ∷ []; other = 0; first = 20 ∷ 22 ∷ 32 ∷ 37 ∷ 38 ∷ 39 ∷ 40 ∷ 41 ∷ 42 ∷ 43 ∷ 44 ∷ 45 ∷ 46 ∷ 47 ∷ 48 ∷ 49 ∷ 50 ∷ 51 ∷ 53 ∷ 54 ∷ 55 ∷ 56 ∷ []; follow = 16 ∷ 17 ∷ 18 ∷ 21 ∷ 24 ∷ 27 ∷ []; null = false; cost = 3; least = 1 }
+
+-- 9: elements
+abbrev r9 : Row
+r9 = record { alts = [] ∷ (nt 16 ∷ tok 16 ∷ nt 9 ∷ []) ∷ (nt 17 ∷ nt 18 ∷ []) ∷ []; cases = on 5 2 ∷ on 25 1 ∷ []; other = 3; first = 5 ∷ 9 ∷ 20 ∷ 22 ∷ 24 ∷ 26 ∷ 28 ∷ 29 ∷ 30 ∷ 32 ∷ 33 ∷ 34 ∷ 35 ∷ 37 ∷ 38 ∷ 39 ∷ 40 ∷ 41 ∷ 42 ∷ 43 ∷ 44 ∷ 45 ∷ 46 ∷ 47 ∷ 48 ∷ 49 ∷ 50 ∷ 51 ∷ 53 ∷ 54 ∷ 55 ∷ 56 ∷ 57 ∷ 58 ∷ 59 ∷ 60 ∷ 61 ∷ 62 ∷ []; follow = 25 ∷ []; null = true; cost = 12; least = 1 }
+
+-- 10: identifier
+abbrev r10 : Row
+r10 = record { alts = (tok 32 ∷ []) ∷ (tok 37 ∷ []) ∷ (tok 38 ∷ []) ∷ (tok 39 ∷ []) ∷ (tok 40 ∷ []) ∷ (tok 41 ∷ []) ∷ (tok 42 ∷ []) ∷ (tok 43 ∷ []) ∷ (tok 44 ∷ []) ∷ (tok 45 ∷ []) ∷ (tok 46 ∷ []) ∷ (tok 47 ∷ []) ∷ (tok 48 ∷ []) ∷ (tok 49 ∷ []) ∷ (tok 50 ∷ []) ∷ (tok 51 ∷ []) ∷ (tok 53 ∷ []) ∷ (tok 54 ∷ []) ∷ (tok 55 ∷ []) ∷ (tok 56 ∷ []) ∷ []; cases = on 32 1 ∷ on 37 2 ∷ on 38 3 ∷ on 39 4 ∷ on 40 5 ∷ on 41 6 ∷ on 42 7 ∷ on 43 8 ∷ on 44 9 ∷ on 45 10 ∷ on 46 11 ∷ on 47 12 ∷ on 48 13 ∷ on 49 14 ∷ on 50 15 ∷ on 51 16 ∷ on 53 17 ∷ on 54 18 ∷ on 55 19 ∷ on 56 20 ∷ []; other = 0; first = 32 ∷ 37 ∷ 38 ∷ 39 ∷ 40 ∷ 41 ∷ 42 ∷ 43 ∷ 44 ∷ 45 ∷ 46 ∷ 47 ∷ 48 ∷ 49 ∷ 50 ∷ 51 ∷ 53 ∷ 54 ∷ 55 ∷ 56 ∷ []; follow = 14 ∷ 15 ∷ 16 ∷ 17 ∷ 19 ∷ 20 ∷ 21 ∷ 23 ∷ 24 ∷ 25 ∷ []; null = false; cost = 1; least = 1 }
+
+-- 11: optional (LAngle type Comma type RAngle)
+abbrev r11 : Row
+r11 = record { alts = [] ∷ (tok 26 ∷ nt 8 ∷ tok 17 ∷ nt 8 ∷ tok 27 ∷ []) ∷ []; cases = on 26 2 ∷ []; other = 1; first = 26 ∷ []; follow = 16 ∷ 17 ∷ 18 ∷ 21 ∷ 24 ∷ 27 ∷ []; null = true; cost = 1; least = 1 }
+
+-- 12: optional (LAngle type RAngle)
+abbrev r12 : Row
+r12 = record { alts = [] ∷ (tok 26 ∷ nt 8 ∷ tok 27 ∷ []) ∷ []; cases = on 26 2 ∷ []; other = 1; first = 26 ∷ []; follow = 16 ∷ 17 ∷ 18 ∷ 21 ∷ 24 ∷ 27 ∷ []; null = true; cost = 1; least = 1 }
+
+-- 13: optional (LAngle type Comma DecLiteral RAngle)
+abbrev r13 : Row
+r13 = record { alts = [] ∷ (tok 26 ∷ nt 8 ∷ tok 17 ∷ tok 28 ∷ tok 27 ∷ []) ∷ []; cases = on 26 2 ∷ []; other = 1; first = 26 ∷ []; follow = 16 ∷ 17 ∷ 18 ∷ 21 ∷ 24 ∷ 27 ∷ []; null = true; cost = 1; least = 1 }
+
+-- 14: namedType
+abbrev r14 : Row
+r14 = record { alts = (tok 32 ∷ []) ∷ (tok 37 ∷ []) ∷ (tok 38 ∷ []) ∷ (tok 39 ∷ []) ∷ (tok 40 ∷ []) ∷ (tok 44 ∷ []) ∷ (tok 45 ∷ []) ∷ (tok 46 ∷ []) ∷ (tok 47 ∷ []) ∷ (tok 48 ∷ []) ∷ (tok 49 ∷ []) ∷ (tok 50 ∷ []) ∷ (tok 51 ∷ []) ∷ (tok 53 ∷ []) ∷ (tok 54 ∷ []) ∷ (tok 55 ∷ []) ∷ (tok 56 ∷ []) ∷ []; cases = on 32 1 ∷ on 37 2 ∷ on 38 3 ∷ on 39 4 ∷ on 40 5 ∷ on 44 6 ∷ on 45 7 ∷ on 46 8 ∷ on 47 9 ∷ on 48 10 ∷ on 49 11 ∷ on 50 12 ∷ on 51 13 ∷ on 53 14 ∷ on 54 15 ∷ on 55 16 ∷ on 56 17 ∷ []; other = 0; first = 32 ∷ 37 ∷ 38 ∷ 39 ∷ 40 ∷ 44 ∷ 45 ∷ 46 ∷ 47 ∷ 48 ∷ 49 ∷ 50 ∷ 51 ∷ 53 ∷ 54 ∷ 55 ∷ 56 ∷ []; follow = 16 ∷ 17 ∷ 18 ∷ 21 ∷ 24 ∷ 27 ∷ []; null = false; cost = 1; least = 1 }
+
+-- 15: list of type
+abbrev r15 : Row
+r15 = record { alts = [] ∷ (nt 8 ∷ nt 19 ∷ []) ∷ []; cases = on 21 1 ∷ []; other = 2; first = 20 ∷ 22 ∷ 32 ∷ 37 ∷ 38 ∷ 39 ∷ 40 ∷ 41 ∷ 42 ∷ 43 ∷ 44 ∷ 45 ∷ 46 ∷ 47 ∷ 48 ∷ 49 ∷ 50 ∷ 51 ∷ 53 ∷ 54 ∷ 55 ∷ 56 ∷ []; follow = 21 ∷ []; null = true; cost = 4; least = 1 }
+
+-- 16: assignment
+abbrev r16 : Row
+r16 = record { alts = (tok 5 ∷ nt 20 ∷ tok 15 ∷ nt 8 ∷ tok 18 ∷ nt 17 ∷ []) ∷ []; cases = on 5 1 ∷ []; other = 0; first = 5 ∷ []; follow = 16 ∷ []; null = false; cost = 1; least = 1 }
+
+-- 17: expression
+abbrev r17 : Row
+r17 = record { alts = (nt 5 ∷ []) ∷ (nt 21 ∷ []) ∷ []; cases = on 24 1 ∷ []; other = 2; first = 9 ∷ 20 ∷ 22 ∷ 24 ∷ 26 ∷ 28 ∷ 29 ∷ 30 ∷ 32 ∷ 33 ∷ 34 ∷ 35 ∷ 37 ∷ 38 ∷ 39 ∷ 40 ∷ 41 ∷ 42 ∷ 43 ∷ 44 ∷ 45 ∷ 46 ∷ 47 ∷ 48 ∷ 49 ∷ 50 ∷ 51 ∷ 53 ∷ 54 ∷ 55 ∷ 56 ∷ 57 ∷ 58 ∷ 59 ∷ 60 ∷ 61 ∷ 62 ∷ []; follow = 16 ∷ 17 ∷ 21 ∷ 23 ∷ 24 ∷ 25 ∷ []; null = false; cost = 8; least = 2 }
+
+-- 18: optional (Semi elements)
+abbrev r18 : Row
+r18 = record { alts = [] ∷ (tok 16 ∷ nt 9 ∷ []) ∷ []; cases = on 16 2 ∷ []; other = 1; first = 16 ∷ []; follow = 25 ∷ []; null = true; cost = 1; least = 1 }
+
+-- 19: what follows an item of: list of type
+abbrev r19 : Row
+r19 = record { alts = [] ∷ (tok 17 ∷ nt 15 ∷ []) ∷ []; cases = on 17 2 ∷ []; other = 1; first = 17 ∷ []; follow = 21 ∷ []; null = true; cost = 1; least = 1 }
+
+-- 20: pattern
+abbrev r20 : Row
+r20 = record { alts = (nt 10 ∷ []) ∷ (tok 20 ∷ nt 22 ∷ tok 21 ∷ []) ∷ (tok 22 ∷ nt 22 ∷ tok 23 ∷ []) ∷ []; cases = on 20 2 ∷ on 22 3 ∷ on 32 1 ∷ on 37 1 ∷ on 38 1 ∷ on 39 1 ∷ on 40 1 ∷ on 41 1 ∷ on 42 1 ∷ on 43 1 ∷ on 44 1 ∷ on 45 1 ∷ on 46 1 ∷ on 47 1 ∷ on 48 1 ∷ on 49 1 ∷ on 50 1 ∷ on 51 1 ∷ on 53 1 ∷ on 54 1 ∷ on 55 1 ∷ on 56 1 ∷ []; other = 0; first = 20 ∷ 22 ∷ 32 ∷ 37 ∷ 38 ∷ 39 ∷ 40 ∷ 41 ∷ 42 ∷ 43 ∷ 44 ∷ 45 ∷ 46 ∷ 47 ∷ 48 ∷ 49 ∷ 50 ∷ 51 ∷ 53 ∷ 54 ∷ 55 ∷ 56 ∷ []; follow = 15 ∷ 17 ∷ 21 ∷ 23 ∷ []; null = false; cost = 3; least = 1 }
+
+-- 21: single
+abbrev r21 : Row
+r21 = record { alts = (nt 23 ∷ []) ∷ (tok 20 ∷ nt 24 ∷ tok 21 ∷ []) ∷ (tok 22 ∷ nt 24 ∷ tok 23 ∷ []) ∷ (tok 60 ∷ tok 22 ∷ nt 24 ∷ tok 23 ∷ []) ∷ (tok 9 ∷ nt 17 ∷ tok 24 ∷ nt 25 ∷ tok 25 ∷ []) ∷ (nt 26 ∷ nt 27 ∷ []) ∷ (tok 26 ∷ nt 8 ∷ tok 27 ∷ tok 14 ∷ tok 53 ∷ nt 27 ∷ []) ∷ (nt 28 ∷ nt 29 ∷ []) ∷ (nt 30 ∷ nt 31 ∷ []) ∷ (nt 32 ∷ nt 33 ∷ []) ∷ (nt 34 ∷ nt 35 ∷ []) ∷ (tok 47 ∷ nt 36 ∷ []) ∷ []; cases = on 9 5 ∷ on 20 2 ∷ on 22 3 ∷ on 26 7 ∷ on 28 1 ∷ on 29 1 ∷ on 30 1 ∷ on 32 8 ∷ on 33 6 ∷ on 34 1 ∷ on 35 1 ∷ on 37 8 ∷ on 38 8 ∷ on 39 8 ∷ on 40 9 ∷ on 41 8 ∷ on 42 8 ∷ on 43 8 ∷ on 44 10 ∷ on 45 10 ∷ on 46 11 ∷ on 47 12 ∷ on 48 10 ∷ on 49 8 ∷ on 50 9 ∷ on 51 9 ∷ on 53 9 ∷ on 54 11 ∷ on 55 9 ∷ on 56 10 ∷ on 57 6 ∷ on 58 6 ∷ on 59 6 ∷ on 60 4 ∷ on 61 1 ∷ on 62 1 ∷ []; other = 0; first = 9 ∷ 20 ∷ 22 ∷ 26 ∷ 28 ∷ 29 ∷ 30 ∷ 32 ∷ 33 ∷ 34 ∷ 35 ∷ 37 ∷ 38 ∷ 39 ∷ 40 ∷ 41 ∷ 42 ∷ 43 ∷ 44 ∷ 45 ∷ 46 ∷ 47 ∷ 48 ∷ 49 ∷ 50 ∷ 51 ∷ 53 ∷ 54 ∷ 55 ∷ 56 ∷ 57 ∷ 58 ∷ 59 ∷ 60 ∷ 61 ∷ 62 ∷ []; follow = 16 ∷ 17 ∷ 21 ∷ 23 ∷ 24 ∷ 25 ∷ []; null = false; cost = 7; least = 1 }
+
+-- 22: list of pattern
+abbrev r22 : Row
+r22 = record { alts = [] ∷ (nt 20 ∷ nt 37 ∷ []) ∷ []; cases = on 21 1 ∷ on 23 1 ∷ []; other = 2; first = 20 ∷ 22 ∷ 32 ∷ 37 ∷ 38 ∷ 39 ∷ 40 ∷ 41 ∷ 42 ∷ 43 ∷ 44 ∷ 45 ∷ 46 ∷ 47 ∷ 48 ∷ 49 ∷ 50 ∷ 51 ∷ 53 ∷ 54 ∷ 55 ∷ 56 ∷ []; follow = 21 ∷ 23 ∷ []; null = true; cost = 4; least = 1 }
+
+-- 23: literal
+abbrev r23 : Row
+r23 = record { alts = (tok 61 ∷ []) ∷ (tok 62 ∷ []) ∷ (tok 28 ∷ []) ∷ (tok 29 ∷ []) ∷ (tok 30 ∷ []) ∷ (tok 34 ∷ []) ∷ (tok 35 ∷ []) ∷ []; cases = on 28 3 ∷ on 29 4 ∷ on 30 5 ∷ on 34 6 ∷ on 35 7 ∷ on 61 1 ∷ on 62 2 ∷ []; other = 0; first = 28 ∷ 29 ∷ 30 ∷ 34 ∷ 35 ∷ 61 ∷ 62 ∷ []; follow = 16 ∷ 17 ∷ 21 ∷ 23 ∷ 24 ∷ 25 ∷ []; null = false; cost = 1; least = 1 }
+
+-- 24: list of expression
+abbrev r24 : Row
+r24 = record { alts = [] ∷ (nt 17 ∷ nt 38 ∷ []) ∷ []; cases = on 21 1 ∷ on 23 1 ∷ []; other = 2; first = 9 ∷ 20 ∷ 22 ∷ 24 ∷ 26 ∷ 28 ∷ 29 ∷ 30 ∷ 32 ∷ 33 ∷ 34 ∷ 35 ∷ 37 ∷ 38 ∷ 39 ∷ 40 ∷ 41 ∷ 42 ∷ 43 ∷ 44 ∷ 45 ∷ 46 ∷ 47 ∷ 48 ∷ 49 ∷ 50 ∷ 51 ∷ 53 ∷ 54 ∷ 55 ∷ 56 ∷ 57 ∷ 58 ∷ 59 ∷ 60 ∷ 61 ∷ 62 ∷ []; follow = 21 ∷ 23 ∷ []; null = true; cost = 12; least = 1 }
+
+-- 25: any number of arm
+abbrev r25 : Row
+r25 = record { alts = [] ∷ (nt 39 ∷ nt 25 ∷ []) ∷ []; cases = on 25 1 ∷ []; other = 2; first = 32 ∷ 37 ∷ 38 ∷ 39 ∷ 40 ∷ 41 ∷ 42 ∷ 43 ∷ 44 ∷ 45 ∷ 46 ∷ 47 ∷ 48 ∷ 49 ∷ 50 ∷ 51 ∷ 53 ∷ 54 ∷ 55 ∷ 56 ∷ 61 ∷ 62 ∷ []; follow = 25 ∷ []; null = true; cost = 10; least = 1 }
+
+-- 26: assert! | panic! | dbg! | Jet
+abbrev r26 : Row
+r26 = record { alts = (tok 57 ∷ []) ∷ (tok 58 ∷ []) ∷ (tok 59 ∷ []) ∷ (tok 33 ∷ []) ∷ []; cases = on 33 4 ∷ on 57 1 ∷ on 58 2 ∷ on 59 3 ∷ []; other = 0; first = 33 ∷ 57 ∷ 58 ∷ 59 ∷ []; follow = 20 ∷ []; null = false; cost = 1; least = 1 }
+
+-- 27: arguments
+abbrev r27 : Row
+r27 = record { alts = (tok 20 ∷ nt 24 ∷ tok 21 ∷ []) ∷ []; cases = []; other = 1; first = 20 ∷ []; follow = 16 ∷ 17 ∷ 21 ∷ 23 ∷ 24 ∷ 25 ∷ []; null = false; cost = 1; least = 1 }
+
+-- 28: unwrap | Ident | Left | Right | Some | Either | Option | List
+abbrev r28 : Row
+r28 = record { alts = (tok 49 ∷ []) ∷ (tok 32 ∷ []) ∷ (tok 37 ∷ []) ∷ (tok 38 ∷ []) ∷ (tok 39 ∷ []) ∷ (tok 41 ∷ []) ∷ (tok 42 ∷ []) ∷ (tok 43 ∷ []) ∷ []; cases = on 32 2 ∷ on 37 3 ∷ on 38 4 ∷ on 39 5 ∷ on 41 6 ∷ on 42 7 ∷ on 43 8 ∷ on 49 1 ∷ []; other = 0; first = 32 ∷ 37 ∷ 38 ∷ 39 ∷ 41 ∷ 42 ∷ 43 ∷ 49 ∷ []; follow = 14 ∷ 16 ∷ 17 ∷ 20 ∷ 21 ∷ 23 ∷ 24 ∷ 25 ∷ []; null = false; cost = 1; least = 1 }
+
+-- 29: optional (arguments | DoubleColon path)
+abbrev r29 : Row
+r29 = record { alts = [] ∷ (nt 27 ∷ []) ∷ (tok 14 ∷ nt 40 ∷ []) ∷ []; cases = on 14 3 ∷ on 20 2 ∷ []; other = 1; first = 14 ∷ 20 ∷ []; follow = 16 ∷ 17 ∷ 21 ∷ 23 ∷ 24 ∷ 25 ∷ []; null = true; cost = 3; least = 1 }
+
+-- 30: None | into | assert | panic | dbg
+abbrev r30 : Row
+r30 = record { alts = (tok 40 ∷ []) ∷ (tok 53 ∷ []) ∷ (tok 50 ∷ []) ∷ (tok 51 ∷ []) ∷ (tok 55 ∷ []) ∷ []; cases = on 40 1 ∷ on 50 3 ∷ on 51 4 ∷ on 53 2 ∷ on 55 5 ∷ []; other = 0; first = 40 ∷ 50 ∷ 51 ∷ 53 ∷ 55 ∷ []; follow = 14 ∷ 16 ∷ 17 ∷ 21 ∷ 23 ∷ 24 ∷ 25 ∷ []; null = false; cost = 1; least = 1 }
+
+-- 31: optional (DoubleColon path)
+abbrev r31 : Row
+r31 = record { alts = [] ∷ (tok 14 ∷ nt 40 ∷ []) ∷ []; cases = on 14 2 ∷ []; other = 1; first = 14 ∷ []; follow = 16 ∷ 17 ∷ 21 ∷ 23 ∷ 24 ∷ 25 ∷ []; null = true; cost = 1; least = 1 }
+
+-- 32: unwrap-left | unwrap-right | is-none | raw-hash
+abbrev r32 : Row
+r32 = record { alts = (tok 44 ∷ []) ∷ (tok 45 ∷ []) ∷ (tok 48 ∷ []) ∷ (tok 56 ∷ []) ∷ []; cases = on 44 1 ∷ on 45 2 ∷ on 48 3 ∷ on 56 4 ∷ []; other = 0; first = 44 ∷ 45 ∷ 48 ∷ 56 ∷ []; follow = 14 ∷ 16 ∷ 17 ∷ 21 ∷ 23 ∷ 24 ∷ 25 ∷ []; null = false; cost = 1; least = 1 }
+
+-- 33: optional (DoubleColon (LAngle type RAngle arguments | path))
+abbrev r33 : Row
+r33 = record { alts = [] ∷ (tok 14 ∷ nt 41 ∷ []) ∷ []; cases = on 14 2 ∷ []; other = 1; first = 14 ∷ []; follow = 16 ∷ 17 ∷ 21 ∷ 23 ∷ 24 ∷ 25 ∷ []; null = true; cost = 1; least = 1 }
+
+-- 34: fold | array-fold
+abbrev r34 : Row
+r34 = record { alts = (tok 54 ∷ []) ∷ (tok 46 ∷ []) ∷ []; cases = on 46 2 ∷ on 54 1 ∷ []; other = 0; first = 46 ∷ 54 ∷ []; follow = 14 ∷ 16 ∷ 17 ∷ 21 ∷ 23 ∷ 24 ∷ 25 ∷ []; null = false; cost = 1; least = 1 }
+
+-- 35: optional (DoubleColon (LAngle functionName Comma DecLiteral RAngle arguments | path))
+abbrev r35 : Row
+r35 = record { alts = [] ∷ (tok 14 ∷ nt 42 ∷ []) ∷ []; cases = on 14 2 ∷ []; other = 1; first = 14 ∷ []; follow = 16 ∷ 17 ∷ 21 ∷ 23 ∷ 24 ∷ 25 ∷ []; null = true; cost = 1; least = 1 }
+
+-- 36: optional (DoubleColon (LAngle functionName RAngle arguments | path))
+abbrev r36 : Row
+r36 = record { alts = [] ∷ (tok 14 ∷ nt 43 ∷ []) ∷ []; cases = on 14 2 ∷ []; other = 1; first = 14 ∷ []; follow = 16 ∷ 17 ∷ 21 ∷ 23 ∷ 24 ∷ 25 ∷ []; null = true; cost = 1; least = 1 }
+
+-- 37: what follows an item of: list of pattern
+abbrev r37 : Row
+r37 = record { alts = [] ∷ (tok 17 ∷ nt 22 ∷ []) ∷ []; cases = on 17 2 ∷ []; other = 1; first = 17 ∷ []; follow = 21 ∷ 23 ∷ []; null = true; cost = 1; least = 1 }
+
+-- 38: what follows an item of: list of expression
+abbrev r38 : Row
+r38 = record { alts = [] ∷ (tok 17 ∷ nt 24 ∷ []) ∷ []; cases = on 17 2 ∷ []; other = 1; first = 17 ∷ []; follow = 21 ∷ 23 ∷ []; null = true; cost = 1; least = 1 }
+
+-- 39: arm
+abbrev r39 : Row
+r39 = record { alts = (nt 44 ∷ tok 19 ∷ nt 45 ∷ []) ∷ []; cases = on 32 1 ∷ on 37 1 ∷ on 38 1 ∷ on 39 1 ∷ on 40 1 ∷ on 41 1 ∷ on 42 1 ∷ on 43 1 ∷ on 44 1 ∷ on 45 1 ∷ on 46 1 ∷ on 47 1 ∷ on 48 1 ∷ on 49 1 ∷ on 50 1 ∷ on 51 1 ∷ on 53 1 ∷ on 54 1 ∷ on 55 1 ∷ on 56 1 ∷ on 61 1 ∷ on 62 1 ∷ []; other = 0; first = 32 ∷ 37 ∷ 38 ∷ 39 ∷ 40 ∷ 41 ∷ 42 ∷ 43 ∷ 44 ∷ 45 ∷ 46 ∷ 47 ∷ 48 ∷ 49 ∷ 50 ∷ 51 ∷ 53 ∷ 54 ∷ 55 ∷ 56 ∷ 61 ∷ 62 ∷ []; follow = 25 ∷ 32 ∷ 37 ∷ 38 ∷ 39 ∷ 40 ∷ 41 ∷ 42 ∷ 43 ∷ 44 ∷ 45 ∷ 46 ∷ 47 ∷ 48 ∷ 49 ∷ 50 ∷ 51 ∷ 53 ∷ 54 ∷ 55 ∷ 56 ∷ 61 ∷ 62 ∷ []; null = false; cost = 9; least = 1 }
+
+-- 40: path
+abbrev r40 : Row
+r40 = record { alts = (nt 10 ∷ nt 46 ∷ nt 47 ∷ []) ∷ []; cases = []; other = 1; first = 32 ∷ 37 ∷ 38 ∷ 39 ∷ 40 ∷ 41 ∷ 42 ∷ 43 ∷ 44 ∷ 45 ∷ 46 ∷ 47 ∷ 48 ∷ 49 ∷ 50 ∷ 51 ∷ 53 ∷ 54 ∷ 55 ∷ 56 ∷ []; follow = 16 ∷ 17 ∷ 21 ∷ 23 ∷ 24 ∷ 25 ∷ []; null = false; cost = 9; least = 1 }
+
+-- 41: LAngle type RAngle arguments | path
+abbrev r41 : Row
+r41 = record { alts = (tok 26 ∷ nt 8 ∷ tok 27 ∷ nt 27 ∷ []) ∷ (nt 40 ∷ []) ∷ []; cases = on 26 1 ∷ []; other = 2; first = 26 ∷ 32 ∷ 37 ∷ 38 ∷ 39 ∷ 40 ∷ 41 ∷ 42 ∷ 43 ∷ 44 ∷ 45 ∷ 46 ∷ 47 ∷ 48 ∷ 49 ∷ 50 ∷ 51 ∷ 53 ∷ 54 ∷ 55 ∷ 56 ∷ []; follow = 16 ∷ 17 ∷ 21 ∷ 23 ∷ 24 ∷ 25 ∷ []; null = false; cost = 11; least = 2 }
+
+-- 42: LAngle functionName Comma DecLiteral RAngle arguments | path
+abbrev r42 : Row
+r42 = record { alts = (tok 26 ∷ nt 2 ∷ tok 17 ∷ tok 28 ∷ tok 27 ∷ nt 27 ∷ []) ∷ (nt 40 ∷ []) ∷ []; cases = on 26 1 ∷ []; other = 2; first = 26 ∷ 32 ∷ 37 ∷ 38 ∷ 39 ∷ 40 ∷ 41 ∷ 42 ∷ 43 ∷ 44 ∷ 45 ∷ 46 ∷ 47 ∷ 48 ∷ 49 ∷ 50 ∷ 51 ∷ 53 ∷ 54 ∷ 55 ∷ 56 ∷ []; follow = 16 ∷ 17 ∷ 21 ∷ 23 ∷ 24 ∷ 25 ∷ []; null = false; cost = 11; least = 2 }
+
+-- 43: LAngle functionName RAngle arguments | path
+abbrev r43 : Row
+r43 = record { alts = (tok 26 ∷ nt 2 ∷ tok 27 ∷ nt 27 ∷ []) ∷ (nt 40 ∷ []) ∷ []; cases = on 26 1 ∷ []; other = 2; first = 26 ∷ 32 ∷ 37 ∷ 38 ∷ 39 ∷ 40 ∷ 41 ∷ 42 ∷ 43 ∷ 44 ∷ 45 ∷ 46 ∷ 47 ∷ 48 ∷ 49 ∷ 50 ∷ 51 ∷ 53 ∷ 54 ∷ 55 ∷ 56 ∷ []; follow = 16 ∷ 17 ∷ 21 ∷ 23 ∷ 24 ∷ 25 ∷ []; null = false; cost = 11; least = 2 }
+
+-- 44: head
+abbrev r44 : Row
+r44 = record { alts = (tok 61 ∷ []) ∷ (tok 62 ∷ []) ∷ (tok 40 ∷ nt 48 ∷ []) ∷ (nt 49 ∷ nt 50 ∷ []) ∷ (nt 51 ∷ nt 52 ∷ []) ∷ []; cases = on 37 4 ∷ on 38 4 ∷ on 39 4 ∷ on 40 3 ∷ on 61 1 ∷ on 62 2 ∷ []; other = 5; first = 32 ∷ 37 ∷ 38 ∷ 39 ∷ 40 ∷ 41 ∷ 42 ∷ 43 ∷ 44 ∷ 45 ∷ 46 ∷ 47 ∷ 48 ∷ 49 ∷ 50 ∷ 51 ∷ 53 ∷ 54 ∷ 55 ∷ 56 ∷ 61 ∷ 62 ∷ []; follow = 19 ∷ []; null = false; cost = 7; least = 1 }
+
+-- 45: block optional Comma | single Comma
+abbrev r45 : Row
+r45 = record { alts = (nt 5 ∷ nt 53 ∷ []) ∷ (nt 21 ∷ tok 17 ∷ []) ∷ []; cases = on 24 1 ∷ []; other = 2; first = 9 ∷ 20 ∷ 22 ∷ 24 ∷ 26 ∷ 28 ∷ 29 ∷ 30 ∷ 32 ∷ 33 ∷ 34 ∷ 35 ∷ 37 ∷ 38 ∷ 39 ∷ 40 ∷ 41 ∷ 42 ∷ 43 ∷ 44 ∷ 45 ∷ 46 ∷ 47 ∷ 48 ∷ 49 ∷ 50 ∷ 51 ∷ 53 ∷ 54 ∷ 55 ∷ 56 ∷ 57 ∷ 58 ∷ 59 ∷ 60 ∷ 61 ∷ 62 ∷ []; follow = 25 ∷ 32 ∷ 37 ∷ 38 ∷ 39 ∷ 40 ∷ 41 ∷ 42 ∷ 43 ∷ 44 ∷ 45 ∷ 46 ∷ 47 ∷ 48 ∷ 49 ∷ 50 ∷ 51 ∷ 53 ∷ 54 ∷ 55 ∷ 56 ∷ 61 ∷ 62 ∷ []; null = false; cost = 8; least = 2 }
+
+-- 46: any number of (DoubleColon identifier)
+abbrev r46 : Row
+r46 = record { alts = [] ∷ (tok 14 ∷ nt 10 ∷ nt 46 ∷ []) ∷ []; cases = on 14 2 ∷ []; other = 1; first = 14 ∷ []; follow = 16 ∷ 17 ∷ 19 ∷ 20 ∷ 21 ∷ 23 ∷ 24 ∷ 25 ∷ []; null = true; cost = 1; least = 1 }
+
+-- 47: optional arguments
+abbrev r47 : Row
+r47 = record { alts = [] ∷ (nt 27 ∷ []) ∷ []; cases = on 20 2 ∷ []; other = 1; first = 20 ∷ []; follow = 16 ∷ 17 ∷ 21 ∷ 23 ∷ 24 ∷ 25 ∷ []; null = true; cost = 3; least = 1 }
+
+-- 48: optional headPath
+abbrev r48 : Row
+r48 = record { alts = [] ∷ (nt 52 ∷ []) ∷ []; cases = on 14 2 ∷ []; other = 1; first = 14 ∷ []; follow = 19 ∷ []; null = true; cost = 3; least = 1 }
+
+-- 49: Left | Right | Some
+abbrev r49 : Row
+r49 = record { alts = (tok 37 ∷ []) ∷ (tok 38 ∷ []) ∷ (tok 39 ∷ []) ∷ []; cases = on 37 1 ∷ on 38 2 ∷ on 39 3 ∷ []; other = 0; first = 37 ∷ 38 ∷ 39 ∷ []; follow = 14 ∷ 20 ∷ []; null = false; cost = 1; least = 1 }
+
+-- 50: LParen pair RParen | headPath
+abbrev r50 : Row
+r50 = record { alts = (tok 20 ∷ nt 54 ∷ tok 21 ∷ []) ∷ (nt 52 ∷ []) ∷ []; cases = on 20 1 ∷ []; other = 2; first = 14 ∷ 20 ∷ []; follow = 19 ∷ []; null = false; cost = 3; least = 2 }
+
+-- 51: otherName
+abbrev r51 : Row
+r51 = record { alts = (tok 32 ∷ []) ∷ (tok 41 ∷ []) ∷ (tok 42 ∷ []) ∷ (tok 43 ∷ []) ∷ (tok 44 ∷ []) ∷ (tok 45 ∷ []) ∷ (tok 46 ∷ []) ∷ (tok 47 ∷ []) ∷ (tok 48 ∷ []) ∷ (tok 49 ∷ []) ∷ (tok 50 ∷ []) ∷ (tok 51 ∷ []) ∷ (tok 53 ∷ []) ∷ (tok 54 ∷ []) ∷ (tok 55 ∷ []) ∷ (tok 56 ∷ []) ∷ []; cases = on 32 1 ∷ on 41 2 ∷ on 42 3 ∷ on 43 4 ∷ on 44 5 ∷ on 45 6 ∷ on 46 7 ∷ on 47 8 ∷ on 48 9 ∷ on 49 10 ∷ on 50 11 ∷ on 51 12 ∷ on 53 13 ∷ on 54 14 ∷ on 55 15 ∷ on 56 16 ∷ []; other = 0; first = 32 ∷ 41 ∷ 42 ∷ 43 ∷ 44 ∷ 45 ∷ 46 ∷ 47 ∷ 48 ∷ 49 ∷ 50 ∷ 51 ∷ 53 ∷ 54 ∷ 55 ∷ 56 ∷ []; follow = 14 ∷ []; null = false; cost = 1; least = 1 }
+
+-- 52: headPath
+abbrev r52 : Row
+r52 = record { alts = (tok 14 ∷ nt 10 ∷ nt 46 ∷ nt 55 ∷ []) ∷ []; cases = []; other = 1; first = 14 ∷ []; follow = 19 ∷ []; null = false; cost = 1; least = 1 }
+
+-- 53: optional Comma
+abbrev r53 : Row
+r53 = record { alts = [] ∷ (tok 17 ∷ []) ∷ []; cases = on 17 2 ∷ []; other = 1; first = 17 ∷ []; follow = 25 ∷ 32 ∷ 37 ∷ 38 ∷ 39 ∷ 40 ∷ 41 ∷ 42 ∷ 43 ∷ 44 ∷ 45 ∷ 46 ∷ 47 ∷ 48 ∷ 49 ∷ 50 ∷ 51 ∷ 53 ∷ 54 ∷ 55 ∷ 56 ∷ 61 ∷ 62 ∷ []; null = true; cost = 1; least = 1 }
+
+-- 54: pair
+abbrev r54 : Row
+r54 = record { alts = (nt 20 ∷ tok 15 ∷ nt 8 ∷ []) ∷ []; cases = []; other = 1; first = 20 ∷ 22 ∷ 32 ∷ 37 ∷ 38 ∷ 39 ∷ 40 ∷ 41 ∷ 42 ∷ 43 ∷ 44 ∷ 45 ∷ 46 ∷ 47 ∷ 48 ∷ 49 ∷ 50 ∷ 51 ∷ 53 ∷ 54 ∷ 55 ∷ 56 ∷ []; follow = 17 ∷ 21 ∷ []; null = false; cost = 4; least = 1 }
+
+-- 55: optional (LParen pair what follows an item of: list of pair RParen)
+abbrev r55 : Row
+r55 = record { alts = [] ∷ (tok 20 ∷ nt 54 ∷ nt 56 ∷ tok 21 ∷ []) ∷ []; cases = on 20 2 ∷ []; other = 1; first = 20 ∷ []; follow = 19 ∷ []; null = true; cost = 1; least = 1 }
+
+-- 56: what follows an item of: list of pair
+abbrev r56 : Row
+r56 = record { alts = [] ∷ (tok 17 ∷ nt 57 ∷ []) ∷ []; cases = on 17 2 ∷ []; other = 1; first = 17 ∷ []; follow = 21 ∷ []; null = true; cost = 1; least = 1 }
+
+-- 57: list of pair
+abbrev r57 : Row
+r57 = record { alts = [] ∷ (nt 54 ∷ nt 56 ∷ []) ∷ []; cases = on 21 1 ∷ []; other = 2; first = 20 ∷ 22 ∷ 32 ∷ 37 ∷ 38 ∷ 39 ∷ 40 ∷ 41 ∷ 42 ∷ 43 ∷ 44 ∷ 45 ∷ 46 ∷ 47 ∷ 48 ∷ 49 ∷ 50 ∷ 51 ∷ 53 ∷ 54 ∷ 55 ∷ 56 ∷ []; follow = 21 ∷ []; null = true; cost = 8; least = 1 }
+
+-- The rows of the nonterminals, by their numbers.
+unfoldable pub table : List Row
+table = r0 ∷ r1 ∷ r2 ∷ r3 ∷ r4 ∷ r5 ∷ r6 ∷ r7 ∷ r8 ∷ r9 ∷ r10 ∷ r11 ∷ r12 ∷ r13 ∷ r14 ∷ r15 ∷ r16 ∷ r17 ∷ r18 ∷ r19 ∷ r20 ∷ r21 ∷ r22 ∷ r23 ∷ r24 ∷ r25 ∷ r26 ∷ r27 ∷ r28 ∷ r29 ∷ r30 ∷ r31 ∷ r32 ∷ r33 ∷ r34 ∷ r35 ∷ r36 ∷ r37 ∷ r38 ∷ r39 ∷ r40 ∷ r41 ∷ r42 ∷ r43 ∷ r44 ∷ r45 ∷ r46 ∷ r47 ∷ r48 ∷ r49 ∷ r50 ∷ r51 ∷ r52 ∷ r53 ∷ r54 ∷ r55 ∷ r56 ∷ r57 ∷ []
+
+-- The expression that each nonterminal stands for.
+unfoldable pub means : List Ex
+means = function ∷ (or eps (mark t.Pub)) ∷ functionName ∷ (list parameter t.Comma) ∷ (or eps (seq (mark t.Arrow) type)) ∷ block ∷ parameter ∷ (tail parameter t.Comma) ∷ type ∷ elements ∷ identifier ∷ (or eps (seq (mark t.LAngle) (seq (seq type (seq (mark t.Comma) type)) (mark t.RAngle)))) ∷ (or eps (seq (mark t.LAngle) (seq type (mark t.RAngle)))) ∷ (or eps (seq (mark t.LAngle) (seq (seq type (seq (mark t.Comma) (mark t.DecLiteral))) (mark t.RAngle)))) ∷ namedType ∷ (list type t.Comma) ∷ assignment ∷ expression ∷ (or eps (seq (mark t.Semi) elements)) ∷ (tail type t.Comma) ∷ pattern ∷ single ∷ (list pattern t.Comma) ∷ literal ∷ (list expression t.Comma) ∷ (many arm) ∷ (or (mark t.assert!) (or (mark t.panic!) (or (mark t.dbg!) (mark t.Jet)))) ∷ arguments ∷ (or (mark t.unwrap) (or (mark t.Ident) (or (mark t.Left) (or (mark t.Right) (or (mark t.Some) (or (mark t.Either) (or (mark t.Option) (mark t.List)))))))) ∷ (or eps (or arguments (seq (mark t.DoubleColon) path))) ∷ (or (mark t.None) (or (mark t.into) (or (mark t.assert) (or (mark t.panic) (mark t.dbg))))) ∷ (or eps (seq (mark t.DoubleColon) path)) ∷ (or (mark t.unwrap-left) (or (mark t.unwrap-right) (or (mark t.is-none) (mark t.raw-hash)))) ∷ (or eps (seq (mark t.DoubleColon) (or (seq (seq (mark t.LAngle) (seq type (mark t.RAngle))) arguments) path))) ∷ (or (mark t.fold) (mark t.array-fold)) ∷ (or eps (seq (mark t.DoubleColon) (or (seq (seq (mark t.LAngle) (seq (seq functionName (seq (mark t.Comma) (mark t.DecLiteral))) (mark t.RAngle))) arguments) path))) ∷ (or eps (seq (mark t.DoubleColon) (or (seq (seq (mark t.LAngle) (seq functionName (mark t.RAngle))) arguments) path))) ∷ (tail pattern t.Comma) ∷ (tail expression t.Comma) ∷ arm ∷ path ∷ (or (seq (seq (mark t.LAngle) (seq type (mark t.RAngle))) arguments) path) ∷ (or (seq (seq (mark t.LAngle) (seq (seq functionName (seq (mark t.Comma) (mark t.DecLiteral))) (mark t.RAngle))) arguments) path) ∷ (or (seq (seq (mark t.LAngle) (seq functionName (mark t.RAngle))) arguments) path) ∷ head ∷ (or (seq block (or eps (mark t.Comma))) (seq single (mark t.Comma))) ∷ (many (seq (mark t.DoubleColon) identifier)) ∷ (or eps arguments) ∷ (or eps headPath) ∷ (or (mark t.Left) (or (mark t.Right) (mark t.Some))) ∷ (or (seq (mark t.LParen) (seq pair (mark t.RParen))) headPath) ∷ otherName ∷ headPath ∷ (or eps (mark t.Comma)) ∷ pair ∷ (or eps (seq (mark t.LParen) (seq (seq pair (tail pair t.Comma)) (mark t.RParen)))) ∷ (tail pair t.Comma) ∷ (list pair t.Comma) ∷ []

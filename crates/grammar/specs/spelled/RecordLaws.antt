@@ -1,0 +1,265 @@
+-- Every record of a draft's record tree spells the rule of its kind: document 01, "what it owns, with its children in order of place,
+-- spells that rule with its row's marks and its list's commas, none over and none missing". With the draft's tokens in order it follows
+-- that the tree is right, and law 3 holds of its tokens and records.
+-- Assumes nothing.
+use mathlib.Core.Bool.{Bool, true, false, _&&_, _||_, not, cond}
+use mathlib.Core.List.{List, [], _∷_, _++_, append-assoc, append-nil}
+use mathlib.Core.Option.{some}
+use mathlib.Core.Option as option
+use mathlib.Core.Path.{_≡_, refl, sym, ap, _∙_, subst}
+use Prim.Native.Nat.{ℕ, zero, suc, _≤_, _<_}
+use native.Mathlib.Omega.{arith}
+use borrow.Author.Tests.{eqb-true, leb-true, eq-eqb}
+use lib.Dec.{T, eqb, eqb→eq, leb}
+use lib.ListN.{length, drop, getD, getElem?}
+use Rattle.text.specs.Part.{partOf}
+use Rattle.text.specs.Table.{is-true, first-of, second-of}
+use Rattle.text.specs.Refusals as refusal
+use Rattle.num.specs.Digits as digits
+use Rattle.num.specs.Value.{decimalFrom, fitted, numberOf}
+use Rattle.num.specs.Bound.{boundOk, sizeOk}
+use Rattle.num.specs.declared.Value.{Value}
+use Rattle.num.specs.declared.Value.the-variants.{Number, TooLarge}
+use Rattle.theory.specs.Ebnf as shape
+use Rattle.theory.specs.Ebnf.{Ex, m-end, m-word, m-sub, m-choice}
+use Rattle.theory.specs.Parse.{found}
+use Rattle.own.specs.Tree.{Tok, Items, none, mark, sub, Node, node, roots, yield, marks, Each, InOrder, tokens, records}
+use Rattle.own.specs.Flat.{no-token}
+use Rattle.own.specs.Law.{Sort, word, child, Ownership}
+use Rattle.own.specs.Rules.{firstClass, sorts, Keeps}
+use Rattle.own.specs.Kinds as kind
+use Rattle.kinds.specs.Lists.{all, here, there}
+use Rattle.kinds.specs.Shape.{of, has, fits, _▸_, Spells, empty, one-mark, one-part, seq}
+use Rattle.kinds.specs.Fields.{counted, halves, holds}
+use Rattle.kinds.specs.Rules.{the}
+use Rattle.kinds.specs.Rules as rules
+use Rattle.kinds.specs.Build.{the-mark}
+use Rattle.kinds.specs.Spelled.{Spelled, formsOf}
+use Rattle.kinds.specs.Ownership.{Right, law-3}
+use Rattle.kinds.specs.Families as family
+use Rattle.lexer.specs.Classes as class
+use Rattle.grammar.specs.shapes.ShapeKind.{ListTypeShape, MatchShape, FoldingShape}
+use Rattle.grammar.specs.shapes.Shapes.{shapes}
+use Rattle.grammar.specs.Entry.{Entry}
+use Rattle.grammar.specs.shapes.WellShaped.{Shape, shapeOf}
+use Rattle.grammar.specs.records.Records.{Head, head, Role, aMark, asName, asNumber, roleOf, placed, arranged, lowHalf, highHalf, reads, sees, opening, textOf, firstTok, firstOf, decimal, headOf, formOf, headFor, recorded, recordItems, recordTrees, largest}
+use Rattle.grammar.specs.records.Faults.{Fault, unless, armLows, armsFault, faultsAt, faults, faultOf}
+use Rattle.grammar.specs.records.FaultLaws.{none-exactly}
+use Rattle.grammar.specs.spelled.TreeTokens.{classesOf, whole-trees, is-shape, its-yield, keeps-tokens}
+use Rattle.grammar.specs.spelled.Rules.{kindsIn, seen, row, row-append, pair-in, items-in, choice-in, has-within}
+use Rattle.grammar.specs.spelled.Inclusion.{dealt, sorts-arranged}
+use Rattle.grammar.specs.spelled.FormTests.{SpelledAs, halves-of}
+use Rattle.grammar.specs.spelled.ShapeTests.{bodyShape}
+use Rattle.grammar.specs.spelled.ShapeLaws.{Given, Kept, kept, has-law, kind-of-category}
+
+-- ---- the tokens that become records of their own
+
+name-spelled : (c : ℕ) → T (has (class.Jet ∷ class.identifiers) c) → Spelled kind.Name 0 0 (word c ∷ [])
+unfolding formsOf rules.forms holds
+name-spelled c h = here (record { fields = tt; shape = one-mark c h })
+
+number-spelled : (n : ℕ) → n ≤ largest → Spelled kind.Number (lowHalf n) (highHalf n) (word class.DecLiteral ∷ [])
+unfolding formsOf rules.forms holds
+number-spelled n h = here (record { fields = halves-of n h; shape = the-mark class.DecLiteral })
+
+-- which tokens these are
+pub data RoleOf (c : ℕ) : Role → Type 0 where
+  its-own : RoleOf c aMark
+  a-name : T (has (class.Jet ∷ class.identifiers) c) → RoleOf c asName
+  a-number : c ≡ class.DecLiteral → RoleOf c asNumber
+
+calls-within : T (all (has (class.Jet ∷ class.identifiers)) (class.Jet ∷ class.functionNames))
+unfolding all has
+calls-within = tt
+
+names-within : T (all (has (class.Jet ∷ class.identifiers)) class.identifiers)
+unfolding all has
+names-within = tt
+
+role-cases : (K c : ℕ) → RoleOf c (roleOf K c)
+unfolding roleOf
+role-cases K c = go (has family.namesKept K) (has class.identifiers c) refl (eqb K kind.Call) (has (class.Jet ∷ class.functionNames) c) refl (eqb c class.DecLiteral) refl
+  where
+    go : (a b : Bool) → has class.identifiers c ≡ b → (d e : Bool) → has (class.Jet ∷ class.functionNames) c ≡ e → (f : Bool) → eqb c class.DecLiteral ≡ f
+        → RoleOf c (cond a (cond b asName aMark) (cond d (cond e asName (cond f asNumber aMark)) aMark))
+    go true true p d e q f r = a-name (has-within class.identifiers (class.Jet ∷ class.identifiers) names-within c (subst (λ y. T y) (sym p) tt))
+    go true false p d e q f r = its-own
+    go false b p true true q f r = a-name (has-within (class.Jet ∷ class.functionNames) (class.Jet ∷ class.identifiers) calls-within c (subst (λ y. T y) (sym q) tt))
+    go false b p true false q true r = a-number (eqb-true c class.DecLiteral r)
+    go false b p true false q false r = its-own
+    go false b p false e q f r = its-own
+
+each-placed : (n : ℕ) → n ≤ largest → (o : Role) (t : Tok) (r : Items) → RoleOf (t .class) o → Each (Keeps Spelled) r → Each (Keeps Spelled) (placed o n t r)
+unfolding placed
+each-placed n h aMark t r its-own e = e
+each-placed n h asName t r (a-name u) e = (name-spelled (t .class) u, tt, e)
+each-placed n h asNumber t r (a-number u) e = (subst (λ (c : ℕ). Spelled kind.Number (lowHalf n) (highHalf n) (word c ∷ [])) (sym u) (number-spelled n h), tt, e)
+
+each-arranged : (K n : ℕ) → n ≤ largest → (is : Items) → Each (Keeps Spelled) is → Each (Keeps Spelled) (arranged K n is)
+unfolding arranged
+each-arranged K n h none e = tt
+each-arranged K n h (mark t r) e = each-placed n h (roleOf K (t .class)) t (arranged K n r) (role-cases K (t .class)) (each-arranged K n h r e)
+each-arranged K n h (sub k l i js r) e = (e .0, e .1, each-arranged K n h r (e .2))
+
+-- ---- what is given at each shape
+
+reads-small : (p : List ℕ) → reads (numberOf p) ≤ largest
+unfolding numberOf fitted reads
+reads-small p = go (decimalFrom 0 (digits.plain p)) (leb (decimalFrom 0 (digits.plain p)) largest) refl
+  where
+    go : (m : ℕ) (b : Bool) → leb m largest ≡ b → reads (cond b (Number m) TooLarge) ≤ largest
+    go m true e = leb-true m largest e
+    go m false e = omega arith
+
+no-first : (c : ℕ) (is : Items) → sees c (sorts is) ≡ false → firstOf c (marks is) ≡ no-token
+unfolding sees firstOf
+no-first c none e = refl
+no-first c (mark t r) e = go (eqb (t .class) c) e (no-first c r)
+  where
+    go : (b : Bool) → (b || sees c (sorts r)) ≡ false → (sees c (sorts r) ≡ false → firstOf c (marks r) ≡ no-token) → cond b t (firstOf c (marks r)) ≡ no-token
+    go true q f = let z : _≡_ {A = ℕ} 0 1 = cc in absurd (omega arith)
+    go false q f = f q
+no-first c (sub k l h js r) e = no-first c r e
+
+no-text : (draft : List ℕ) → textOf draft no-token ≡ []
+unfolding textOf partOf
+no-text draft = go (leb 0 0 && leb 0 (length draft))
+  where
+    go : (b : Bool) → _≡_ {A = List ℕ} (cond b [] []) []
+    go true = refl
+    go false = refl
+
+no-number : (draft : List ℕ) (is : Items) → sees class.DecLiteral (sorts is) ≡ false → reads (decimal draft is) ≡ 0
+unfolding decimal numberOf fitted reads decimalFrom digits.plain
+no-number draft is e = ap (λ t. reads (numberOf (textOf draft t))) (no-first class.DecLiteral is e) ∙ ap (λ p. reads (numberOf p)) (no-text draft)
+
+passes : (b : Bool) (i : ℕ) (t : Tok) → unless b i t ≡ [] → b ≡ true
+unfolding unless
+passes true i t e = refl
+passes false i t e = let z : _≡_ {A = ℕ} 0 1 = cc in absurd (omega arith)
+
+module _ (draft : List ℕ) (is : Items) where
+  abbrev w : List Sort
+  w = sorts is
+
+  list-clear : faultsAt draft ListTypeShape is ≡ [] → sees class.LAngle w ≡ true → boundOk (decimal draft is) ≡ true
+  unfolding faultsAt
+  list-clear f s = rw s at (passes (not (sees class.LAngle w) || boundOk (decimal draft is)) refusal.Bound (firstOf class.DecLiteral (marks is)) f)
+
+  size-clear : faultsAt draft FoldingShape is ≡ [] → sees class.LAngle w ≡ true → opening w ≡ class.array-fold → sizeOk (decimal draft is) ≡ true
+  unfolding faultsAt
+  size-clear f s o = rw s at (passes (not (sees class.LAngle w) || sizeOk (decimal draft is)) refusal.Size (firstOf class.DecLiteral (marks is)) (rw o at f))
+
+  fold-clear : faultsAt draft FoldingShape is ≡ [] → sees class.LAngle w ≡ true → opening w ≡ class.fold → boundOk (decimal draft is) ≡ true
+  unfolding faultsAt
+  fold-clear f s o = rw s at (passes (not (sees class.LAngle w) || boundOk (decimal draft is)) refusal.Bound (firstOf class.DecLiteral (marks is)) (rw o at f))
+
+  arms-clear : faultsAt draft MatchShape is ≡ [] → armsFault (counted (kind.EnumArm ∷ []) w) (armLows w) ≡ 0
+  unfolding faultsAt
+  arms-clear f = eqb-true (armsFault (counted (kind.EnumArm ∷ []) w) (armLows w)) 0 (passes (eqb (armsFault (counted (kind.EnumArm ∷ []) w) (armLows w)) 0) (armsFault (counted (kind.EnumArm ∷ []) w) (armLows w)) (firstTok (marks is)) f)
+
+  given : (k : ℕ) → faultsAt draft k is ≡ [] → Given k (decimal draft is) w
+  unfolding decimal
+  given k f =
+      record {
+        small = reads-small (textOf draft (firstOf class.DecLiteral (marks is)));
+        absent = no-number draft is;
+        listed = λ e s. list-clear (subst (λ (j : ℕ). faultsAt draft j is ≡ []) e f) s;
+        sized = λ e s o. size-clear (subst (λ (j : ℕ). faultsAt draft j is ≡ []) e f) s o;
+        folded = λ e s o. fold-clear (subst (λ (j : ℕ). faultsAt draft j is ≡ []) e f) s o;
+        armed = λ e. arms-clear (subst (λ (j : ℕ). faultsAt draft j is ≡ []) e f);
+      }
+
+-- ---- the tree
+
+nils : {A : Type 0} (a b : List A) → a ++ b ≡ [] → (a ≡ []) × (b ≡ [])
+nils [] b e = (refl, e)
+nils (x ∷ a) b e = let z : _≡_ {A = ℕ} 0 1 = cc in absurd (omega arith)
+
+first-class : (c : ℕ) (l : List ℕ) (ts : List Tok) → c ∷ l ≡ classesOf ts → (firstTok ts .class ≡ c) × (l ≡ classesOf (drop 1 ts))
+unfolding classesOf firstTok
+first-class c l [] e = let z : _≡_ {A = ℕ} 0 1 = cc in absurd (omega arith)
+first-class c l (t ∷ ts) e = (cc, cc)
+
+later-classes : (a b : List ℕ) (ts : List Tok) → a ++ b ≡ classesOf ts → b ≡ classesOf (drop (length a) ts)
+unfolding classesOf
+later-classes [] b ts e = e
+later-classes (c ∷ a) b [] e = let z : _≡_ {A = ℕ} 0 1 = cc in absurd (omega arith)
+later-classes (c ∷ a) b (t ∷ ts) e = later-classes a b ts (cc)
+
+-- Records that all keep their rules, made of what a row of expressions says.
+pub record Good (es : List Ex) (is : Items) : Type 0 where
+  pub each : Each (Keeps Spelled) is
+  pub made : Spells (row es) (sorts is)
+
+body : (k : ℕ) (is : Items) → Spells (row (shape.bodyOf shapes k)) (sorts is) → Spells (bodyShape k) (sorts is)
+unfolding shape.bodyOf bodyShape
+body k is p = items-in (getD (shapes .bodies) k shape.eps) p
+
+part-fits : (C i k : ℕ) → getElem? (shape.kindsOf shapes C) i ≡ some k → (text : List ℕ) (n : ℕ) (v : List Sort) (l h c : ℕ) → T (fits (of (kindsIn C)) (headOf (formOf k) text n v .kind) l h c)
+unfolding fits
+part-fits C i k e text n v l h c = kind-of-category C i k e text n v
+
+module _ (draft : List ℕ) where
+  good-word : {es : List Ex} (c : ℕ) (t : Tok) (is : Items) → t .class ≡ c → Good es is → Good (shape.mark c ∷ es) (mark t is)
+  unfolding row seen
+  good-word {es} c t is e g = record {
+    each = g .each;
+    made = subst (λ (x : ℕ). Spells (the c ▸ row es) (word x ∷ sorts is)) (sym e) (seq (the-mark c) (g .made));
+  }
+
+  good-sub : {es : List Ex} (C i k : ℕ) → getElem? (shape.kindsOf shapes C) i ≡ some k → (is r : Items) → faultsAt draft k is ≡ []
+      → Good (shape.bodyOf shapes k) is → Good es r → Good (shape.child C ∷ es) (recorded (reads (decimal draft is)) (headFor draft k is) is r)
+  unfolding recorded headFor row seen shape.bodyOf
+  good-sub {es} C i k h is r f g g′ =
+      let n = reads (decimal draft is) in
+      let o = given draft is k f in
+      let text = textOf draft (firstTok (marks is)) in
+      let hd = headOf (formOf k) text n (sorts is) in
+      let c = firstClass (yield (arranged (hd .kind) n is)) in
+      let s : SpelledAs hd n (sorts is) = kept k (has-law C i k h) text (decimal draft is) (sorts is) o (body k is (g .made)) in
+      record {
+        each = (subst (λ (u : List Sort). Spelled (hd .kind) (hd .low) (hd .high) u) (sym (sorts-arranged (hd .kind) n is)) s, each-arranged (hd .kind) n (o .small) is (g .each), g′ .each);
+        made = seq (one-part (hd .kind) (hd .low) (hd .high) c (part-fits C i k h text n (sorts is) (hd .low) (hd .high) c)) (g′ .made);
+      }
+
+  good-choice : {e : Ex} {es α : List Ex} (i : ℕ) (is : Items) → getElem? (shape.choices shapes e) i ≡ some α → Good (α ++ es) is → Good (e ∷ es) is
+  unfolding row
+  good-choice {e} {es} {α} i is h g = record { each = g .each; made = pair-in (λ v p. choice-in e i α h v p) (λ v p. p) (row-append α es (g .made)) }
+
+  -- The records of shapes side by side that match a row of expressions, where none of them has a refusal of 9 to 14.
+  good-items : {es : List Ex} {r : shape.Items} → shape.Match shapes es r → (ts : List Tok) (more : List ℕ) → shape.yield r ++ more ≡ classesOf ts → faults draft r ts ≡ []
+      → Good es (recordItems draft r ts)
+  unfolding recordItems faults shape.yield row
+  good-items m-end ts more e f = record { each = tt; made = empty }
+  good-items (m-word {c = c} {r = r} m) ts more e f =
+      let q = first-class c (shape.yield r ++ more) ts e in
+      good-word c (firstTok ts) (recordItems draft r (drop 1 ts)) (q .0) (good-items m (drop 1 ts) more (q .1) f)
+  good-items (m-sub {C = C} {k = k} {js = js} {r = r} i h m m′) ts more e f =
+      let is = recordItems draft js ts in
+      let e′ : shape.yield js ++ (shape.yield r ++ more) ≡ classesOf ts = sym (append-assoc (shape.yield js) (shape.yield r) more) ∙ e in
+      let a = nils (faultsAt draft k is) (faults draft js ts ++ faults draft r (drop (length (shape.yield js)) ts)) f in
+      let b = nils (faults draft js ts) (faults draft r (drop (length (shape.yield js)) ts)) (a .1) in
+      good-sub C i k h is (recordItems draft r (drop (length (shape.yield js)) ts)) (a .0) (good-items m ts (shape.yield r ++ more) e′ (b .0))
+      (good-items m′ (drop (length (shape.yield js)) ts) more (later-classes (shape.yield js) (shape.yield r ++ more) ts e′) (b .1))
+  good-items (m-choice {r = r} i h m) ts more e f = good-choice i (recordItems draft r ts) h (good-items m ts more e f)
+
+module _ (en : Entry) (draft : List ℕ) (ts : List Tok) (r : shape.Items) (found-it : shapeOf en (classesOf ts) ≡ found r) (clear : faultOf draft ts r ≡ option.none) where
+  no-faults : faults draft r ts ≡ []
+  unfolding faultOf
+  no-faults = none-exactly (faults draft r ts) .0 clear
+
+  -- Without refusals of the shapes, every record of the trees spells the rule of its kind, low and high.
+  pub all-spelled : Each (Keeps Spelled) (roots (recordTrees draft ts r))
+  all-spelled =
+      let s = is-shape en draft ts r found-it in
+      let e : shape.yield r ++ [] ≡ classesOf ts = append-nil (shape.yield r) ∙ its-yield en draft ts r found-it in
+      subst (Each (Keeps Spelled)) (sym (whole-trees en draft ts s)) (good-items draft s ts [] e no-faults .each)
+
+  -- If the tokens are in order too, the trees are right,
+  pub is-right : InOrder 0 ts → Right (recordTrees draft ts r)
+  is-right o = record { ordered = subst (InOrder 0) (sym (keeps-tokens en draft ts r found-it)) o; spelled = all-spelled }
+
+  -- and law 3, ownership, holds of their tokens and records.
+  pub owned : InOrder 0 ts → Ownership Spelled (tokens (recordTrees draft ts r)) (records (recordTrees draft ts r))
+  owned o = law-3 (recordTrees draft ts r) (is-right o)

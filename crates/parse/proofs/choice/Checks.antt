@@ -1,0 +1,93 @@
+-- The constants of src/choice.rt say what grammar's table and the lists of names say, class by class.
+-- Assumes nothing.
+use mathlib.Core.List.{List, [], _∷_}
+use mathlib.Core.Path.{_≡_, refl, sym}
+use Prim.Native.Nat.{ℕ, zero, suc, _<_, _≤_}
+use native.Mathlib.Omega.{arith}
+use lib.Dec.{T, ltb, ltb→lt}
+use lib.ListN.{getD}
+use Rattle.text.specs.Table.{table-at, first-of, second-of}
+use Rattle.lexer.specs.Classes as t
+use Rattle.kinds.specs.Shape.{has}
+use Rattle.theory.specs.Grammar.{look, row}
+use Rattle.theory.specs.Machine.{choose}
+use Rattle.grammar.specs.shapes.Tables.{table}
+use Rattle.grammar.specs.shapes.TablesIndex.{n-type, n-pattern, n-single, n-arm}
+use Rattle.parse.specs.Contract.{nameSort, headSort}
+use Rattle.parse.proofs.choice.Tables.{type-choices, pattern-choices, single-choices, name-choices, head-choices}
+use Rattle.parse.proofs.rule.ByClass.{pastClasses, low-all, beyond, has-past}
+
+-- An entry of a list of small numbers is small.
+small : (xs : List ℕ) → T (low-all xs) → (k : ℕ) → getD xs k 0 < pastClasses
+small [] t k = omega arith
+small (x ∷ xs) t zero = ltb→lt x pastClasses (first-of (ltb x pastClasses) (low-all xs) t)
+small (x ∷ xs) t (suc k) = small xs (second-of (ltb x pastClasses) (low-all xs) t) k
+
+-- TYPES
+pub type-small : (c : ℕ) → getD type-choices c 0 < pastClasses
+unfolding type-choices
+type-small = small type-choices tt
+
+pub type-at : (c : ℕ) → c < pastClasses → getD type-choices c 0 ≡ choose table n-type c
+unfolding type-choices choose row look table
+type-at = table-at (choose table n-type) type-choices pastClasses refl tt
+
+pub type-past : (c : ℕ) → pastClasses ≤ c → 0 ≡ choose table n-type c
+unfolding row table
+type-past c h = sym (beyond n-type c h)
+
+-- PATTERNS
+pub pattern-small : (c : ℕ) → getD pattern-choices c 0 < pastClasses
+unfolding pattern-choices
+pattern-small = small pattern-choices tt
+
+pub pattern-at : (c : ℕ) → c < pastClasses → getD pattern-choices c 0 ≡ choose table n-pattern c
+unfolding pattern-choices choose row look table
+pattern-at = table-at (choose table n-pattern) pattern-choices pastClasses refl tt
+
+pub pattern-past : (c : ℕ) → pastClasses ≤ c → 0 ≡ choose table n-pattern c
+unfolding row table
+pattern-past c h = sym (beyond n-pattern c h)
+
+-- SINGLES
+pub single-small : (c : ℕ) → getD single-choices c 0 < pastClasses
+unfolding single-choices
+single-small = small single-choices tt
+
+pub single-at : (c : ℕ) → c < pastClasses → getD single-choices c 0 ≡ choose table n-single c
+unfolding single-choices choose row look table
+single-at = table-at (choose table n-single) single-choices pastClasses refl tt
+
+pub single-past : (c : ℕ) → pastClasses ≤ c → 0 ≡ choose table n-single c
+unfolding row table
+single-past c h = sym (beyond n-single c h)
+
+-- NAMES
+pub name-small : (c : ℕ) → getD name-choices c 0 < pastClasses
+unfolding name-choices
+name-small = small name-choices tt
+
+pub name-at : (c : ℕ) → c < pastClasses → getD name-choices c 0 ≡ nameSort c
+unfolding name-choices nameSort has
+name-at = table-at nameSort name-choices pastClasses refl tt
+
+pub name-past : (c : ℕ) → pastClasses ≤ c → 0 ≡ nameSort c
+unfolding nameSort
+name-past c h = rw (has-past t.functionNames c tt h, has-past t.identifiers c tt h) refl
+
+-- HEADS
+pub head-small : (c : ℕ) → getD head-choices c 0 < pastClasses
+unfolding head-choices
+head-small = small head-choices tt
+
+pub head-at : (c : ℕ) → c < pastClasses → getD head-choices c 0 ≡ headSort c
+unfolding head-choices headSort choose row look table
+head-at = table-at headSort head-choices pastClasses refl tt
+
+no-arm : (c : ℕ) → pastClasses ≤ c → choose table n-arm c ≡ 0
+unfolding row table
+no-arm c h = beyond n-arm c h
+
+pub head-past : (c : ℕ) → pastClasses ≤ c → 0 ≡ headSort c
+unfolding headSort
+head-past c h = rw (no-arm c h) refl

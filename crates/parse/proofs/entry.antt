@@ -1,0 +1,2 @@
+-- The whole draft.
+pub mod Laws

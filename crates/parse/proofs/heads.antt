@@ -1,0 +1,3 @@
+-- Heads of arms.
+pub mod PairForms
+pub mod Forms

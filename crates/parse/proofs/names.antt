@@ -1,0 +1,8 @@
+-- Names and single tokens.
+pub mod LiteralHead
+pub mod TypeTable
+pub mod Tests
+pub mod Chain
+pub mod Rows
+pub mod Steps
+pub mod Joined

@@ -1,0 +1,2 @@
+-- The function and its parameters.
+pub mod Forms

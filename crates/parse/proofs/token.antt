@@ -1,0 +1,2 @@
+-- The tokens of a text.
+pub mod Tokens

@@ -1,0 +1,2 @@
+-- Words of records.
+pub mod Splice

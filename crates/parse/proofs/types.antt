@@ -1,0 +1,2 @@
+-- Types.
+pub mod Forms
