@@ -1,12 +1,1 @@
 pub mod rule
-pub mod choice
-pub mod names
-pub mod tree
-pub mod token
-pub mod types
-pub mod program
-pub mod pattern
-pub mod heads
-pub mod expr
-pub mod arms
-pub mod entry
