@@ -10,10 +10,11 @@ use borrow.Author.Tests.{lt-ltb, ltb-true, ltb-false, eqb-true, eqb-false}
 use lib.Dec.{ltb, eqb}
 use lib.ListN.{length, getD, drop, take, set, replicate, length-drop, length-append, length-set, List·getD-append}
 use lib.Seq.{sets-eq, take-at, drop-at, drop-drop, getD-at}
+use Rattle.text.specs.Answers.{Answer, accepted, refused}
 use Rattle.text.specs.Refusals as refusal
 use Rattle.text.specs.Widths.{tokWide}
 use Rattle.lexer.specs.Lexemes.{Token, Lexemes, tokens, refusedAt, with-token, lexemesFrom, lexemes}
-use Rattle.lexer.specs.Limits.{noToken, tooDeep, deep, judgedIn, tokenWords, tokensOf, content}
+use Rattle.lexer.specs.Limits.{noToken, meant, tooDeep, deep, judgedIn, tokenWords, tokensOf, content}
 use Rattle.lexer.specs.Buffer.{putAt, Held}
 use Rattle.lexer.specs.Nesting.{isPast, nestAfter, nestOf, outermost, passedAt}
 use Rattle.lexer.specs.Step.{stepOf}
@@ -177,43 +178,43 @@ module _ {s : List ℕ} {room : ℕ} {o : List ℕ} {i n w : ℕ} {x : Nest} {ou
         }
 
   -- every token is found: the answer and the buffer
-  abbrev said : Bool → Bool → Lexed
-  said a b = cond a (L.Refused refusal.TooMany w) (cond b (L.Refused refusal.TooDeep (x .place)) (L.Tokens n))
+  abbrev said : Bool → Bool → Answer
+  said a b = cond a (refused refusal.TooMany w) (cond b (refused refusal.TooDeep (x .place)) (accepted n 0))
 
   abbrev left-in : Bool → Bool → List ℕ
   left-in a b = cond a out (cond b out (take (tokWide * n) out ++ replicate (length out - tokWide * n) 0))
 
-  deep-is : cond (isPast x) (L.Refused refusal.TooDeep (x .place)) (L.Tokens n) ≡ deep (tooDeep 0 0 (v .done)) n
+  deep-is : cond (isPast x) (refused refusal.TooDeep (x .place)) (accepted n 0) ≡ deep (tooDeep 0 0 (v .done)) n
   deep-is = go (isPast x) ∙ sym (ap (λ (p : Option ℕ). deep p n) (sym (nest-deep (v .done) 0 0 0 (omega arith)) ∙ ap passedAt (v .nested)))
     where
-      go : (b : Bool) → cond b (L.Refused refusal.TooDeep (x .place)) (L.Tokens n) ≡ deep (cond b (some (x .place)) none) n
+      go : (b : Bool) → cond b (refused refusal.TooDeep (x .place)) (accepted n 0) ≡ deep (cond b (some (x .place)) none) n
       go true = refl
       go false = refl
 
   pub fill-answer : stepOf s i ≡ S.Nothing → said (ltb room n) (isPast x) ≡ judgedIn room (lexemes s)
   fill-answer q =
       go (ltb room n) refl
-      ∙ sym (ap (λ y. cond (ltb room y) (L.Refused refusal.TooMany first-over) (deep (tooDeep 0 0 (v .done)) y)) (v .number))
+      ∙ sym (ap (λ y. cond (ltb room y) (refused refusal.TooMany first-over) (deep (tooDeep 0 0 (v .done)) y)) (v .number))
       ∙ sym (ap (judgedIn room) (fill-over q))
     where
       first-over : ℕ
       first-over = getD (v .done) room noToken .start
 
-      go : (b : Bool) → ltb room n ≡ b → said b (isPast x) ≡ cond b (L.Refused refusal.TooMany first-over) (deep (tooDeep 0 0 (v .done)) n)
-      go true f = ap (L.Refused refusal.TooMany) (v .over (ltb-true room n f))
+      go : (b : Bool) → ltb room n ≡ b → said b (isPast x) ≡ cond b (refused refusal.TooMany first-over) (deep (tooDeep 0 0 (v .done)) n)
+      go true f = ap (refused refusal.TooMany) (v .over (ltb-true room n f))
       go false f = deep-is
 
   -- the tokens stand in the buffer unless they are refused
-  pub fill-held : (r : Lexed) (z : List ℕ) → stepOf s i ≡ S.Nothing → r ≡ said (ltb room n) (isPast x) → z ≡ left-in (ltb room n) (isPast x)
+  pub fill-held : (r : Lexed) (z : List ℕ) → stepOf s i ≡ S.Nothing → meant r ≡ said (ltb room n) (isPast x) → z ≡ left-in (ltb room n) (isPast x)
       → Held r z (tokensOf (lexemes s)) (length o)
   fill-held r z q e g = record { holds = go (ltb room n) (isPast x) refl e g }
     where
-      go : (a b : Bool) → ltb room n ≡ a → r ≡ said a b → z ≡ left-in a b → (m : ℕ) → r ≡ L.Tokens m → z ≡ content r (tokensOf (lexemes s)) (length o)
-      go true b f e g m h = let y : _≡_ {A = ℕ} 0 1 = cc in absurd (omega arith)
-      go false true f e g m h = let y : _≡_ {A = ℕ} 0 1 = cc in absurd (omega arith)
+      go : (a b : Bool) → ltb room n ≡ a → meant r ≡ said a b → z ≡ left-in a b → (m : ℕ) → r ≡ L.Tokens m → z ≡ content (meant r) (tokensOf (lexemes s)) (length o)
+      go true b f e g m h = let k = sym (ap meant h) ∙ e in let y : _≡_ {A = ℕ} 0 1 = cc in absurd (omega arith)
+      go false true f e g m h = let k = sym (ap meant h) ∙ e in let y : _≡_ {A = ℕ} 0 1 = cc in absurd (omega arith)
       go false false f e g m h =
           let l : length (tokenWords (v .done)) ≡ tokWide * n = words-length (v .done) ∙ ap (λ y. tokWide * y) (v .number) in
           let a : take (tokWide * n) out ≡ tokenWords (v .done) = ap (take (tokWide * n)) (v .written (ltb-false room n f)) ∙ take-at (tokenWords (v .done)) (drop (tokWide * n) o) (tokWide * n) l in
           let b : length out - tokWide * n ≡ length o - tokWide * length (v .done) = ap₂ (λ y z. y - tokWide * z) (v .long) (sym (v .number)) in
           g ∙ ap₂ (λ y z. y ++ replicate z 0) a b
-          ∙ sym (ap₂ (λ y z. content y (tokensOf z) (length o)) h (fill-over q))
+          ∙ sym (ap₂ (λ y z. content y (tokensOf z) (length o)) (ap meant h) (fill-over q))

@@ -8,7 +8,7 @@ use lib.Dec.{ltb}
 use lib.ListN.{getD, drop, set}
 use Rattle.text.specs.Widths.{tokWide}
 use Rattle.lexer.specs.Lexemes.{Token}
-use Rattle.lexer.specs.Limits.{content}
+use Rattle.lexer.specs.Limits.{meant, content}
 use Rattle.lexer.specs.declared.Lexed.{Lexed}
 use Rattle.lexer.specs.declared.Lexed.the-variants.{Tokens}
 
@@ -23,4 +23,4 @@ tokensIn (suc n) words = record { kind = getD words 0 0; start = getD words 1 0;
 
 -- unless they are refused, the tokens stand in the buffer with zeros behind them
 pub record Held (r : Lexed) (out : List ℕ) (ts : List Token) (size : ℕ) : Type 0 where
-  pub holds : (n : ℕ) → r ≡ Tokens n → out ≡ content r ts size
+  pub holds : (n : ℕ) → r ≡ Tokens n → out ≡ content (meant r) ts size

@@ -6,6 +6,7 @@ use mathlib.Core.Option.{Option, none, some}
 use Prim.Native.Nat.{ℕ, _+_, _-_, _*_, _/_, min}
 use lib.Dec.{eqb, ltb}
 use lib.ListN.{length, getD, replicate}
+use Rattle.text.specs.Answers.{Answer, accepted, refused}
 use Rattle.text.specs.Refusals as refusal
 use Rattle.text.specs.Widths.{tokWide}
 use Rattle.lexer.specs.Classes as t
@@ -64,21 +65,26 @@ room l size = min (l .tokens) (size / tokWide)
 abbrev pub noToken : Token
 noToken = record { kind = 0; start = 0; end = 0 }
 
-abbrev pub deep : Option ℕ → ℕ → Lexed
-deep none n = Tokens n
-deep (some p) n = Refused refusal.TooDeep p
+-- The paper's answer for each case of `Lexed`: there are no records yet.
+abbrev pub meant : Lexed → Answer
+meant (Tokens n) = accepted n 0
+meant (Refused c p) = refused c p
+
+abbrev pub deep : Option ℕ → ℕ → Answer
+deep none n = accepted n 0
+deep (some p) n = refused refusal.TooDeep p
 
 -- the refusals of the bytes, then too many tokens for the r that fit, then too deep
-abbrev pub judgedIn : ℕ → Lexemes → Lexed
-judgedIn r (refusedAt c p) = Refused c p
-judgedIn r (tokens ts) = cond (ltb r (length ts)) (Refused refusal.TooMany (getD ts r noToken .start)) (deep (tooDeep 0 0 ts) (length ts))
+abbrev pub judgedIn : ℕ → Lexemes → Answer
+judgedIn r (refusedAt c p) = refused c p
+judgedIn r (tokens ts) = cond (ltb r (length ts)) (refused refusal.TooMany (getD ts r noToken .start)) (deep (tooDeep 0 0 ts) (length ts))
 
-abbrev pub judged : Limits → ℕ → Lexemes → Lexed
+abbrev pub judged : Limits → ℕ → Lexemes → Answer
 judged l size = judgedIn (room l size)
 
 -- the answer for a draft and a token buffer of so many words
-unfoldable pub lexedOf : Limits → List ℕ → ℕ → Lexed
-lexedOf l draft size = cond (ltb (l .bytes) (length draft)) (Refused refusal.TooLong (l .bytes)) (judged l size (lexemes draft))
+unfoldable pub lexedOf : Limits → List ℕ → ℕ → Answer
+lexedOf l draft size = cond (ltb (l .bytes) (length draft)) (refused refusal.TooLong (l .bytes)) (judged l size (lexemes draft))
 
 -- "A token is three u32 words: kind .., start, end"
 unfoldable pub tokenWords : List Token → List ℕ
@@ -90,9 +96,9 @@ tokensOf (tokens ts) = ts
 tokensOf (refusedAt c p) = []
 
 -- what the buffer holds: the tokens and zeros behind them; on a refusal zeros alone
-abbrev pub content : Lexed → List Token → ℕ → List ℕ
-content (Tokens n) ts size = tokenWords ts ++ replicate (size - tokWide * length ts) 0
-content (Refused c p) ts size = replicate size 0
+abbrev pub content : Answer → List Token → ℕ → List ℕ
+content (accepted n m) ts size = tokenWords ts ++ replicate (size - tokWide * length ts) 0
+content (refused c p) ts size = replicate size 0
 
 unfoldable pub bufferOf : Limits → List ℕ → ℕ → List ℕ
 bufferOf l draft size = content (lexedOf l draft size) (tokensOf (lexemes draft)) size

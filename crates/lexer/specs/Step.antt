@@ -1,13 +1,45 @@
 -- The lexing step at a place of a draft, as the enum `Step`.
 -- Assumes nothing.
-use mathlib.Core.Bool.{cond}
+use mathlib.Core.Bool.{Bool, true, false, cond}
 use mathlib.Core.List.{List}
+use mathlib.Core.Path.{_≡_, refl, ap, _∙_}
 use Prim.Native.Nat.{ℕ, _+_, _-_}
 use lib.Dec.{ltb}
 use lib.ListN.{length, drop}
 use Rattle.lexer.specs.Lexemes.{Lexeme, token, trivia, refused, comment, lexeme}
 use Rattle.lexer.specs.declared.Step.{Step}
 use Rattle.lexer.specs.declared.Step.the-variants.{Token, Trivia, Refused, Nothing}
+
+-- "Each step of the reading answers either a next place or a refusal": the numbers of a step. Where there is no refusal its number and place are 0,
+-- and so are the kind where no token stands and the next place where there is none.
+pub record Values : Type 0 where
+  pub number : ℕ
+  pub place : ℕ
+  pub kind : ℕ
+  pub next : ℕ
+
+abbrev goesOn : ℕ → ℕ → Values
+goesOn k e = record { number = 0; place = 0; kind = k; next = e }
+
+abbrev stops : ℕ → ℕ → Values
+stops c p = record { number = c; place = p; kind = 0; next = 0 }
+
+-- those of each case of `Step`,
+abbrev pub values : Step → Values
+values (Token k e) = goesOn k e
+values (Trivia e) = goesOn 0 e
+values (Refused c p) = stops c p
+values Nothing = stops 0 0
+
+-- and those that the lexeme at place i has.
+abbrev pub valuesFrom : Lexeme → ℕ → Values
+valuesFrom (token k n) i = goesOn k (i + n)
+valuesFrom (trivia n) i = goesOn 0 (i + n)
+valuesFrom (refused c n) i = stops c (i + n)
+
+-- What a step at place i is to answer; there is nothing at the end of the draft and past it.
+unfoldable pub valuesAt : List ℕ → ℕ → Values
+valuesAt draft i = cond (ltb i (length draft)) (valuesFrom (lexeme (drop i draft)) i) (stops 0 0)
 
 -- the lexeme at place i
 abbrev pub stepFrom : Lexeme → ℕ → Step
@@ -26,3 +58,17 @@ commentAt draft i e = stepFrom (comment (e - i) (drop i draft)) i
 -- what stands at place i: nothing at the end of the draft and past it
 unfoldable pub stepOf : List ℕ → ℕ → Step
 stepOf draft i = cond (ltb i (length draft)) (lexemeAt draft i) Nothing
+
+values-from : (x : Lexeme) (i : ℕ) → values (stepFrom x i) ≡ valuesFrom x i
+values-from (token k n) i = refl
+values-from (trivia n) i = refl
+values-from (refused c n) i = refl
+
+-- Both say the same.
+pub values-at : (draft : List ℕ) (i : ℕ) {r : Step} → r ≡ stepOf draft i → values r ≡ valuesAt draft i
+unfolding stepOf valuesAt
+values-at draft i e = ap values e ∙ go (ltb i (length draft))
+  where
+    go : (b : Bool) → values (cond b (lexemeAt draft i) Nothing) ≡ cond b (valuesFrom (lexeme (drop i draft)) i) (stops 0 0)
+    go true = values-from (lexeme (drop i draft)) i
+    go false = refl

@@ -6,7 +6,7 @@ ghost use lib.ListN.{length};
 ghost use Rattle.text.specs.Part.{partOf};
 ghost use Rattle.lexer.specs.Classes as t;
 ghost use Rattle.lexer.specs.Class.{classOf};
-ghost use Rattle.lexer.specs.Limits.{draftLimits, lexedOf, bufferOf};
+ghost use Rattle.lexer.specs.Limits.{draftLimits, meant, lexedOf, bufferOf};
 use words::Found;
 use words::Table;
 
@@ -45,7 +45,7 @@ pub enum Lexed {
 
 // Writes the tokens of the draft, `TOKEN_WORDS` words each, and zeros behind them; on a refusal every word is 0.
 pub fn lex(draft: &[u8], out: &mut [u32]) -> Lexed
-    ensures { λ r. ⌜ r ≡ lexedOf draftLimits (now (draft .entry)) (length (now (out .entry))) ⌝ }
+    ensures { λ r. ⌜ meant r ≡ lexedOf draftLimits (now (draft .entry)) (length (now (out .entry))) ⌝ }
     ensures { λ r. ⌜ now (out .exit) ≡ bufferOf draftLimits (now (draft .entry)) (length (now (out .entry))) ⌝ }
 {
     limits::lex_within(draft, out, DRAFT_BYTES, DRAFT_TOKENS)

@@ -5,10 +5,11 @@ ghost use mathlib.Core.Path.{_≡_};
 ghost use Prim.Native.Nat.{_+_, _*_, _-_, _≤_, _<_, _^_, min};
 ghost use lib.Dec.{eqb, ltb};
 ghost use lib.ListN.{length, take, replicate};
+ghost use Rattle.text.specs.Answers.{accepted, refused};
 ghost use Rattle.text.specs.Refusals as refusal;
 ghost use Rattle.text.specs.Widths.{tokWide};
 ghost use Rattle.lexer.specs.Lexemes.{lexemes};
-ghost use Rattle.lexer.specs.Limits.{limitsOf, judgedIn, lexedOf, bufferOf, tokensOf};
+ghost use Rattle.lexer.specs.Limits.{limitsOf, meant, judgedIn, lexedOf, bufferOf, tokensOf};
 ghost use Rattle.lexer.specs.Buffer.{Held};
 ghost use Rattle.lexer.specs.Nesting.{isPast};
 use crate::Lexed;
@@ -37,8 +38,8 @@ fn first_over(n: usize, room: usize, start: usize, over: usize) -> usize
 // Too many tokens, then too deep; else zeros behind the n tokens.
 fn count(out: &mut [u32], room: usize, n: usize, over: usize, nest: Nest) -> Lexed
     requires { ⌜ tokWide * room ≤ length (now out) ⌝ }
-    ensures { λ r. ⌜ r ≡ cond (ltb room n) (Lexed.Refused refusal.TooMany over)
-        (cond (isPast nest) (Lexed.Refused refusal.TooDeep (nest .place)) (Lexed.Tokens n)) ⌝ }
+    ensures { λ r. ⌜ meant r ≡ cond (ltb room n) (refused refusal.TooMany over)
+        (cond (isPast nest) (refused refusal.TooDeep (nest .place)) (accepted n 0)) ⌝ }
     ensures { λ r. ⌜ now (out .exit) ≡ cond (ltb room n) (now (out .entry)) (cond (isPast nest) (now (out .entry))
         (take (tokWide * n) (now (out .entry)) ++ replicate (length (now (out .entry)) - tokWide * n) 0)) ⌝ }
 {
@@ -61,7 +62,7 @@ fn count(out: &mut [u32], room: usize, n: usize, over: usize, nest: Nest) -> Lex
 // Lexes the whole draft, in one pass: the refusals of the bytes, then too many tokens, then too deep. Tokens past the room are counted and not written.
 fn fill(draft: &[u8], out: &mut [u32], room: usize) -> Lexed
     requires { ⌜ (length (now draft) < 2 ^ 32) × (tokWide * room ≤ length (now out)) ⌝ }
-    ensures { λ r. ⌜ r ≡ judgedIn room (lexemes (now (draft .entry))) ⌝ }
+    ensures { λ r. ⌜ meant r ≡ judgedIn room (lexemes (now (draft .entry))) ⌝ }
     ensures { λ r. ⌜ Held r (now (out .exit)) (tokensOf (lexemes (now (draft .entry)))) (length (now (out .entry))) ⌝ }
 {
     let classes = class_table();
@@ -95,7 +96,7 @@ fn fill(draft: &[u8], out: &mut [u32], room: usize) -> Lexed
 // Writes the tokens of a draft of so many bytes and tokens at most, zeros behind them; on a refusal every word is 0.
 pub(crate) fn lex_within(draft: &[u8], out: &mut [u32], bytes: usize, tokens: usize) -> Lexed
     requires { ⌜ bytes < 2 ^ 32 ⌝ }
-    ensures { λ r. ⌜ r ≡ lexedOf (limitsOf bytes tokens) (now (draft .entry)) (length (now (out .entry))) ⌝ }
+    ensures { λ r. ⌜ meant r ≡ lexedOf (limitsOf bytes tokens) (now (draft .entry)) (length (now (out .entry))) ⌝ }
     ensures { λ r. ⌜ now (out .exit) ≡ bufferOf (limitsOf bytes tokens) (now (draft .entry)) (length (now (out .entry))) ⌝ }
 {
     if draft.len() > bytes {

@@ -4,4 +4,5 @@ pub mod Same
 pub mod Table
 pub mod Clear
 pub mod Widths
+pub mod Answers
 pub mod Refusals

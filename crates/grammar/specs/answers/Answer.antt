@@ -11,10 +11,9 @@ use Rattle.theory.specs.Ebnf.{Items}
 use Rattle.theory.specs.Parse.{Found, found, stuck}
 use Rattle.lexer.specs.Lexemes.{Token, lexemes}
 use Rattle.lexer.specs.Limits.{Limits, noToken, lexedOf, tokenWords, tokensOf}
-use Rattle.lexer.specs.declared.Lexed.{Lexed}
-use Rattle.lexer.specs.declared.Lexed.the-variants.{Tokens, Refused}
 use Rattle.own.specs.Tree.{Tok, Node, Rec}
 use Rattle.text.specs.Widths.{recWide}
+use Rattle.text.specs.Answers.{Answer, accepted, refused}
 use Rattle.text.specs.Refusals as refusal
 use Rattle.own.specs.Words.{recWords}
 use Rattle.kinds.specs.Words.{classOf}
@@ -23,23 +22,6 @@ use Rattle.grammar.specs.shapes.WellShaped.{shapeOf}
 use Rattle.grammar.specs.records.Records.{recordTrees}
 use Rattle.grammar.specs.records.Faults.{Fault, faultOf}
 use Rattle.grammar.specs.spelled.TreeTokens.{classesOf}
-
--- The answer: accepted, with the numbers of tokens and records; or refused, with the number of the refusal and its place.
-pub data Answer : Type 0 where
-  accepted : ℕ → ℕ → Answer
-  refused : ℕ → ℕ → Answer
-
--- What document 01 has the reader return: a number, 0 for an accepted draft, its place, and the numbers of tokens and records.
-pub record Returned : Type 0 where
-  pub number : ℕ
-  pub place : ℕ
-  pub tokens : ℕ
-  pub records : ℕ
-
--- This paper's number and values for each case. "A refusal: both numbers 0".
-unfoldable pub returned : Answer → Returned
-returned (accepted n m) = record { number = 0; place = 0; tokens = n; records = m }
-returned (refused c p) = record { number = c; place = p; tokens = 0; records = 0 }
 
 -- Tokens of a draft as its trees have them, with their classes.
 unfoldable pub toksOf : List ℕ → List Token → List Tok
@@ -74,9 +56,9 @@ shaped en draft ts (stuck k) = unread refusal.Misshapen (startOf draft ts k)
 shaped en draft ts (found r) = faulty (faultOf draft (toksOf draft ts) r) ts (recordsFor en draft ts r)
 
 -- The lexer's refusals, then these.
-abbrev pub lexed : Entry → Lexed → List ℕ → List Token → Reading
-lexed en (Refused c p) draft ts = unread c p
-lexed en (Tokens n) draft ts = shaped en draft ts (shapeOf en (classesOf (toksOf draft ts)))
+abbrev pub lexed : Entry → Answer → List ℕ → List Token → Reading
+lexed en (refused c p) draft ts = unread c p
+lexed en (accepted n m) draft ts = shaped en draft ts (shapeOf en (classesOf (toksOf draft ts)))
 
 -- The reading of a draft with a token buffer of so many words.
 unfoldable pub reading : Entry → Limits → List ℕ → ℕ → Reading

@@ -19,6 +19,7 @@ use Rattle.lexer.specs.Limits as lexer
 use Rattle.lexer.specs.Tokens.{lexeme-refused}
 use Rattle.own.specs.Tree.{Tok, Node, Rec, tokens}
 use Rattle.text.specs.Widths.{tokWide, recWide}
+use Rattle.text.specs.Answers.{Answer, accepted, refused}
 use Rattle.text.specs.Refusals.{oneOf}
 use Rattle.text.specs.Refusals as refusal
 use Rattle.own.specs.Words.{toks, recs, recWords, recs-words}
@@ -32,7 +33,7 @@ use Rattle.grammar.specs.spelled.TreeTokens.{classesOf, keeps-tokens}
 use Rattle.grammar.specs.records.Faults.{faultOf}
 use Rattle.grammar.specs.records.FaultNumbers.{fault-numbers}
 use Rattle.grammar.specs.spelled.RecordLaws.{is-right}
-use Rattle.grammar.specs.answers.Answer.{Answer, accepted, refused, toksOf, startOf, treesOf, recordsFor, read, reading, answer, content, tokensRead, recordsIn, tokenBuffer, recordsRead, treeBuffer}
+use Rattle.grammar.specs.answers.Answer.{toksOf, startOf, treesOf, recordsFor, read, reading, answer, content, tokensRead, recordsIn, tokenBuffer, recordsRead, treeBuffer}
 use Rattle.grammar.specs.answers.Outcome.{Within, Shaped, Refusal, too-long, no-lexeme, too-many, too-deep, misshapen, faulted, no-room, Accepted, refused-exactly, accepted-exactly, lexed-within, read-faultless}
 use Rattle.grammar.specs.answers.TokensInOrder.{tokens-in-order, toks-length, classes-length, token-words-length, record-words-length, tokens-read-back}
 

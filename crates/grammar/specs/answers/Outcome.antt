@@ -16,16 +16,15 @@ use Rattle.theory.specs.Ebnf.{Items, yield, FirstWrong}
 use Rattle.theory.specs.Parse.{Found, found, stuck}
 use Rattle.lexer.specs.Lexemes.{Token, Lexemes, tokens, refusedAt, lexemes}
 use Rattle.lexer.specs.Limits.{Limits, tooDeep, room, noToken, deep, judged, lexedOf, tokensOf}
-use Rattle.lexer.specs.declared.Lexed.{Lexed}
-use Rattle.lexer.specs.declared.Lexed.the-variants.{Tokens, Refused}
 use Rattle.text.specs.Widths.{tokWide, recWide}
+use Rattle.text.specs.Answers.{Answer, accepted, refused}
 use Rattle.text.specs.Refusals as refusal
 use Rattle.grammar.specs.shapes.Shapes.{shapes}
 use Rattle.grammar.specs.Entry.{Entry, startEx}
 use Rattle.grammar.specs.shapes.WellShaped.{Shape, shapeOf, shape-exactly, stuck-shape-exactly}
 use Rattle.grammar.specs.records.Faults.{Fault, faultOf}
 use Rattle.grammar.specs.spelled.TreeTokens.{classesOf}
-use Rattle.grammar.specs.answers.Answer.{Answer, accepted, refused, toksOf, startOf, recordsFor, Reading, unread, read, faulty, shaped, lexed, reading, fitted, answer}
+use Rattle.grammar.specs.answers.Answer.{toksOf, startOf, recordsFor, Reading, unread, read, faulty, shaped, lexed, reading, fitted, answer}
 
 -- The draft lexes to these tokens, within the limits: no refusal of the lexer's.
 pub record Within (l : Limits) (draft : List ℕ) (tw : ℕ) (ts : List Token) : Type 0 where
@@ -112,7 +111,7 @@ module _ (en : Entry) (l : Limits) (draft : List ℕ) (tw rw : ℕ) where
   says-judged (tokens ts) short e = go (ltb (room l tw) (length ts)) refl
     where
       go : (b : Bool) → ltb (room l tw) (length ts) ≡ b
-          → Outcome (fitted rw (lexed en (cond b (Refused refusal.TooMany (getD ts (room l tw) noToken .start)) (deep (tooDeep 0 0 ts) (length ts))) draft ts))
+          → Outcome (fitted rw (lexed en (cond b (refused refusal.TooMany (getD ts (room l tw) noToken .start)) (deep (tooDeep 0 0 ts) (length ts))) draft ts))
       go true q = too-many short e (ltb-true _ _ q)
       go false q = says-deep ts short e (ltb-false _ _ q) (tooDeep 0 0 ts) refl
 
@@ -122,12 +121,12 @@ module _ (en : Entry) (l : Limits) (draft : List ℕ) (tw rw : ℕ) where
   says = go (ltb (l .bytes) (length draft)) refl
     where
       go : (b : Bool) → ltb (l .bytes) (length draft) ≡ b
-          → Outcome (fitted rw (lexed en (cond b (Refused refusal.TooLong (l .bytes)) (judged l tw (lexemes draft))) draft (tokensOf (lexemes draft))))
+          → Outcome (fitted rw (lexed en (cond b (refused refusal.TooLong (l .bytes)) (judged l tw (lexemes draft))) draft (tokensOf (lexemes draft))))
       go true q = too-long (ltb-true _ _ q)
       go false q = says-judged (lexemes draft) (ltb-false _ _ q) refl
 
   -- the lexer's answer decides
-  read-lexed : (x : Lexed) → lexedOf l draft tw ≡ x → reading en l draft tw ≡ lexed en x draft (tokensOf (lexemes draft))
+  read-lexed : (x : Answer) → lexedOf l draft tw ≡ x → reading en l draft tw ≡ lexed en x draft (tokensOf (lexemes draft))
   unfolding reading
   read-lexed x e = ap (λ y. lexed en y draft (tokensOf (lexemes draft))) e
 
@@ -135,24 +134,24 @@ module _ (en : Entry) (l : Limits) (draft : List ℕ) (tw rw : ℕ) where
   unfolding lexedOf
   whole h = simp (le-ltb _ _ h)
 
-  first : l .bytes < length draft → lexedOf l draft tw ≡ Refused refusal.TooLong (l .bytes)
+  first : l .bytes < length draft → lexedOf l draft tw ≡ refused refusal.TooLong (l .bytes)
   unfolding lexedOf
   first h = simp (lt-ltb _ _ h)
 
   counted : (ts : List Token) → length draft ≤ l .bytes → lexemes draft ≡ tokens ts → length ts ≤ room l tw → lexedOf l draft tw ≡ deep (tooDeep 0 0 ts) (length ts)
   counted ts h e k =
       whole h ∙ ap (judged l tw) e
-      ∙ ap (λ b. cond b (Refused refusal.TooMany (getD ts (room l tw) noToken .start)) (deep (tooDeep 0 0 ts) (length ts))) (le-ltb (room l tw) (length ts) k)
+      ∙ ap (λ b. cond b (refused refusal.TooMany (getD ts (room l tw) noToken .start)) (deep (tooDeep 0 0 ts) (length ts))) (le-ltb (room l tw) (length ts) k)
 
   -- Within the limits the lexer has no refusal;
-  pub lexed-within : (ts : List Token) → Within l draft tw ts → lexedOf l draft tw ≡ Tokens (length ts)
+  pub lexed-within : (ts : List Token) → Within l draft tw ts → lexedOf l draft tw ≡ accepted (length ts) 0
   unfolding room
   lexed-within ts w = counted ts (w .short) (w .lexes) (omega (arith, w .few, w .third)) ∙ ap (λ o. deep o (length ts)) (w .shallow)
 
   -- the shapes decide,
   pub read-within : (ts : List Token) → Within l draft tw ts → reading en l draft tw ≡ shaped en draft ts (shapeOf en (classesOf (toksOf draft ts)))
   read-within ts w =
-      read-lexed (Tokens (length ts)) (lexed-within ts w)
+      read-lexed (accepted (length ts) 0) (lexed-within ts w)
       ∙ ap (λ x. shaped en draft (tokensOf x) (shapeOf en (classesOf (toksOf draft (tokensOf x))))) (w .lexes)
 
   -- and then the refusals of the shapes.
@@ -169,15 +168,15 @@ module _ (en : Entry) (l : Limits) (draft : List ℕ) (tw rw : ℕ) where
   by-reading x e = ap (fitted rw) e
 
   refused-only : {c p : ℕ} → Refusal en l draft tw rw c p → answer en l draft tw rw ≡ refused c p
-  refused-only (too-long h) = by-reading (unread refusal.TooLong (l .bytes)) (read-lexed (Refused refusal.TooLong (l .bytes)) (first h))
-  refused-only (no-lexeme {c = c} {p = p} h e) = by-reading (unread c p) (read-lexed (Refused c p) (whole h ∙ ap (judged l tw) e))
+  refused-only (too-long h) = by-reading (unread refusal.TooLong (l .bytes)) (read-lexed (refused refusal.TooLong (l .bytes)) (first h))
+  refused-only (no-lexeme {c = c} {p = p} h e) = by-reading (unread c p) (read-lexed (refused c p) (whole h ∙ ap (judged l tw) e))
   refused-only (too-many {ts = ts} h e k) =
       by-reading (unread refusal.TooMany (getD ts (room l tw) noToken .start))
-      (read-lexed (Refused refusal.TooMany (getD ts (room l tw) noToken .start))
+      (read-lexed (refused refusal.TooMany (getD ts (room l tw) noToken .start))
       (whole h ∙ ap (judged l tw) e
-      ∙ ap (λ b. cond b (Refused refusal.TooMany (getD ts (room l tw) noToken .start)) (deep (tooDeep 0 0 ts) (length ts))) (lt-ltb (room l tw) (length ts) k)))
+      ∙ ap (λ b. cond b (refused refusal.TooMany (getD ts (room l tw) noToken .start)) (deep (tooDeep 0 0 ts) (length ts))) (lt-ltb (room l tw) (length ts) k)))
   refused-only (too-deep {ts = ts} {p = p} h e k q) =
-      by-reading (unread refusal.TooDeep p) (read-lexed (Refused refusal.TooDeep p) (counted ts h e k ∙ ap (λ o. deep o (length ts)) q))
+      by-reading (unread refusal.TooDeep p) (read-lexed (refused refusal.TooDeep p) (counted ts h e k ∙ ap (λ o. deep o (length ts)) q))
   refused-only (misshapen {ts = ts} {k = k} w f) =
       by-reading (unread refusal.Misshapen (startOf draft ts k)) (read-within ts w ∙ ap (shaped en draft ts) (stuck-shape-exactly en (classesOf (toksOf draft ts)) k .1 f))
   refused-only (faulted {ts = ts} {r = r} {f = f} s e) =

@@ -9,6 +9,7 @@ use native.Mathlib.Omega.{arith}
 use borrow.Author.Tests.{ltb-true}
 use lib.Dec.{eqb, ltb}
 use lib.ListN.{length, getD, drop}
+use Rattle.text.specs.Answers.{refused}
 use Rattle.text.specs.Refusals as refusal
 use Rattle.num.specs.Bound.{boundOk, sizeOk}
 use Rattle.theory.specs.Ebnf as shape
@@ -26,7 +27,7 @@ use Rattle.grammar.specs.records.Records.{sees, opening, firstTok, first
 use Rattle.grammar.specs.records.Faults.{Fault, unless, armLows, armsFault, faultsAt, faults, faultOf}
 use Rattle.grammar.specs.records.FaultNumbers.{both, chosen, of-answered}
 use Rattle.grammar.specs.Entry.{Entry}
-use Rattle.grammar.specs.answers.Answer.{refused, toksOf, startOf, answer}
+use Rattle.grammar.specs.answers.Answer.{toksOf, startOf, answer}
 use Rattle.grammar.specs.answers.Outcome.{Refusal, too-long, no-lexeme, too-many, too-deep, misshapen, faulted, no-room, refused-exactly}
 
 -- a token of the list starts before the place m

@@ -5,6 +5,7 @@ use Prim.Native.Nat.{ℕ, _*_}
 use Prim.Native.String.{String}
 use lib.ListN.{length, getD}
 use Rattle.own.specs.Flat.{blank}
+use Rattle.text.specs.Answers.{Answer, accepted, refused}
 use Rattle.text.specs.Widths.{tokWide, recWide}
 use Rattle.text.specs.Ascii.{ascii, asciiFrom}
 use Rattle.text.specs.Part.{partOf}
@@ -37,7 +38,7 @@ use Rattle.grammar.specs.records.Records.{textOf, firstTok, firstOf, dec
 use Rattle.grammar.specs.records.Faults.{unless, armLows, mates, armsFault, faultsAt, faults, earlier, earliest, faultOf}
 use Rattle.grammar.specs.spelled.TreeTokens.{classesOf}
 use Rattle.own.specs.Tree.{partner, canonical, turned, Rec}
-use Rattle.grammar.specs.answers.Answer.{Answer, accepted, refused, returned, toksOf, startOf, reading, answer, tokenBuffer, recordsRead, treeBuffer}
+use Rattle.grammar.specs.answers.Answer.{toksOf, startOf, reading, answer, tokenBuffer, recordsRead, treeBuffer}
 use Rattle.lines.specs.Hex.{upperHex, hex}
 use Rattle.lines.specs.Form.{lineOf}
 use Rattle.lines.specs.Lines.{linesOf}
@@ -82,7 +83,7 @@ unfolding ascii asciiFrom partOf same FUNCTION_RESERVED KEYWORDS MACROS MODULE_R
     count span counted classOf shapes table means shapeOf lowHalf highHalf reads sees opening nameCount partCount lone unended placeIn builtinType
     unsignedType boolType typeName patternName literalHead functionHead callHead wrapperHead calledHead aloneHead nameHead armHead headOf forms
     formOf roleOf placed arranged textOf firstTok firstOf decimal headFor recorded recordItems recordTrees unless armLows mates armsFault
-    faultsAt faults earlier earliest faultOf classesOf toksOf startOf reading answer recordsRead returned upperHex hex lineOf refusalRec linesOf listing
+    faultsAt faults earlier earliest faultOf classesOf toksOf startOf reading answer recordsRead upperHex hex lineOf refusalRec linesOf listing
     tokenWords tokenBuffer treeBuffer
 defined k =
     let en = k .entry in

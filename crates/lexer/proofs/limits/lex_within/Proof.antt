@@ -3,6 +3,8 @@
 use native.Mathlib.Omega.{arith}
 use mathlib.Core.Path.{refl, sym, _∙_, ap}
 use lib.ListN.{replicate}
+use Rattle.lexer.specs.Limits.{meant}
+use Rattle.lexer.specs.declared.Lexed.the-variants.{Refused}
 use Rattle.lexer.proofs.Order.{too-long, not-too-long, buffer-refused, buffer-held}
 use borrow.Author.Needs.{needs}
 use Rattle.lexer.proofs.limits.lex_within.Statement.{statement}
@@ -17,7 +19,7 @@ same-length c = c .before .before .clear .kept .0
 returns : tie.Need-returns
 returns c =
     let e = too-long _ _ _ _ (c .before .before .before .before .if1 .taken) in
-    (e, c .before .before .clear .ensures ∙ buffer-refused _ _ _ _ e refl)
+    (e, c .before .before .clear .ensures ∙ buffer-refused _ _ _ _ {r = Refused _ _} e refl)
 
 least-requires : tie.Need-least-requires
 least-requires c κs = search needs
@@ -48,7 +50,7 @@ same-length-3 c = c .before .before .before .before .before .fill .kept .1 .0
 returns-3 : tie.Need-returns-3
 returns-3 c =
     let e = c .before .before .before .before .before .fill .ensures .0 ∙ not-too-long _ _ _ _ (c .before .before .before .before .before .before .before .before .if1 .left) _ (c .before .before .before .before .before .before .before .least .ensures) in
-    (sym (c .before .r .given .1) ∙ e, buffer-held _ _ _ _ _ e (c .before .r .given .1) (c .before .before .before .before .before .fill .ensures .1))
+    (sym (ap meant (c .before .r .given .1)) ∙ e, buffer-held _ _ _ _ _ e (c .before .r .given .1) (c .before .before .before .before .before .fill .ensures .1))
 
 pub lex-within-spec : {M : Type 1} → statement M
 lex-within-spec =
