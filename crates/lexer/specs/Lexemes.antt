@@ -21,7 +21,7 @@ pub data Lexeme : Type 0 where
   trivia : ℕ → Lexeme
   refused : ℕ → ℕ → Lexeme
 
--- "Tried in order": the first trial, and where it finds nothing what the others find
+-- what a trial finds, and where it finds nothing what the others find
 infixr 20 _orElse_
 abbrev pub _orElse_ : Option Lexeme → Lexeme → Lexeme
 some x orElse y = x
@@ -155,17 +155,18 @@ mark (m ∷ ms) r = cond (begins (ascii (m .text)) r) (some (token (m .kind) (le
 unfoldable pub noLexeme : ℕ → Lexeme
 noLexeme b = cond (ltb 127 b) (refused refusal.NotAscii 0) (refused refusal.NoLexeme 0)
 
+-- "Tried in order: trivia; `jet::`, `witness::` or `param::` with a name, no gap; `assert! panic! dbg! list!`; `0x` digits; `0b` digits; decimal;
+-- a word; a mark, the longer first."
+abbrev pub trials : List (List ℕ → Option Lexeme)
+trials = space ∷ lineComment ∷ blockComment ∷ qualified ∷ macro ∷ hexadecimal ∷ binary ∷ decimal ∷ word ∷ mark marks ∷ []
+
+-- what the first trial that finds something finds, and y where none does
+abbrev pub firstOf : List (List ℕ → Option Lexeme) → List ℕ → Lexeme → Lexeme
+firstOf [] r y = y
+firstOf (f ∷ fs) r y = f r orElse firstOf fs r y
+
 unfoldable pub lexeme : List ℕ → Lexeme
-lexeme r =
-    space r orElse lineComment r orElse blockComment r orElse
-    qualified r orElse
-    macro r orElse
-    hexadecimal r orElse
-    binary r orElse
-    decimal r orElse
-    word r orElse
-    mark marks r orElse
-    noLexeme (first r)
+lexeme r = firstOf trials r (noLexeme (first r))
 
 -- a token by its kind, its start and the byte after it
 pub record Token : Type 0 where

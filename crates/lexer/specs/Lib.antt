@@ -1,5 +1,7 @@
 pub mod Chars
 pub mod Lexemes
+pub mod Rows
+pub mod Trials
 pub mod Moves
 pub mod Tokens
 pub mod Bytes

@@ -19,40 +19,14 @@ use Rattle.words.specs.declared.Found.{Found}
 use Rattle.words.specs.declared.Found.the-variants.{Word, Plain}
 use Rattle.lexer.specs.Classes as t
 use Rattle.lexer.specs.Chars.{Range, among, whitespace, lineEnds, plainBytes, binaryDigits, decimalDigits, hexDigits, underscore, nameStarts, nameBytes, first, run, begins}
-use Rattle.lexer.specs.Lexemes.{Lexeme, token, trivia, refused, _orElse_, space, comment, lineComment, Inside, closed, within, inside, more, onward, closing, block, blockComment, nameLength, isName, moduleToken, qualified, macroToken, macro, wordToken, word, digits, hexadecimal, binary, decimal, Mark, marks, mark, noLexeme, lexeme}
+use Rattle.lexer.specs.Lexemes.{Lexeme, token, trivia, refused, space, comment, lineComment, Inside, closed, within, inside, more, onward, closing, block, blockComment, nameLength, isName, moduleToken, qualified, macroToken, macro, wordToken, word, digits, hexadecimal, binary, decimal, Mark, marks, mark, noLexeme, trials, lexeme}
+use Rattle.lexer.specs.Trials.{Finds, cond-if, try-if, both-left, both-right, first-finds}
 
 -- what is found in m bytes goes on, and stays inside; or it is a refusal of the bytes' family at one of the bytes
 abbrev pub Moves : ℕ → Lexeme → Type 0
 Moves m (token k n) = (1 ≤ n) × (n ≤ m)
 Moves m (trivia n) = (1 ≤ n) × (n ≤ m)
 Moves m (refused c n) = T (oneOf refusal.ofBytes c) × (n < m)
-
--- the same of a trial, which may find nothing
-abbrev pub Tries : ℕ → Option Lexeme → Type 0
-Tries m none = Unit {0}
-Tries m (some x) = Moves m x
-
--- what holds of both values holds of the one that the test chooses
-pub cond-if : {A : Type 0} (P : A → Type 0) (b : Bool) {x y : A} → (b ≡ true → P x) → (b ≡ false → P y) → P (cond b x y)
-cond-if P true f g = f refl
-cond-if P false f g = g refl
-
--- a trial that finds nothing if its test fails
-try-if : (m : ℕ) (b : Bool) (x : Option Lexeme) → (b ≡ true → Tries m x) → Tries m (cond b x none)
-try-if m true x f = f refl
-try-if m false x f = tt
-
-or-else : (m : ℕ) (o : Option Lexeme) (x : Lexeme) → Tries m o → Moves m x → Moves m (o orElse x)
-or-else m none x t v = v
-or-else m (some y) x t v = t
-
-both-left : (a b : Bool) → (a && b) ≡ true → a ≡ true
-both-left true b e = refl
-both-left false b e = differ e
-
-both-right : (a b : Bool) → (a && b) ≡ true → b ≡ true
-both-right true b e = e
-both-right false b e = differ e
 
 -- ---- runs and beginnings
 
@@ -108,7 +82,7 @@ comment-moves n r h k =
     (λ e. let d = eqb-false (run (among plainBytes) (take n r)) n e in (tt, omega arith))
 
 -- the end of a comment stays inside
-abbrev Ends : ℕ → Option ℕ → Type 0
+abbrev pub Ends : ℕ → Option ℕ → Type 0
 Ends m none = Unit {0}
 Ends m (some n) = n ≤ m
 
@@ -126,10 +100,10 @@ closing-ends (b ∷ r) d p = go (inside d p b) (closing-ends r)
     go (within d p) ih = more-ends (length r) (closing r d p) (ih d p)
 
 module _ (r : List ℕ) where
-  line-moves : Tries (length r) (lineComment r)
+  line-moves : Finds (Moves (length r)) (lineComment r)
   unfolding lineComment ascii asciiFrom
   line-moves =
-      try-if (length r) (begins (ascii "//") r) _
+      try-if (Moves (length r)) (begins (ascii "//") r) _
       (λ t. let h = begins-le (ascii "//") r t in
       comment-moves (2 + run (λ b. not (among lineEnds b)) (drop 2 r)) r (omega arith) (run-behind (λ b. not (among lineEnds b)) 2 r h))
 
@@ -137,37 +111,37 @@ module _ (r : List ℕ) where
   block-moves none h e = (tt, omega arith)
   block-moves (some n) h e = comment-moves (2 + n) r (omega arith) (omega (arith, length-drop 2 r))
 
-  blockComment-moves : Tries (length r) (blockComment r)
+  blockComment-moves : Finds (Moves (length r)) (blockComment r)
   unfolding blockComment ascii asciiFrom
   blockComment-moves =
-      try-if (length r) (begins (ascii "/*") r) _
+      try-if (Moves (length r)) (begins (ascii "/*") r) _
       (λ t. block-moves (closing (drop 2 r) 0 0) (begins-le (ascii "/*") r t) (closing-ends (drop 2 r) 0 0))
 
   -- ---- names and words
 
-  module-moves : (f : Found) (n : ℕ) → 1 ≤ n → n ≤ length r → Tries (length r) (moduleToken f n)
+  module-moves : (f : Found) (n : ℕ) → 1 ≤ n → n ≤ length r → Finds (Moves (length r)) (moduleToken f n)
   module-moves (Word k) n h l = (h, l)
   module-moves Plain n h l = tt
 
-  qualified-moves : Tries (length r) (qualified r)
+  qualified-moves : Finds (Moves (length r)) (qualified r)
   unfolding qualified nameLength ascii asciiFrom
   qualified-moves =
       let n = nameLength r in
       let name = drop (n + 2) r in
-      try-if (length r) (isName r && begins (ascii "::") (drop n r) && isName name) _
+      try-if (Moves (length r)) (isName r && begins (ascii "::") (drop n r) && isName name) _
       (λ t. let h = begins-behind (ascii "::") n r (omega arith) (both-right (isName r) (begins (ascii "::") (drop n r)) (both-left (isName r && begins (ascii "::") (drop n r)) (isName name) t)) in
       let l = run-behind (among nameBytes) (n + 2) r h in
       module-moves (wordOf MODULE_RESERVED (take n r)) (n + 2 + nameLength name) (omega arith) l)
 
-  macro-found : (f : Found) (n : ℕ) → 1 ≤ n → n ≤ length r → Tries (length r) (macroToken f n)
+  macro-found : (f : Found) (n : ℕ) → 1 ≤ n → n ≤ length r → Finds (Moves (length r)) (macroToken f n)
   macro-found (Word k) n h l = (h, l)
   macro-found Plain n h l = tt
 
-  macro-moves : Tries (length r) (macro r)
+  macro-moves : Finds (Moves (length r)) (macro r)
   unfolding macro ascii asciiFrom
   macro-moves =
       let n = nameLength r + 1 in
-      try-if (length r) (isName r && begins (ascii "!") (drop (nameLength r) r)) _
+      try-if (Moves (length r)) (isName r && begins (ascii "!") (drop (nameLength r) r)) _
       (λ t. let h = begins-behind (ascii "!") (nameLength r) r (omega arith) (both-right (isName r) (begins (ascii "!") (drop (nameLength r) r)) t) in
       macro-found (wordOf MACROS (take n r)) n (omega arith) h)
 
@@ -179,19 +153,19 @@ module _ (r : List ℕ) where
 
   -- ---- digits
 
-  digits-moves : (base : List Range) (kind n : ℕ) → 1 ≤ n → n ≤ length r → Tries (length r) (digits base kind n r)
+  digits-moves : (base : List Range) (kind n : ℕ) → 1 ≤ n → n ≤ length r → Finds (Moves (length r)) (digits base kind n r)
   unfolding digits
   digits-moves base kind n h l =
-      try-if (length r) (among base (first (drop n r))) _
+      try-if (Moves (length r)) (among base (first (drop n r))) _
       (λ _. let g = run-behind (λ b. among base b || among underscore b) n r l in (omega arith, g))
 
-  hexadecimal-moves : Tries (length r) (hexadecimal r)
+  hexadecimal-moves : Finds (Moves (length r)) (hexadecimal r)
   unfolding hexadecimal ascii asciiFrom
-  hexadecimal-moves = try-if (length r) (begins (ascii "0x") r) _ (λ e. digits-moves hexDigits t.HexLiteral 2 (omega arith) (begins-le (ascii "0x") r e))
+  hexadecimal-moves = try-if (Moves (length r)) (begins (ascii "0x") r) _ (λ e. digits-moves hexDigits t.HexLiteral 2 (omega arith) (begins-le (ascii "0x") r e))
 
-  binary-moves : Tries (length r) (binary r)
+  binary-moves : Finds (Moves (length r)) (binary r)
   unfolding binary ascii asciiFrom
-  binary-moves = try-if (length r) (begins (ascii "0b") r) _ (λ e. digits-moves binaryDigits t.BinLiteral 2 (omega arith) (begins-le (ascii "0b") r e))
+  binary-moves = try-if (Moves (length r)) (begins (ascii "0b") r) _ (λ e. digits-moves binaryDigits t.BinLiteral 2 (omega arith) (begins-le (ascii "0b") r e))
 
   -- ---- marks
 
@@ -200,11 +174,11 @@ module _ (r : List ℕ) where
   full [] = true
   full (m ∷ ms) = ltb 0 (length (ascii (m .text))) && full ms
 
-  mark-moves : (ms : List Mark) → full ms ≡ true → Tries (length r) (mark ms r)
+  mark-moves : (ms : List Mark) → full ms ≡ true → Finds (Moves (length r)) (mark ms r)
   unfolding mark
   mark-moves [] e = tt
   mark-moves (m ∷ ms) e =
-      cond-if (Tries (length r)) (begins (ascii (m .text)) r)
+      cond-if (Finds (Moves (length r))) (begins (ascii (m .text)) r)
       (λ t. (ltb-true 0 (length (ascii (m .text))) (both-left (ltb 0 (length (ascii (m .text)))) (full ms) e), begins-le (ascii (m .text)) r t))
       (λ _. mark-moves ms (both-right (ltb 0 (length (ascii (m .text)))) (full ms) e))
 
@@ -219,23 +193,23 @@ module _ (r : List ℕ) where
 -- ---- the trials that look at the first byte
 
 module _ (b : ℕ) (r : List ℕ) where
-  space-moves : Tries (length (b ∷ r)) (space (b ∷ r))
+  space-moves : Finds (Moves (length (b ∷ r))) (space (b ∷ r))
   unfolding space
-  space-moves = try-if (suc (length r)) (among whitespace b) _ (λ t. (run-first (among whitespace) b r t, run-le (among whitespace) (b ∷ r)))
+  space-moves = try-if (Moves (suc (length r))) (among whitespace b) _ (λ t. (run-first (among whitespace) b r t, run-le (among whitespace) (b ∷ r)))
 
-  decimal-moves : Tries (length (b ∷ r)) (decimal (b ∷ r))
+  decimal-moves : Finds (Moves (length (b ∷ r))) (decimal (b ∷ r))
   unfolding decimal digits
   decimal-moves =
       let q : ℕ → Bool = λ x. among decimalDigits x || among underscore x in
-      try-if (suc (length r)) (among decimalDigits b) _
+      try-if (Moves (suc (length r))) (among decimalDigits b) _
       (λ t. let h = run-first q b r (or-left (among decimalDigits b) (among underscore b) t) in
       let l = run-le q (b ∷ r) in
       (omega arith, omega arith))
 
-  word-moves : Tries (length (b ∷ r)) (word (b ∷ r))
+  word-moves : Finds (Moves (length (b ∷ r))) (word (b ∷ r))
   unfolding word nameLength nameBytes
   word-moves =
-      try-if (suc (length r)) (among nameStarts b) _
+      try-if (Moves (suc (length r))) (among nameStarts b) _
       (λ t. word-found (b ∷ r) (wordOf KEYWORDS (take (nameLength (b ∷ r)) (b ∷ r))) (nameLength (b ∷ r)) (run-first (among nameBytes) b r (among-append nameStarts decimalDigits b t)) (run-le (among nameBytes) (b ∷ r)))
 
   -- the lexeme at the front of a text goes on, and stays inside
@@ -243,15 +217,20 @@ module _ (b : ℕ) (r : List ℕ) where
   unfolding lexeme
   lexeme-moves =
       let s = b ∷ r in
-      let m = length s in
-      or-else m (space s) _ space-moves
-      (or-else m (lineComment s) _ (line-moves s)
-      (or-else m (blockComment s) _ (blockComment-moves s)
-      (or-else m (qualified s) _ (qualified-moves s)
-      (or-else m (macro s) _ (macro-moves s)
-      (or-else m (hexadecimal s) _ (hexadecimal-moves s)
-      (or-else m (binary s) _ (binary-moves s)
-      (or-else m (decimal s) _ decimal-moves
-      (or-else m (word s) _ word-moves
-      (or-else m (mark marks s) _ (mark-moves s marks (marks-full s))
-      (none-moves s b (omega arith)))))))))))
+      first-finds (Moves (length s)) trials s (noLexeme b) (
+        space-moves,
+        (
+          line-moves s,
+          (
+            blockComment-moves s,
+            (
+              qualified-moves s,
+              (
+                macro-moves s,
+                (hexadecimal-moves s, (binary-moves s, (decimal-moves, (word-moves, (mark-moves s marks (marks-full s), tt))))),
+              ),
+            ),
+          ),
+        ),
+      )
+      (λ _. none-moves s b (omega arith))
