@@ -13,6 +13,7 @@ use Rattle.text.specs.Same.{same, differ}
 use Rattle.text.specs.Table.{every, at, table-at, all, each, first-of, second-of}
 use Rattle.lexer.specs.Chars.{Range, among, whitespace, lineEnds, plainBytes, binaryDigits, decimalDigits, hexDigits, underscore, nameStarts, nameBytes, is}
 use Rattle.lexer.specs.Lexemes.{marks}
+use Rattle.lexer.specs.Plain.{over-among}
 use Rattle.lexer.specs.Bytes.{markClass, byteClass, inClasses, ClassTable}
 use Rattle.lexer.specs.Bytes as byte
 
@@ -90,18 +91,6 @@ over-class b h = simp (lt-leb b 127 h, and-false)
 over-classes : (least most b : ℕ) → most ≤ byte.LineEnd → 127 < b → inClasses least most b ≡ false
 unfolding inClasses
 over-classes least most b h l = simp (over-class b l, lt-leb byte.NotAscii most (omega arith), and-false)
-
--- and in no set whose ranges end at 127 or before
-abbrev pub low : List Range → Bool
-low [] = true
-low (s ∷ ss) = leb (s .most) 127 && low ss
-
-pub over-among : (ss : List Range) → T (low ss) → (b : ℕ) → 127 < b → among ss b ≡ false
-unfolding among
-over-among [] t b h = refl
-over-among (s ∷ ss) t b h =
-    let m = leb→le (s .most) 127 (first-of (leb (s .most) 127) (low ss) t) in
-    simp (lt-leb b (s .most) (omega arith), and-false, over-among ss (second-of (leb (s .most) 127) (low ss) t) b h)
 
 -- two tests that agree up to 127, and that no byte over 127 passes
 by-half : (p q : ℕ → Bool) (b : ℕ) → (b ≤ 127 → p b ≡ q b) → (127 < b → p b ≡ false) → (127 < b → q b ≡ false) → p b ≡ q b

@@ -22,10 +22,11 @@ use Rattle.lexer.specs.Classes as t
 use Rattle.lexer.specs.Chars.{Range, among, whitespace, plainBytes, binaryDigits, decimalDigits, hexDigits, underscore, nameStarts, is, first, run, begins}
 use Rattle.lexer.specs.Lexemes.{Lexeme, token, trivia, refused, _orElse_, Mark, space, lineComment, blockComment, qualified, macro, digits, hexadecimal, binary, decimal, word, marks, mark, noLexeme, lexeme}
 use Rattle.lexer.specs.Places.{Based, decimalAt}
+use Rattle.lexer.specs.Plain.{over-among}
 use Rattle.lexer.specs.Step.{stepFrom, lexemeAt}
 use Rattle.lexer.specs.declared.Step.{Step}
 use Rattle.lexer.specs.declared.Step.the-variants.{Token, Trivia, Refused}
-use Rattle.lexer.proofs.ByteClasses.{class-in, class-above, space-classes, plain-classes, decimal-run, hex-classes, hex-run, binary-classes, binary-run, over-among, low, digit-apart, notDigit, each-fails}
+use Rattle.lexer.proofs.ByteClasses.{class-in, class-above, space-classes, plain-classes, decimal-run, hex-classes, hex-run, binary-classes, binary-run, digit-apart, notDigit, each-fails}
 use Rattle.lexer.proofs.Rest.{rest-first, rest-cons, rest-drop, begins-one}
 use Rattle.lexer.proofs.Runs.{run-same}
 

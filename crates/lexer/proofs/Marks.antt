@@ -24,7 +24,7 @@ use Rattle.lexer.specs.Places.{Based, decimalAt}
 use Rattle.lexer.specs.Step.{stepFrom, lexemeAt}
 use Rattle.lexer.specs.declared.Step.{Step}
 use Rattle.lexer.specs.declared.Step.the-variants.{Token, Trivia, Refused}
-use Rattle.lexer.proofs.ByteClasses.{class-in, class-below, class-above, space-classes, over-class, over-among, low, digit-apart, mark-apart, notDigit, notMark, each-fails}
+use Rattle.lexer.proofs.ByteClasses.{class-in, class-below, class-above, space-classes, over-class, digit-apart, mark-apart, notDigit, notMark, each-fails}
 use Rattle.lexer.proofs.Rest.{rest-first, rest-cons, rest-drop, begins-one}
 use Rattle.lexer.proofs.Runs.{run-same}
 

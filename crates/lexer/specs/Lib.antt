@@ -3,6 +3,8 @@ pub mod Lexemes
 pub mod Rows
 pub mod Trials
 pub mod Moves
+pub mod Plain
+pub mod Faults
 pub mod Tokens
 pub mod Bytes
 pub mod Step

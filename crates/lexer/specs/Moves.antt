@@ -20,7 +20,7 @@ use Rattle.words.specs.declared.Found.the-variants.{Word, Plain}
 use Rattle.lexer.specs.Classes as t
 use Rattle.lexer.specs.Chars.{Range, among, whitespace, lineEnds, plainBytes, binaryDigits, decimalDigits, hexDigits, underscore, nameStarts, nameBytes, first, run, begins}
 use Rattle.lexer.specs.Lexemes.{Lexeme, token, trivia, refused, space, comment, lineComment, Inside, closed, within, inside, more, onward, closing, block, blockComment, nameLength, isName, moduleToken, qualified, macroToken, macro, wordToken, word, digits, hexadecimal, binary, decimal, Mark, marks, mark, noLexeme, trials, lexeme}
-use Rattle.lexer.specs.Trials.{Finds, cond-if, try-if, both-left, both-right, first-finds}
+use Rattle.lexer.specs.Trials.{Finds, nil, _&_, cond-if, try-if, both-left, both-right, first-finds}
 
 -- what is found in m bytes goes on, and stays inside; or it is a refusal of the bytes' family at one of the bytes
 abbrev pub Moves : ℕ → Lexeme → Type 0
@@ -217,20 +217,6 @@ module _ (b : ℕ) (r : List ℕ) where
   unfolding lexeme
   lexeme-moves =
       let s = b ∷ r in
-      first-finds (Moves (length s)) trials s (noLexeme b) (
-        space-moves,
-        (
-          line-moves s,
-          (
-            blockComment-moves s,
-            (
-              qualified-moves s,
-              (
-                macro-moves s,
-                (hexadecimal-moves s, (binary-moves s, (decimal-moves, (word-moves, (mark-moves s marks (marks-full s), tt))))),
-              ),
-            ),
-          ),
-        ),
-      )
+      first-finds (Moves (length s)) trials s (noLexeme b)
+      (space-moves & line-moves s & blockComment-moves s & qualified-moves s & macro-moves s & hexadecimal-moves s & binary-moves s & decimal-moves & word-moves & mark-moves s marks (marks-full s) & nil)
       (λ _. none-moves s b (omega arith))

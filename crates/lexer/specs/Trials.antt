@@ -14,10 +14,11 @@ abbrev pub Finds : (Lexeme → Type 0) → Option Lexeme → Type 0
 Finds P none = Unit {0}
 Finds P (some x) = P x
 
--- and so with every trial
-abbrev pub AllFind : (Lexeme → Type 0) → List (List ℕ → Option Lexeme) → List ℕ → Type 0
-AllFind P [] r = Unit {0}
-AllFind P (f ∷ fs) r = Finds P (f r) × AllFind P fs r
+-- and so with each of the trials
+infixr 60 _&_
+pub data AllFind (P : Lexeme → Type 0) (r : List ℕ) : List (List ℕ → Option Lexeme) → Type 0 where
+  nil : AllFind P r []
+  _&_ : {f : List ℕ → Option Lexeme} {fs : List (List ℕ → Option Lexeme)} → Finds P (f r) → AllFind P r fs → AllFind P r (f ∷ fs)
 
 -- what holds of both values holds of the one that the test chooses
 pub cond-if : {A : Type 0} (P : A → Type 0) (b : Bool) {x y : A} → (b ≡ true → P x) → (b ≡ false → P y) → P (cond b x y)
@@ -38,9 +39,9 @@ both-right true b e = e
 both-right false b e = differ e
 
 -- What holds of all that is found, and of y where nothing is, holds of the first that is found.
-pub first-finds : (P : Lexeme → Type 0) (fs : List (List ℕ → Option Lexeme)) (r : List ℕ) (y : Lexeme) → AllFind P fs r → (NoneFinds fs r → P y) → P (firstOf fs r y)
-first-finds P [] r y a k = k tt
-first-finds P (f ∷ fs) r y a k = go (f r) refl (a .0) (first-finds P fs r y (a .1))
+pub first-finds : (P : Lexeme → Type 0) (fs : List (List ℕ → Option Lexeme)) (r : List ℕ) (y : Lexeme) → AllFind P r fs → (NoneFinds fs r → P y) → P (firstOf fs r y)
+first-finds P [] r y nil k = k tt
+first-finds P (f ∷ fs) r y (a & later) k = go (f r) refl a (first-finds P fs r y later)
   where
     go : (o : Option Lexeme) → f r ≡ o → Finds P o → ((NoneFinds fs r → P y) → P (firstOf fs r y)) → P (o orElse firstOf fs r y)
     go none e t rest = rest (λ n. k (e, n))
