@@ -4,17 +4,14 @@ use mathlib.Core.Bool.{Bool, true, false, _&&_, and-true}
 use mathlib.Core.List.{List, [], _∷_}
 use mathlib.Core.Path.{_≡_, refl, sym, _∙_, ap}
 use Prim.Native.Nat.{ℕ, zero, suc, _+_, _-_, _≤_, _<_}
-use native.Mathlib.Nat.{add-zero}
 use native.Mathlib.Omega.{arith}
 use borrow.Author.Tests.{le-leb, leb-true, leb-false}
 use lib.Dec.{eqb, leb, eqb·zero-suc}
 use lib.ListN.{length, getD, take, drop, List·getD-eq-default}
-use lib.Seq.{drop-cons, getD-drop, drop-drop, take-nil}
+use lib.Seq.{drop-cons, drop-drop, take-nil}
 use Rattle.text.specs.Part.{partOf}
 use Rattle.lexer.specs.Chars.{first, begins}
-
-pub rest-first : (s : List ℕ) (i : ℕ) → first (drop i s) ≡ getD s i 0
-rest-first s i = getD-drop i s 0 0 ∙ ap (λ n. getD s n 0) (add-zero i)
+pub use Rattle.lexer.specs.Moves.{rest-first}
 
 pub rest-cons : (s : List ℕ) (i b : ℕ) → i < length s → getD s i 0 ≡ b → drop i s ≡ b ∷ drop (suc i) s
 rest-cons s i b h e = drop-cons s i 0 h ∙ ap (λ x. x ∷ drop (suc i) s) e

@@ -1,13 +1,13 @@
 -- The bytes of each token and of accepted trivia are up to 127, and a refusal of the lexeme at a place is that of one of rows 2 to 5 there, with no
 -- byte over 127 before it.
 -- Assumes nothing.
-use mathlib.Core.Bool.{Bool, true, false, cond, _&&_, _||_, not}
-use mathlib.Core.List.{List, [], _∷_, _++_}
+use mathlib.Core.Bool.{Bool, true, false, _&&_, _||_, not}
+use mathlib.Core.List.{List, [], _∷_}
 use mathlib.Core.Option.{Option, none, some}
 use mathlib.Core.Path.{_≡_, refl, sym, _∙_, ap, subst}
-use Prim.Native.Nat.{ℕ, zero, suc, _+_, _≤_, _<_}
+use Prim.Native.Nat.{ℕ, _+_, _-_, _≤_, _<_}
 use native.Mathlib.Omega.{arith}
-use borrow.Author.Tests.{ltb-true, ltb-false, eqb-true, eqb-false, le-leb, leb-true, leb-false}
+use borrow.Author.Tests.{ltb-true, ltb-false, eqb-true, eqb-false, le-leb, leb-false}
 use lib.Dec.{T, eqb, ltb, leb}
 use lib.ListN.{length, getD, take, drop, length-drop}
 use lib.Seq.{length-take-le, getD-take}
@@ -23,7 +23,7 @@ use Rattle.lexer.specs.Classes as t
 use Rattle.lexer.specs.Chars.{Range, among, whitespace, lineEnds, plainBytes, binaryDigits, decimalDigits, hexDigits, underscore, nameStarts, nameBytes, first, run, begins}
 use Rattle.lexer.specs.Lexemes.{Lexeme, token, trivia, refused, space, comment, lineComment, closing, block, blockComment, nameLength, isName, moduleToken, qualified, macroToken, macro, wordToken, word, digits, hexadecimal, binary, decimal, Mark, marks, mark, noLexeme, trials, lexeme}
 use Rattle.lexer.specs.Moves.{run-le, run-behind, begins-le, Ends, closing-ends}
-use Rattle.lexer.specs.Plain.{low, low-among, Low, run-passes, run-stops, run-plain, lowWord, begins-plain, plain-then}
+use Rattle.lexer.specs.Plain.{low, low-among, Low, run-stops, run-plain, lowWord, begins-plain, plain-then}
 use Rattle.lexer.specs.Plain as plain
 use Rattle.lexer.specs.Rows.{NoneFinds}
 use Rattle.lexer.specs.Trials.{Finds, nil, _&_, cond-if, try-if, both-left, both-right, first-finds}
@@ -149,7 +149,7 @@ module _ (r : List ℕ) where
   simc-is : (p : List ℕ) (k : ℕ) → Says KEYWORDS p (Word k) → t.Pub + k ≡ t.Simc → p ≡ ascii "simc"
   unfolding KEYWORDS
   simc-is p k s e =
-      let z : k ≡ 11 = omega arith in
+      let z : k ≡ t.Simc - t.Pub = omega arith in
       sym (s .1) ∙ ap (λ n. getD KEYWORDS n []) z
 
   word-found : (f : Found) → isName r ≡ true → Says KEYWORDS (take (nameLength r) r) f → Tells r (wordToken f (nameLength r))

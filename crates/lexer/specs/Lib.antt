@@ -5,6 +5,8 @@ pub mod Trials
 pub mod Moves
 pub mod Plain
 pub mod Faults
+pub mod Stops
+pub mod RowLaws
 pub mod Tokens
 pub mod Bytes
 pub mod Step

@@ -1,15 +1,16 @@
 -- Each lexeme at a place of a draft has at least one byte and stays inside the draft, or it is a refusal of the bytes' family at a byte of it.
 -- Assumes nothing.
-use mathlib.Core.Bool.{Bool, true, false, cond, _&&_, _||_, not}
+use mathlib.Core.Bool.{Bool, true, false, _&&_, _||_, not}
 use mathlib.Core.List.{List, [], _∷_, _++_}
 use mathlib.Core.Option.{Option, none, some}
-use mathlib.Core.Path.{_≡_, refl}
+use mathlib.Core.Path.{_≡_, refl, _∙_, ap}
 use Prim.Native.Nat.{ℕ, suc, _+_, _-_, _≤_, _<_}
+use native.Mathlib.Nat.{add-zero}
 use native.Mathlib.Omega.{arith}
 use borrow.Author.Tests.{ltb-true, eqb-false}
 use lib.Dec.{T, eqb, ltb, leb}
-use lib.ListN.{length, take, drop, length-drop}
-use lib.Seq.{length-take-le}
+use lib.ListN.{length, getD, take, drop, length-drop}
+use lib.Seq.{length-take-le, getD-drop}
 use Rattle.text.specs.Ascii.{ascii, asciiFrom}
 use Rattle.text.specs.Refusals.{oneOf}
 use Rattle.text.specs.Refusals as refusal
@@ -29,6 +30,10 @@ Moves m (trivia n) = (1 ≤ n) × (n ≤ m)
 Moves m (refused c n) = T (oneOf refusal.ofBytes c) × (n < m)
 
 -- ---- runs and beginnings
+
+-- the byte at a place is the first of the rest
+pub rest-first : (s : List ℕ) (i : ℕ) → first (drop i s) ≡ getD s i 0
+rest-first s i = getD-drop i s 0 0 ∙ ap (λ n. getD s n 0) (add-zero i)
 
 pub run-le : (p : ℕ → Bool) (r : List ℕ) → run p r ≤ length r
 unfolding run

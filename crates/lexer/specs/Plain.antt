@@ -1,6 +1,6 @@
 -- The bytes up to 127: the sets of Chars.antt have no others, nor have runs of those, nor words of the rules at the front of a text.
 -- Assumes nothing.
-use mathlib.Core.Bool.{Bool, true, false, _&&_, _||_, and-false}
+use mathlib.Core.Bool.{Bool, true, false, _&&_, and-false}
 use mathlib.Core.List.{List, [], _∷_}
 use mathlib.Core.Path.{_≡_, refl, sym, _∙_, ap, subst}
 use Prim.Native.Nat.{ℕ, zero, suc, _+_, _-_, _≤_, _<_}
@@ -11,7 +11,7 @@ use lib.ListN.{length, getD, drop}
 use lib.Seq.{getD-drop}
 use Rattle.text.specs.Same.{differ}
 use Rattle.text.specs.Table.{first-of, second-of}
-use Rattle.lexer.specs.Chars.{Range, among, underscore, run, begins}
+use Rattle.lexer.specs.Chars.{Range, among, run, begins}
 use Rattle.lexer.specs.Trials.{both-left, both-right}
 
 -- the first n bytes of a text are up to 127
