@@ -11,19 +11,19 @@ use lib.ListN.{length, replicate}
 use Rattle.lexer.specs.Lexemes.{Token}
 use Rattle.lexer.specs.Buffer.{tokensIn}
 use Rattle.text.specs.Widths.{tokWide, recWide}
+use Rattle.text.specs.Answers.{Answer, accepted, refused}
 use Rattle.text.specs.Refusals as refusal
 use Rattle.own.specs.Words.{recWords}
 use Rattle.grammar.specs.Entry.{Entry}
 use Rattle.grammar.specs.shapes.WellShaped.{shapeOf}
 use Rattle.grammar.specs.spelled.TreeTokens.{classesOf}
-use Rattle.grammar.specs.answers.Answer as reader
 use Rattle.grammar.specs.answers.Answer.{toksOf, startOf, Reading, shaped, fitted, content, recordsIn}
 use Rattle.parse.specs.Contract.{Text, kept, Stands}
 use Rattle.parse.specs.declared.State.{State}
 use Rattle.parse.specs.declared.Step as steps
 use Rattle.parse.specs.declared.Step.the-variants as step
-use Rattle.parse.specs.declared.Answer.{Answer}
-use Rattle.parse.specs.declared.Answer.the-variants.{Records, Refused, TooMany}
+use Rattle.parse.specs.declared.Answer as code
+use Rattle.parse.specs.declared.Answer.the-variants.{Records, Refused}
 
 -- More tokens than there may be, or than the token buffer of so many words holds.
 unfoldable pub tooMany : ℕ → ℕ → ℕ → Bool
@@ -33,14 +33,20 @@ tooMany most n tw = ltb most n || ltb tw (tokWide * n)
 unfoldable pub readingOf : Entry → List ℕ → List Token → Reading
 readingOf en draft ts = shaped en draft ts (shapeOf en (classesOf (toksOf draft ts)))
 
--- The reader's answer as that of the code.
-abbrev pub answered : reader.Answer → Answer
-answered (reader.accepted n m) = Records m
-answered (reader.refused c p) = Refused c p
+-- The paper's answer for each case of the code's, over n tokens,
+abbrev pub meant : ℕ → code.Answer → Answer
+meant n (Records m) = accepted n m
+meant n (Refused c p) = refused c p
 
--- The answer for a draft, its n tokens in these words, and a tree buffer of rw words.
+-- and back.
+abbrev pub answered : Answer → code.Answer
+answered (accepted n m) = Records m
+answered (refused c p) = Refused c p
+
+-- The answer for a draft, its n tokens in these words, and a tree buffer of rw words. Too many tokens are refusal 6; its place is left to the lexer,
+-- which knows the first token too many, and is 0 here.
 unfoldable pub answerOf : Entry → ℕ → List ℕ → List ℕ → ℕ → ℕ → Answer
-answerOf en most draft words n rw = cond (tooMany most n (length words)) TooMany (answered (fitted rw (readingOf en draft (tokensIn n words))))
+answerOf en most draft words n rw = cond (tooMany most n (length words)) (refused refusal.TooMany 0) (fitted rw (readingOf en draft (tokensIn n words)))
 
 -- Every word of the tree buffer: six words a record and zeros behind them; otherwise zeros alone.
 unfoldable pub treeOf : Entry → ℕ → List ℕ → List ℕ → ℕ → ℕ → List ℕ
@@ -56,12 +62,12 @@ pub record Starts (x : Text) (st : State) : Type 0 where
   pub kept-is : kept st ≡ none
 
 -- What the last state says: a token left over is refusal 8; then those of the shapes, then 15.
-unfoldable pub ended : List ℕ → List ℕ → ℕ → ℕ → State → Answer
+unfoldable pub ended : List ℕ → List ℕ → ℕ → ℕ → State → code.Answer
 ended draft words n rw z =
     cond (ltb (z .at) n) (Refused refusal.Misshapen (startOf draft (tokensIn n words) (z .at)))
     (cond (eqb (z .fault) 0) (cond (ltb rw (recWide * z .out)) (Refused refusal.NoRoom 0) (Records (z .out))) (Refused (z .fault) (z .place)))
 
 -- What the step of the whole function says.
-abbrev pub judged : List ℕ → List ℕ → ℕ → ℕ → steps.Step → Answer
+abbrev pub judged : List ℕ → List ℕ → ℕ → ℕ → steps.Step → code.Answer
 judged draft words n rw (step.Next z a b) = ended draft words n rw z
 judged draft words n rw (step.Refused p) = Refused refusal.Misshapen (startOf draft (tokensIn n words) p)

@@ -7,7 +7,7 @@ ghost use Rattle.lexer.specs.Buffer.{tokensIn};
 ghost use Rattle.grammar.specs.Entry.{oneFunction};
 ghost use Rattle.grammar.specs.answers.Answer.{startOf};
 ghost use Rattle.parse.specs.Contract.{text, countable};
-ghost use Rattle.parse.specs.Entry.{tooMany, Starts, ended, judged, answerOf, treeOf};
+ghost use Rattle.parse.specs.Entry.{tooMany, Starts, ended, judged, answered, answerOf, treeOf};
 use crate::Answer;
 use crate::State;
 use crate::Step;
@@ -106,12 +106,15 @@ pub(crate) fn parse_within(
     most: usize,
 ) -> Answer
     requires { ⌜ most ≤ countable ⌝ }
-    ensures { λ r. ⌜ r ≡ answerOf oneFunction most (now (draft .entry)) (now (tokens .entry)) count (length (now (tree .entry))) ⌝ }
+    ensures { λ r. ⌜ r ≡ answered (answerOf oneFunction most (now (draft .entry)) (now (tokens .entry)) count (length (now (tree .entry)))) ⌝ }
     ensures { λ _. ⌜ now (tree .exit) ≡ treeOf oneFunction most (now (draft .entry)) (now (tokens .entry)) count (length (now (tree .entry))) ⌝ }
 {
     text::clear(tree);
     if too_many(most, count, tokens.len()) {
-        return Answer::TooMany;
+        return Answer::Refused {
+            number: refusal::TOO_MANY,
+            place: 0,
+        };
     }
     let st = start(draft, tokens, count);
     let step = program::function(draft, tokens, count, tree, st);

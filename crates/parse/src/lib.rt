@@ -3,7 +3,7 @@ ghost use mathlib.Core.Path.{_≡_};
 ghost use lib.ListN.{length};
 ghost use Rattle.lexer.specs.Limits.{draftLimits};
 ghost use Rattle.grammar.specs.Entry.{oneFunction};
-ghost use Rattle.parse.specs.Entry.{answerOf, treeOf};
+ghost use Rattle.parse.specs.Entry.{meant, answerOf, treeOf};
 
 mod arms;
 mod choice;
@@ -20,7 +20,7 @@ mod types;
 
 // Where the parser stands: the number of the next token with its class, start and end; the end of the token before it; how many records
 // there are so far; and the earliest refusal of a shape, its number (0 for none) and place.
-pub struct State {
+struct State {
     at: usize,
     class: u32,
     start: u32,
@@ -32,22 +32,21 @@ pub struct State {
 }
 
 // What a step of the parser answers: the next state, with two numbers that some steps have besides; or the token where it is stuck.
-pub enum Step {
+enum Step {
     Next(State, u32, u32),
     Refused(usize),
 }
 
-// What is handed over: so many records; or a refusal by its number, at a place; or that there are too many tokens.
+// What is handed over: so many records; or a refusal by its number, at a place.
 pub enum Answer {
     Records(usize),
     Refused { number: u32, place: usize },
-    TooMany,
 }
 
 // Writes the records of a draft with so many tokens, `RECORD_WORDS` words each, and zeros behind them; on a refusal every word is 0.
 pub fn parse(draft: &[u8], tokens: &[u32], count: usize, tree: &mut [u32]) -> Answer
-    ensures { λ r. ⌜ r ≡ answerOf oneFunction (draftLimits .tokens) (now (draft .entry)) (now (tokens .entry)) count (length (now (tree .entry))) ⌝ }
-    ensures { λ _. ⌜ now (tree .exit) ≡ treeOf oneFunction (draftLimits .tokens) (now (draft .entry)) (now (tokens .entry)) count (length (now (tree .entry))) ⌝ }
+    ensures answer { λ r. ⌜ meant count r ≡ answerOf oneFunction (draftLimits .tokens) (now (draft .entry)) (now (tokens .entry)) count (length (now (tree .entry))) ⌝ }
+    ensures tree { λ _. ⌜ now (tree .exit) ≡ treeOf oneFunction (draftLimits .tokens) (now (draft .entry)) (now (tokens .entry)) count (length (now (tree .entry))) ⌝ }
 {
     entry::parse_within(draft, tokens, count, tree, lexer::DRAFT_TOKENS)
 }

@@ -10,8 +10,6 @@ use borrow.Author.Tests.{eq-eqb, ne-eqb, lt-ltb, le-ltb, ltb-true, ltb-false}
 use lib.Dec.{eqb, ltb}
 use lib.ListN.{length, drop, getD, replicate, length-replicate}
 use lib.Seq.{sets, sets-eq}
-use types.Run.{OneOf, miss}
-use denote.Enum.Declared.{tagOf}
 use Rattle.text.specs.Same.{differ}
 use Rattle.lexer.specs.Lexemes.{Token}
 use Rattle.lexer.specs.Buffer.{tokensIn}
@@ -22,6 +20,7 @@ use Rattle.theory.specs.Parse.{Found, found, stuck}
 use Rattle.own.specs.Tree.{Tok, Items, Node, Rec, roots, records, concat}
 use Rattle.own.specs.Flat.{no-token}
 use Rattle.text.specs.Widths.{tokWide, recWide}
+use Rattle.text.specs.Answers as paper
 use Rattle.text.specs.Refusals as refusal
 use Rattle.own.specs.Words.{toks, wordGroups, recWords, words-are}
 use Rattle.kinds.specs.Words.{classOf}
@@ -31,22 +30,20 @@ use Rattle.grammar.specs.shapes.WellShaped.{shapeOf, reads-shape, reads-too-few
 use Rattle.grammar.specs.spelled.TreeTokens.{classesOf, length-classes, whole-trees, is-shape}
 use Rattle.grammar.specs.records.Records.{recordItems}
 use Rattle.grammar.specs.records.Faults.{Fault, faults, earliest, faultOf}
-use Rattle.grammar.specs.answers.Answer as reader
-use Rattle.grammar.specs.answers.Answer.{toksOf, startOf, treesOf, Reading, unread, read, faulty, shaped, fitted, content, recordsIn}
-use Rattle.parse.proofs.Answer.{the-type}
+use Rattle.grammar.specs.answers.Answer.{toksOf, startOf, treesOf, recordsFor, Reading, unread, read, faulty, shaped, fitted, content, recordsIn}
 use Rattle.parse.specs.Contract as contract
 use Rattle.parse.specs.Contract.{Text, text, countable, classes, tokAt, Read, Stuck, raw, faultIn, sooner, kept, fault, Ready, asItems, Went, Parsed, Gives}
 use Rattle.parse.specs.Infos.{FunctionKind}
-use Rattle.parse.specs.Entry.{tooMany, readingOf, answered, answerOf, treeOf, Starts, ended, judged}
+use Rattle.parse.specs.Entry.{tooMany, readingOf, meant, answered, answerOf, treeOf, Starts, ended, judged}
 use Rattle.parse.specs.declared.State.{State}
 use Rattle.parse.specs.declared.Step.{Step}
 use Rattle.parse.specs.declared.Answer.{Answer}
-use Rattle.parse.specs.declared.Answer.the-variants.{Records, Refused, TooMany}
+use Rattle.parse.specs.declared.Answer.the-variants.{Records, Refused}
 use Rattle.parse.proofs.rule.Lists.{length-words}
 use Rattle.parse.proofs.rule.Amid.{class-at}
 use Rattle.parse.proofs.token.Tokens.{length-toks}
 
--- Tokens as the code reads them are those of the reader.
+-- Tokens as the code reads them are those of the paper.
 pub toks-of : (draft : List ℕ) (n : ℕ) (w : List ℕ) → toksOf draft (tokensIn n w) ≡ toks (classOf draft) n w
 unfolding toksOf tokensIn
 toks-of draft zero w = refl
@@ -147,7 +144,6 @@ starts-ready s h = record { stands = s .stands; short = h; few = omega (arith, s
 abbrev taken : Answer → Bool
 taken (Records m) = true
 taken (Refused c p) = false
-taken TooMany = false
 
 module _ (draft words′ : List ℕ) (n : ℕ) (h : tokWide * n ≤ length words′) where
   abbrev x : Text
@@ -263,17 +259,17 @@ module _ (draft words′ : List ℕ) (n : ℕ) (h : tokWide * n ≤ length words
           all-read : its ≡ read ts (records ns)
           all-read = reading-faulty none (its-kept true f)
 
-          fitted-is : (b : Bool) → ltb k (recWide * z .out) ≡ b → fitted k its ≡ cond b (reader.refused refusal.NoRoom 0) (reader.accepted (length ts) (z .out))
+          fitted-is : (b : Bool) → ltb k (recWide * z .out) ≡ b → fitted k its ≡ cond b (paper.refused refusal.NoRoom 0) (paper.accepted (length ts) (z .out))
           fitted-is b g =
-              ap (fitted k) all-read ∙ ap (λ (m : ℕ). cond (ltb k (recWide * m)) (reader.refused refusal.NoRoom 0) (reader.accepted (length ts) m)) its-count
-              ∙ ap (λ (b : Bool). cond b (reader.refused refusal.NoRoom 0) (reader.accepted (length ts) (z .out))) g
+              ap (fitted k) all-read ∙ ap (λ (m : ℕ). cond (ltb k (recWide * m)) (paper.refused refusal.NoRoom 0) (paper.accepted (length ts) m)) its-count
+              ∙ ap (λ (b : Bool). cond b (paper.refused refusal.NoRoom 0) (paper.accepted (length ts) (z .out))) g
 
           says-read : (b : Bool) → ltb k (recWide * z .out) ≡ b → Says oneFunction k l′ (cond b (Refused refusal.NoRoom 0) (Records (z .out)))
           says-read true g = (ap answered (fitted-is true g), λ m q. absurd (differ (ap taken q)))
           says-read false g = (
             ap answered (fitted-is false g),
             λ m q. its-fit (ltb-false k (recWide * z .out) g)
-                ∙ sym (ap₂ (λ (c : reader.Answer) (q : Reading). content c (recWords (recordsIn q)) k) (fitted-is false g) all-read),
+                ∙ sym (ap₂ (λ (c : paper.Answer) (q : Reading). content c (recWords (recordsIn q)) k) (fitted-is false g) all-read),
           )
 
       its-end : ltb (z .at) n ≡ false → z .at ≡ n
@@ -293,9 +289,9 @@ module _ (draft words′ : List ℕ) (n : ℕ) (h : tokWide * n ≤ length words
 
     module _ (most : ℕ) (few : tooMany most n (length words′) ≡ false) {l l′ : List ℕ} {p : Step} (zeros : l ≡ replicate k 0) (v : Parsed x (nt n-function ∷ []) asItems (contract.Node FunctionKind) st l l′ p) {a : Answer}
         (e : a ≡ judged draft words′ n k p) where
-      pub said-answer : a ≡ answerOf oneFunction most draft words′ n k
+      pub said-answer : a ≡ answered (answerOf oneFunction most draft words′ n k)
       unfolding answerOf
-      said-answer = e ∙ sym (says zeros v .0) ∙ sym (ap (λ (b : Bool). cond b TooMany (answered (fitted k its))) few)
+      said-answer = e ∙ sym (says zeros v .0) ∙ sym (ap (λ (b : Bool). answered (cond b (paper.refused refusal.TooMany 0) (fitted k its))) few)
 
       tree-is : content (fitted k its) (recWords (recordsIn its)) k ≡ treeOf oneFunction most draft words′ n k
       unfolding treeOf
@@ -304,23 +300,47 @@ module _ (draft words′ : List ℕ) (n : ℕ) (h : tokWide * n ≤ length words
       pub said-tree : {m : ℕ} → a ≡ Records m → l′ ≡ treeOf oneFunction most draft words′ n k
       said-tree {m} q = says zeros v .1 m (sym e ∙ q) ∙ tree-is
 
-      no-records : (c : reader.Answer) (ws : List ℕ) → answered c ≡ a → OneOf (1 ∷ 2 ∷ []) (tagOf the-type a) → content c ws k ≡ replicate k 0
-      no-records (reader.accepted i m) ws q o = absurd (outside (subst (λ (b : Answer). OneOf (1 ∷ 2 ∷ []) (tagOf the-type b)) (sym q) o))
-        where
-          outside : OneOf (1 ∷ 2 ∷ []) (tagOf the-type (Records m)) → ⊥
-          outside o = miss (1 ∷ 2 ∷ []) (tagOf the-type (Records m)) tt o
-      no-records (reader.refused i m) ws q o = refl
+      no-records : (c : paper.Answer) (ws : List ℕ) {d p : ℕ} → answered c ≡ Refused d p → content c ws k ≡ replicate k 0
+      no-records (paper.accepted i m) ws q = absurd (differ (sym (ap taken q)))
+      no-records (paper.refused i m) ws q = refl
 
-      pub said-zeros : OneOf (1 ∷ 2 ∷ []) (tagOf the-type a) → replicate k 0 ≡ treeOf oneFunction most draft words′ n k
-      said-zeros o = sym (no-records (fitted k its) (recWords (recordsIn its)) (says zeros v .0 ∙ sym e) o) ∙ tree-is
+      pub said-zeros : {d p : ℕ} → a ≡ Refused d p → replicate k 0 ≡ treeOf oneFunction most draft words′ n k
+      said-zeros q = sym (no-records (fitted k its) (recWords (recordsIn its)) (says zeros v .0 ∙ sym e ∙ q)) ∙ tree-is
 
 -- Too many tokens.
-pub too-many-answer : (en : Entry) (most : ℕ) (draft words′ : List ℕ) (n k : ℕ) → tooMany most n (length words′) ≡ true → TooMany ≡ answerOf en most draft words′ n k
+pub too-many-answer : (en : Entry) (most : ℕ) (draft words′ : List ℕ) (n k : ℕ) → tooMany most n (length words′) ≡ true → Refused refusal.TooMany 0 ≡ answered (answerOf en most draft words′ n k)
 unfolding answerOf
-too-many-answer en most draft words′ n k e = sym (ap (λ (b : Bool). cond b TooMany (answered (fitted k (readingOf en draft (tokensIn n words′))))) e)
+too-many-answer en most draft words′ n k e = sym (ap (λ (b : Bool). answered (cond b (paper.refused refusal.TooMany 0) (fitted k (readingOf en draft (tokensIn n words′))))) e)
 
 pub too-many-tree : (en : Entry) (most : ℕ) (draft words′ : List ℕ) (n k : ℕ) → tooMany most n (length words′) ≡ true → replicate k 0 ≡ treeOf en most draft words′ n k
 unfolding treeOf
 too-many-tree en most draft words′ n k e =
     let r = readingOf en draft (tokensIn n words′) in
     sym (ap (λ (b : Bool). cond b (replicate k 0) (content (fitted k r) (recWords (recordsIn r)) k)) e)
+
+-- What the code's answer means is the paper's, whose tokens are the n that were handed in.
+shaped-count : (en : Entry) (draft : List ℕ) (ts : List Token) (rw′ : ℕ) (f : Found) → meant (length ts) (answered (fitted rw′ (shaped en draft ts f))) ≡ fitted rw′ (shaped en draft ts f)
+shaped-count en draft ts rw′ (stuck p) = refl
+shaped-count en draft ts rw′ (found r) = go (faultOf draft (toksOf draft ts) r) (recordsFor en draft ts r)
+  where
+    held : (m : ℕ) (b : Bool) → meant (length ts) (answered (cond b (paper.refused refusal.NoRoom 0) (paper.accepted (length ts) m))) ≡ cond b (paper.refused refusal.NoRoom 0) (paper.accepted (length ts) m)
+    held m true = refl
+    held m false = refl
+
+    go : (o : Option Fault) (rs : List Rec) → meant (length ts) (answered (fitted rw′ (faulty o ts rs))) ≡ fitted rw′ (faulty o ts rs)
+    go none rs = held (length rs) (ltb rw′ (recWide * length rs))
+    go (some f) rs = refl
+
+pub means : (en : Entry) (most : ℕ) (draft words′ : List ℕ) (n k : ℕ) {a : Answer} → a ≡ answered (answerOf en most draft words′ n k) → meant n a ≡ answerOf en most draft words′ n k
+unfolding answerOf readingOf
+means en most draft words′ n k e = ap (meant n) e ∙ go (tooMany most n (length words′))
+  where
+    ts : List Token
+    ts = tokensIn n words′
+
+    its : paper.Answer
+    its = fitted k (shaped en draft ts (shapeOf en (classesOf (toksOf draft ts))))
+
+    go : (b : Bool) → meant n (answered (cond b (paper.refused refusal.TooMany 0) its)) ≡ cond b (paper.refused refusal.TooMany 0) its
+    go true = refl
+    go false = subst (λ (m : ℕ). meant m (answered its) ≡ its) (length-in n words′) (shaped-count en draft ts k (shapeOf en (classesOf (toksOf draft ts))))

@@ -11,7 +11,7 @@ use Rattle.grammar.specs.Entry.{oneFunction}
 use Rattle.parse.specs.Contract.{text}
 use Rattle.parse.specs.Entry.{ended, judged}
 use Rattle.parse.proofs.entry.Laws as law
-use Rattle.parse.specs.declared.Answer.the-variants.{Records, Refused, TooMany}
+use Rattle.parse.specs.declared.Answer.the-variants.{Records, Refused}
 use Rattle.parse.proofs.token.Tokens.{length-text}
 use Rattle.parse.proofs.entry.parse_within.Statement.{statement}
 use Rattle.parse.proofs.entry.parse_within.Tie as tie
@@ -72,33 +72,41 @@ enum-known-answer : tie.Need-enum-known-answer
 enum-known-answer c =
     search needs
 
+enum-told : tie.Need-enum-told
+enum-told c =
+    search needs
+
 clear-requires-2 : tie.Need-clear-requires-2
 clear-requires-2 c κs =
     search needs
 
 same-length-2 : tie.Need-same-length-2
 same-length-2 c =
-    c .before .before .clear2 .kept .0 ∙ c .before .before .before .before .before .before .before .before .function .kept .1 .1 .1 .0 ∙ c .before .before .before .before .before .before .before .before .before .before .before .before .before .before .before .clear .kept .0
+    c .before .before .clear2 .kept .0 ∙ c .before .before .before .before .before .before .before .before .before .function .kept .1 .1 .1 .0 ∙ c .before .before .before .before .before .before .before .before .before .before .before .before .before .before .before .before .clear .kept .0
 
 returns-2 : tie.Need-returns-2
 returns-2 c =
-    let few = sym (c .before .before .before .before .before .before .before .before .before .before .before .before .too-many .ensures) ∙ c .before .before .before .before .before .before .before .before .before .before .before .if1 .left in
-    let h = law.few-tokens (c .before .before .before .before .before .before .before .before .before .before .before .before .before .before .before .before .before .before .before .before .args .most)
-    (c .before .before .before .before .before .before .before .before .before .before .before .before .before .before .before .before .before .before .before .before .args .count) (length (c .before .before .before .before .before .before .before .before .before .before .before .before .before .before .before .before .before .before .before .before .args .tokens .now)) few in
-    let len = c .before .before .before .before .before .before .before .before .function .kept .1 .1 .1 .0 ∙ c .before .before .before .before .before .before .before .before .before .before .before .before .before .before .before .clear .kept .0 in
-    let e = c .before .before .before .before .before .judge .ensures ∙ ap (λ r. judged (c .before .before .before .before .before .before .before .before .before .before .before .before .before .before .before .before .before .before .before .before .args .draft .now)
-    (c .before .before .before .before .before .before .before .before .before .before .before .before .before .before .before .before .before .before .before .before .args .tokens .now) (c .before .before .before .before .before .before .before .before .before .before .before .before .before .before .before .before .before .before .before .before .args .count) r
-    (c .before .before .before .before .before .before .before .before .function .result)) len in (
-      law.said-answer (c .before .before .before .before .before .before .before .before .before .before .before .before .before .before .before .before .before .before .before .before .args .draft .now)
-          (c .before .before .before .before .before .before .before .before .before .before .before .before .before .before .before .before .before .before .before .before .args .tokens .now) (c .before .before .before .before .before .before .before .before .before .before .before .before .before .before .before .before .before .before .before .before .args .count)
-          (h .1) (c .before .before .before .before .before .before .before .before .before .before .start .ensures) (length (c .before .before .before .before .before .before .before .before .before .before .before .before .before .before .before .before .before .before .before .before .args .tree .now))
-          (c .before .before .before .before .before .before .before .before .before .before .before .before .before .before .before .before .before .before .before .before .args .most) few (c .before .before .before .before .before .before .before .before .before .before .before .before .before .before .before .clear .ensures)
-          (c .before .before .before .before .before .before .before .before .function .ensures) e,
-      c .before .before .clear2 .ensures ∙ ap (λ m. replicate m 0) len ∙ law.said-zeros (c .before .before .before .before .before .before .before .before .before .before .before .before .before .before .before .before .before .before .before .before .args .draft .now)
-          (c .before .before .before .before .before .before .before .before .before .before .before .before .before .before .before .before .before .before .before .before .args .tokens .now) (c .before .before .before .before .before .before .before .before .before .before .before .before .before .before .before .before .before .before .before .before .args .count)
-          (h .1) (c .before .before .before .before .before .before .before .before .before .before .start .ensures) (length (c .before .before .before .before .before .before .before .before .before .before .before .before .before .before .before .before .before .before .before .before .args .tree .now))
-          (c .before .before .before .before .before .before .before .before .before .before .before .before .before .before .before .before .before .before .before .before .args .most) few (c .before .before .before .before .before .before .before .before .before .before .before .before .before .before .before .clear .ensures)
-          (c .before .before .before .before .before .before .before .before .function .ensures) e (c .before .before .before .before .match .keys2),
+    let few = sym (c .before .before .before .before .before .before .before .before .before .before .before .before .before .too-many .ensures) ∙ c .before .before .before .before .before .before .before .before .before .before .before .before .if1 .left in
+    let h = law.few-tokens (c .before .before .before .before .before .before .before .before .before .before .before .before .before .before .before .before .before .before .before .before .before .args .most)
+    (c .before .before .before .before .before .before .before .before .before .before .before .before .before .before .before .before .before .before .before .before .before .args .count) (length
+    (c .before .before .before .before .before .before .before .before .before .before .before .before .before .before .before .before .before .before .before .before .before .args .tokens .now)) few in
+    let len = c .before .before .before .before .before .before .before .before .before .function .kept .1 .1 .1 .0 ∙ c .before .before .before .before .before .before .before .before .before .before .before .before .before .before .before .before .clear .kept .0 in
+    let e = c .before .before .before .before .before .before .judge .ensures ∙ ap (λ r. judged (c .before .before .before .before .before .before .before .before .before .before .before .before .before .before .before .before .before .before .before .before .before .args .draft .now)
+    (c .before .before .before .before .before .before .before .before .before .before .before .before .before .before .before .before .before .before .before .before .before .args .tokens .now)
+    (c .before .before .before .before .before .before .before .before .before .before .before .before .before .before .before .before .before .before .before .before .before .args .count) r (c .before .before .before .before .before .before .before .before .before .function .result)) len in (
+      law.said-answer (c .before .before .before .before .before .before .before .before .before .before .before .before .before .before .before .before .before .before .before .before .before .args .draft .now)
+          (c .before .before .before .before .before .before .before .before .before .before .before .before .before .before .before .before .before .before .before .before .before .args .tokens .now)
+          (c .before .before .before .before .before .before .before .before .before .before .before .before .before .before .before .before .before .before .before .before .before .args .count) (h .1) (c .before .before .before .before .before .before .before .before .before .before .before .start .ensures) (length
+          (c .before .before .before .before .before .before .before .before .before .before .before .before .before .before .before .before .before .before .before .before .before .args .tree .now))
+          (c .before .before .before .before .before .before .before .before .before .before .before .before .before .before .before .before .before .before .before .before .before .args .most) few (c .before .before .before .before .before .before .before .before .before .before .before .before .before .before .before .before .clear .ensures)
+          (c .before .before .before .before .before .before .before .before .before .function .ensures) e,
+      c .before .before .clear2 .ensures ∙ ap (λ m. replicate m 0) len ∙ law.said-zeros
+          (c .before .before .before .before .before .before .before .before .before .before .before .before .before .before .before .before .before .before .before .before .before .args .draft .now)
+          (c .before .before .before .before .before .before .before .before .before .before .before .before .before .before .before .before .before .before .before .before .before .args .tokens .now)
+          (c .before .before .before .before .before .before .before .before .before .before .before .before .before .before .before .before .before .before .before .before .before .args .count) (h .1) (c .before .before .before .before .before .before .before .before .before .before .before .start .ensures) (length
+          (c .before .before .before .before .before .before .before .before .before .before .before .before .before .before .before .before .before .before .before .before .before .args .tree .now))
+          (c .before .before .before .before .before .before .before .before .before .before .before .before .before .before .before .before .before .before .before .before .before .args .most) few (c .before .before .before .before .before .before .before .before .before .before .before .before .before .before .before .before .clear .ensures)
+          (c .before .before .before .before .before .before .before .before .before .function .ensures) e (c .before .before .before .before .enum-told .given .1),
     )
 
 same-length-3 : tie.Need-same-length-3
@@ -128,4 +136,4 @@ returns-3 c =
 
 pub parse-within-spec : {M : Type 1} → statement M
 parse-within-spec = tie.close (tie.spec clear-requires too-many-requires same-length returns start-requires function-requires judge-requires
-    enum-known-answer clear-requires-2 same-length-2 returns-2 same-length-3 returns-3)
+    enum-known-answer enum-told clear-requires-2 same-length-2 returns-2 same-length-3 returns-3)

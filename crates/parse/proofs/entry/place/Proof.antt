@@ -11,7 +11,7 @@ use Rattle.grammar.specs.Entry.{oneFunction}
 use Rattle.parse.specs.Contract.{text}
 use Rattle.parse.specs.Entry.{ended, judged}
 use Rattle.parse.proofs.entry.Laws as law
-use Rattle.parse.specs.declared.Answer.the-variants.{Records, Refused, TooMany}
+use Rattle.parse.specs.declared.Answer.the-variants.{Records, Refused}
 use Rattle.parse.proofs.token.Tokens.{length-text}
 use Rattle.parse.proofs.entry.place.Statement.{statement}
 use Rattle.parse.proofs.entry.place.Tie as tie
