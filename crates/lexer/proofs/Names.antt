@@ -23,10 +23,11 @@ use Rattle.lexer.specs.Chars.{among, whitespace, decimalDigits, nameStar
 use Rattle.lexer.specs.Lexemes.{Lexeme, token, refused, _orElse_, space, lineComment, blockComment, nameLength, isName, moduleToken, qualified, macroToken, macro, wordToken, word, digits, hexadecimal, binary, decimal, lexeme}
 use Rattle.lexer.specs.Places.{Named, keywordAt}
 use Rattle.lexer.specs.Step.{stepFrom, lexemeAt}
+use Rattle.lexer.specs.TextLaws.{part-rest}
 use Rattle.lexer.specs.declared.Step.{Step}
 use Rattle.lexer.specs.declared.Step.the-variants.{Token, Refused}
 use Rattle.lexer.proofs.ByteClasses.{name-classes, name-apart, notName, each-fails}
-use Rattle.lexer.proofs.Rest.{rest-first, rest-cons, rest-drop, part-rest, begins-one, begins-two}
+use Rattle.lexer.proofs.Rest.{rest-first, rest-cons, rest-drop, begins-one, begins-two}
 use Rattle.lexer.proofs.Runs.{run-same, run-end-within}
 
 -- Where a name starts, only the trials on names are left.

@@ -3,13 +3,12 @@
 use mathlib.Core.Bool.{Bool, true, false, _&&_, and-true}
 use mathlib.Core.List.{List, [], _∷_}
 use mathlib.Core.Path.{_≡_, refl, sym, _∙_, ap}
-use Prim.Native.Nat.{ℕ, zero, suc, _+_, _-_, _≤_, _<_}
+use Prim.Native.Nat.{ℕ, zero, suc, _+_, _-_, _<_}
 use native.Mathlib.Omega.{arith}
-use borrow.Author.Tests.{le-leb, leb-true, leb-false}
+use borrow.Author.Tests.{leb-true, leb-false}
 use lib.Dec.{eqb, leb, eqb·zero-suc}
 use lib.ListN.{length, getD, take, drop, List·getD-eq-default}
 use lib.Seq.{drop-cons, drop-drop, take-nil}
-use Rattle.text.specs.Part.{partOf}
 use Rattle.lexer.specs.Chars.{first, begins}
 pub use Rattle.lexer.specs.Moves.{rest-first}
 
@@ -25,13 +24,6 @@ rest-take s zero e = ap (λ n. take n s) (let z : e ≡ e - 0 = omega arith in z
 rest-take s (suc i) zero = ap (λ n. take n (drop (suc i) s)) (let z : 0 ≡ 0 - suc i = omega arith in z)
 rest-take [] (suc i) (suc e) = sym (take-nil (suc e - suc i))
 rest-take (x ∷ s) (suc i) (suc e) = rest-take s i e ∙ ap (λ n. take n (drop i s)) (let z : e - i ≡ suc e - suc i = omega arith in z)
-
--- a part by its length
-pub part-rest : (s : List ℕ) (i n e : ℕ) → i + n ≡ e → e ≤ length s → partOf s i e ≡ take n (drop i s)
-unfolding partOf
-part-rest s i n e q h =
-    let k : e - i ≡ n = omega arith in
-    simp (le-leb i e (omega arith), le-leb e (length s) h, k)
 
 -- what a text begins with, byte by byte; no byte that is asked for is 0
 pub begins-one : (x : ℕ) (r : List ℕ) → begins (suc x ∷ []) r ≡ eqb (first r) (suc x)

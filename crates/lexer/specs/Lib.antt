@@ -18,3 +18,7 @@ pub mod Nesting
 pub mod Class
 pub mod Samples
 pub mod Classes
+pub mod Texts
+pub mod Gaps
+pub mod Alone
+pub mod TextLaws

@@ -63,7 +63,7 @@ begins-le (x ∷ w) (b ∷ r) e = let ih = begins-le w r (both-right (eqb b x) (
 pub begins-behind : (w : List ℕ) (n : ℕ) (r : List ℕ) → 1 ≤ length w → begins w (drop n r) ≡ true → n + length w ≤ length r
 begins-behind w n r h e = omega (arith, begins-le w (drop n r) e, length-drop n r)
 
-among-append : (a b : List Range) (x : ℕ) → among a x ≡ true → among (a ++ b) x ≡ true
+pub among-append : (a b : List Range) (x : ℕ) → among a x ≡ true → among (a ++ b) x ≡ true
 unfolding among
 among-append [] b x e = differ e
 among-append (s ∷ a) b x e = go (leb (s .least) x && leb x (s .most)) e (among-append a b x)
@@ -72,7 +72,7 @@ among-append (s ∷ a) b x e = go (leb (s .least) x && leb x (s .most)) e (among
     go true e ih = refl
     go false e ih = ih e
 
-or-left : (a b : Bool) → a ≡ true → (a || b) ≡ true
+pub or-left : (a b : Bool) → a ≡ true → (a || b) ≡ true
 or-left true b e = refl
 or-left false b e = differ e
 
