@@ -3,24 +3,25 @@
 use mathlib.Core.Bool.{Bool, true, false, cond, _&&_, _||_}
 use mathlib.Core.List.{List, [], _∷_, _++_}
 use mathlib.Core.Option.{Option, none, some}
-use mathlib.Core.Path.{_≡_, refl, sym, _∙_, ap, ap₂, subst}
+use mathlib.Core.Path.{_≡_, refl, sym, _∙_, ap, subst}
 use Prim.Native.Nat.{ℕ, zero, suc, _+_, _-_, _≤_, _<_}
 use native.Mathlib.Numerals.{add-one}
 use native.Mathlib.Omega.{arith}
 use borrow.Author.Tests.{eq-eqb, ne-eqb, lt-ltb, le-leb, lt-leb, leb-true, leb-false}
-use lib.Dec.{T, eqb, leb, ltb, eqb→eq}
+use lib.Dec.{T, eqb, leb, ltb}
 use lib.ListN.{length, getD, take, drop, replicate, length-replicate}
 use lib.Seq.{getD-drop}
 use Rattle.text.specs.Ascii.{ascii, asciiFrom}
 use Rattle.text.specs.Refusals as refusal
 use Rattle.text.specs.Same.{same, differ}
-use Rattle.text.specs.Table.{every, at, all, each, first-of, second-of}
+use Rattle.text.specs.Table.{every, at, all, each}
 use Rattle.lexer.specs.Bytes.{markClass, byteClass, inClasses}
 use Rattle.lexer.specs.Bytes as byte
 use Rattle.lexer.specs.Classes as t
 use Rattle.lexer.specs.Chars.{Range, among, whitespace, lineEnds, plainBytes, binaryDigits, decimalDigits, hexDigits, underscore, nameStarts, is, first, run, begins}
-use Rattle.lexer.specs.Lexemes.{Lexeme, token, trivia, refused, _orElse_, Mark, space, lineComment, blockComment, qualified, macro, digits, hexadecimal, binary, decimal, word, marks, mark, noLexeme, lexeme}
+use Rattle.lexer.specs.Lexemes.{Lexeme, token, refused, _orElse_, Mark, space, lineComment, blockComment, qualified, macro, digits, hexadecimal, binary, decimal, word, marks, mark, noLexeme, lexeme}
 use Rattle.lexer.specs.Places.{Based, decimalAt}
+use Rattle.lexer.specs.SameLexeme.{sameLexeme, same-lexeme}
 use Rattle.lexer.specs.Step.{stepFrom, lexemeAt}
 use Rattle.lexer.specs.declared.Step.{Step}
 use Rattle.lexer.specs.declared.Step.the-variants.{Token, Trivia, Refused}
@@ -43,30 +44,6 @@ byClass c g h =
     (cond (eqb c byte.Eq) (cond g (token t.FatArrow 2) (token t.Eq 1))
     (cond (eqb c byte.Other) (refused refusal.NoLexeme 0)
     (token c 1))))
-
--- two lexemes are the same
-sameLexeme : Lexeme → Lexeme → Bool
-sameLexeme (token k n) (token l m) = eqb k l && eqb n m
-sameLexeme (token k n) (trivia m) = false
-sameLexeme (token k n) (refused c m) = false
-sameLexeme (trivia n) (token l m) = false
-sameLexeme (trivia n) (trivia m) = eqb n m
-sameLexeme (trivia n) (refused c m) = false
-sameLexeme (refused c n) (token l m) = false
-sameLexeme (refused c n) (trivia m) = false
-sameLexeme (refused c n) (refused d m) = eqb c d && eqb n m
-
-same-lexeme : (x y : Lexeme) → T (sameLexeme x y) → x ≡ y
-unfolding sameLexeme
-same-lexeme (token k n) (token l m) t = ap₂ token (eqb→eq k l (first-of (eqb k l) (eqb n m) t)) (eqb→eq n m (second-of (eqb k l) (eqb n m) t))
-same-lexeme (token k n) (trivia m) t = absurd t
-same-lexeme (token k n) (refused c m) t = absurd t
-same-lexeme (trivia n) (token l m) t = absurd t
-same-lexeme (trivia n) (trivia m) t = ap trivia (eqb→eq n m t)
-same-lexeme (trivia n) (refused c m) t = absurd t
-same-lexeme (refused c n) (token l m) t = absurd t
-same-lexeme (refused c n) (trivia m) t = absurd t
-same-lexeme (refused c n) (refused d m) t = ap₂ refused (eqb→eq c d (first-of (eqb c d) (eqb n m) t)) (eqb→eq n m (second-of (eqb c d) (eqb n m) t))
 
 -- what is tested of each byte up to 127 that may be a mark
 abbrev mark-tests : ℕ → List Bool

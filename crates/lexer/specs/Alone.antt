@@ -18,7 +18,7 @@ use Rattle.words.specs.declared.Found.the-variants.{Word, Plain}
 use Rattle.lexer.specs.Chars.{Range, among, whitespace, plainBytes, binaryDigits, decimalDigits, hexDigits, underscore, nameStarts, first, run, begins}
 use Rattle.lexer.specs.Classes as class
 use Rattle.lexer.specs.Lexemes.{Lexeme, token, trivia, refused, _orElse_, space, comment, lineComment, block, closing, blockComment, nameLength, isName, moduleToken, qualified, macroToken, macro, wordToken, word, digits, hexadecimal, binary, decimal, Mark, marks, mark, noLexeme, lexeme}
-use Rattle.lexer.specs.Gaps.{solid, run-gap, run-swap, run-some, begins-keep, begins-short, begins-back, first-same, first-inside, Base, base-apart, decimal-base, binary-base, hex-base, bang-solid, colons-solid, hex-solid, binary-solid, line-solid, block-solid, solids, marks-solid, name-swap, name-inside, name-within, name-filled, name-starts, take-same, begins-behind, begins-before}
+use Rattle.lexer.specs.Gaps.{solid, run-gap, run-swap, run-some, begins-keep, begins-short, begins-back, first-same, first-inside, Base, base-apart, decimal-base, binary-base, hex-base, bang-solid, colons-solid, hex-solid, binary-solid, line-solid, block-solid, solids, marks-solid, name-swap, name-inside, name-within, name-filled, name-starts, take-same, begins-there, begins-before}
 use Rattle.lexer.specs.Moves.{Moves, or-left, lexeme-moves}
 use Rattle.lexer.specs.Trials.{both-left, both-right}
 use Rattle.lexer.specs.Texts.{OneToken, gap}
@@ -33,10 +33,10 @@ or-keeps : {x : Lexeme} (o p : Option Lexeme) (y z : Lexeme) → Keeps x o p →
 or-keeps none p y z k f e = rw (k .miss refl) (f e)
 or-keeps (some w) p y z k f e = rw (k .hit (ap some e)) refl
 
-clash : {A : Type 0} {x : Lexeme} → none ≡ some x → A
+pub clash : {A : Type 0} {x : Lexeme} → none ≡ some x → A
 clash e = let z : _≡_ {A = ℕ} 0 1 = cc in absurd (omega arith)
 
-some-is : {x y : Lexeme} → some x ≡ some y → x ≡ y
+pub some-is : {x y : Lexeme} → some x ≡ some y → x ≡ y
 some-is e = cc
 
 -- a trial by a test
@@ -53,13 +53,13 @@ cond-keeps {x} c d o p f g = record { hit = found c refl; miss = lost d refl }
     lost false q e = refl
 
 -- trivia is no token
-no-trivia : {A : Type 0} {n k m : ℕ} → trivia n ≡ token k m → A
+pub no-trivia : {A : Type 0} {n k m : ℕ} → trivia n ≡ token k m → A
 no-trivia e = let z : _≡_ {A = ℕ} 0 1 = cc in absurd (omega arith)
 
-no-refusal : {A : Type 0} {c n k m : ℕ} → refused c n ≡ token k m → A
+pub no-refusal : {A : Type 0} {c n k m : ℕ} → refused c n ≡ token k m → A
 no-refusal e = let z : _≡_ {A = ℕ} 0 1 = cc in absurd (omega arith)
 
-no-comment : {A : Type 0} (n : ℕ) (r : List ℕ) {k m : ℕ} → comment n r ≡ token k m → A
+pub no-comment : {A : Type 0} (n : ℕ) (r : List ℕ) {k m : ℕ} → comment n r ≡ token k m → A
 unfolding comment
 no-comment {A} n r {k} {m} e = go (eqb (run (among plainBytes) (take n r)) n) e
   where
@@ -67,7 +67,7 @@ no-comment {A} n r {k} {m} e = go (eqb (run (among plainBytes) (take n r)) n) e
     go true e = no-trivia e
     go false e = no-refusal e
 
-no-block : {A : Type 0} (o : Option ℕ) (r : List ℕ) {k m : ℕ} → block o r ≡ token k m → A
+pub no-block : {A : Type 0} (o : Option ℕ) (r : List ℕ) {k m : ℕ} → block o r ≡ token k m → A
 no-block none r e = no-refusal e
 no-block (some n) r e = no-comment (2 + n) r e
 
@@ -83,11 +83,11 @@ module-none : (f : Found) (n m : ℕ) → moduleToken f n ≡ none → moduleTok
 module-none (Word i) n m e = clash (sym e)
 module-none Plain n m e = refl
 
-macro-length : (f : Found) (n : ℕ) {k m : ℕ} → macroToken f n ≡ some (token k m) → n ≡ m
+pub macro-length : (f : Found) (n : ℕ) {k m : ℕ} → macroToken f n ≡ some (token k m) → n ≡ m
 macro-length (Word i) n e = cc
 macro-length Plain n e = clash e
 
-word-length : (f : Found) (n : ℕ) {k m : ℕ} → wordToken f n ≡ token k m → n ≡ m
+pub word-length : (f : Found) (n : ℕ) {k m : ℕ} → wordToken f n ≡ token k m → n ≡ m
 word-length (Word i) n {k} {m} e = go (eqb (class.Pub + i) class.Simc) (ltb class.Simc (class.Pub + i)) e
   where
     go : (a b : Bool) → cond a (refused refusal.Simc 0) (cond b (token class.Bool n) (token (class.Pub + i) n)) ≡ token k m → n ≡ m
@@ -172,7 +172,7 @@ module _ (t u s : List ℕ) (g : gap s ≡ true) (k : ℕ) where
       found q e =
           let l : n + 1 ≡ length t = macro-length (wordOf MACROS (take (n + 1) (t ++ u))) (n + 1) e in
           let h : m ≡ n = name-swap t u s g (omega arith) in
-          let b = begins-behind t u s n (omega arith) (ascii "!") (omega arith) (both-right (isName (t ++ u)) (begins (ascii "!") (drop n (t ++ u))) q) in
+          let b = begins-there t u s n (omega arith) (ascii "!") (omega arith) (both-right (isName (t ++ u)) (begins (ascii "!") (drop n (t ++ u))) q) in
           (rw (h, start-same (omega arith), both-left (isName (t ++ u)) (begins (ascii "!") (drop n (t ++ u))) q) b, rw (h, take-same t u s (n + 1) (omega arith)) e)
 
       lost : (isName (t ++ s) && begins (ascii "!") (drop m (t ++ s))) ≡ true
@@ -269,7 +269,7 @@ module _ (t u s : List ℕ) (g : gap s ≡ true) (k : ℕ) where
           let lf = f .1 in
           let ls : nameLength (drop (n + 2) (t ++ s)) ≡ nameLength (drop (n + 2) r) = ap (λ (z : List ℕ). nameLength z) ds ∙ (let y : nameLength (drop (n + 2) t ++ s) ≡ nameLength (drop (n + 2) r) = omega arith in y) in (
             ap (λ (z : ℕ). tests z (t ++ s)) h
-                ∙ all-tests n (t ++ s) (start-same (omega arith) ∙ p .0) (begins-behind t u s n (omega arith) (ascii "::") (omega arith) (p .1)) (ap (λ (z : List ℕ). isName z) ds ∙ f .0),
+                ∙ all-tests n (t ++ s) (start-same (omega arith) ∙ p .0) (begins-there t u s n (omega arith) (ascii "::") (omega arith) (p .1)) (ap (λ (z : List ℕ). isName z) ds ∙ f .0),
             rw (h, take-same t u s n (omega arith), ls) e,
           )
 

@@ -76,10 +76,10 @@ run-inside p (b ∷ t) u s h = go (p b) h (run-inside p t u s)
     go true h f = ap suc (f (omega arith))
     go false h f = refl
 
-pub run-within : (p : ℕ → Bool) (t s : List ℕ) → run p s ≡ 0 → run p (t ++ s) ≤ length t
+pub run-in-text : (p : ℕ → Bool) (t s : List ℕ) → run p s ≡ 0 → run p (t ++ s) ≤ length t
 unfolding run
-run-within p [] s e = omega arith
-run-within p (b ∷ t) s e = go (p b) (run-within p t s e)
+run-in-text p [] s e = omega arith
+run-in-text p (b ∷ t) s e = go (p b) (run-in-text p t s e)
   where
     go : (x : Bool) → run p (t ++ s) ≤ length t → elim x [ true ↦ suc (run p (t ++ s)) | false ↦ 0 ] ≤ suc (length t)
     go true h = omega arith
@@ -201,7 +201,7 @@ name-some r e = run-some (among nameStarts) (among nameBytes) start-zero (among-
 
 pub name-within : (t s : List ℕ) → gap s ≡ true → nameLength (t ++ s) ≤ length t
 unfolding nameLength
-name-within t s g = run-within (among nameBytes) t s (run-gap (among nameBytes) name-apart s g)
+name-within t s g = run-in-text (among nameBytes) t s (run-gap (among nameBytes) name-apart s g)
 
 module _ (t u s : List ℕ) (g : gap s ≡ true) where
   pub name-swap : nameLength (t ++ u) ≤ length t → nameLength (t ++ s) ≡ nameLength (t ++ u)
@@ -225,8 +225,8 @@ module _ (t u s : List ℕ) (n : ℕ) (h : n ≤ length t) where
   pub take-same : take n (t ++ s) ≡ take n (t ++ u)
   take-same = take-append-le n t s h ∙ sym (take-append-le n t u h)
 
-  pub begins-behind : (w : List ℕ) → n + length w ≤ length t → begins w (drop n (t ++ u)) ≡ true → begins w (drop n (t ++ s)) ≡ true
-  begins-behind w l e =
+  pub begins-there : (w : List ℕ) → n + length w ≤ length t → begins w (drop n (t ++ u)) ≡ true → begins w (drop n (t ++ s)) ≡ true
+  begins-there w l e =
       let m = length-drop n t in
       ap (begins w) (drop-append-le n t s h) ∙ begins-keep w (drop n t) u s (ap (begins w) (sym (drop-append-le n t u h)) ∙ e) (omega arith)
 

@@ -22,3 +22,8 @@ pub mod Texts
 pub mod Gaps
 pub mod Alone
 pub mod TextLaws
+pub mod TokenKinds
+pub mod ClassTexts
+pub mod ClassLaws
+pub mod SameLexeme
+pub mod ClassDrafts

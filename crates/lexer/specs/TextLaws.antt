@@ -15,7 +15,7 @@ use Rattle.lexer.specs.Class.{classOf}
 use Rattle.lexer.specs.Lexemes.{Lexeme, token, trivia, refused, space, lexeme, Token, Lexemes, tokens, refusedAt, with-token, add, lexemesFrom, lexemes}
 use Rattle.lexer.specs.Moves.{Moves, lexeme-moves}
 use Rattle.lexer.specs.Trials.{both-left, both-right}
-use Rattle.lexer.specs.Texts.{textIn, classIn, OneToken, blank, gap, Piece, Sound, joined, tokensAt, with-tokens, movedToken, moved}
+use Rattle.lexer.specs.Texts.{textIn, classIn, OneToken, blank, gap, Piece, Sounds, joined, tokensAt, with-tokens, movedToken, moved}
 use Rattle.lexer.specs.Alone.{not-empty, before-gap, alone}
 
 -- a part by its length
@@ -138,10 +138,6 @@ blank-gap : (g r : List ℕ) → 0 < length g → blank g ≡ true → gap (g ++
 unfolding blank gap
 blank-gap [] r h e = absurd (omega arith)
 blank-gap (b ∷ g) r h e = both-left (among whitespace b) (blank g) e
-
--- all pieces are sound
-abbrev pub Sounds : List Piece → Type 0
-Sounds ps = (p : Piece) → List·Memᴰ p ps → Sound p
 
 joined-from : (ps : List Piece) → Sounds ps → (x : List ℕ) (i : ℕ)
     → lexemesFrom (joined ps ++ x) i 0 ≡ with-tokens (tokensAt i ps) (lexemesFrom x (i + length (joined ps)) 0)

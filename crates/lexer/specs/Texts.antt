@@ -1,7 +1,7 @@
 -- The texts of tokens: in a draft, alone, and joined by whitespace to a draft of their own, so that what is said of tokens can be said of drafts.
 -- Assumes nothing.
 use mathlib.Core.Bool.{Bool, true, _&&_}
-use mathlib.Core.List.{List, [], _∷_, _++_, map}
+use mathlib.Core.List.{List, [], _∷_, _++_, map, List·Memᴰ}
 use mathlib.Core.Path.{_≡_}
 use Prim.Native.Nat.{ℕ, _+_, _<_}
 use lib.ListN.{length}
@@ -44,6 +44,10 @@ pub record Sound (p : Piece) : Type 0 where
   pub one : OneToken (p .kind) (p .text)
   pub apart : 0 < length (p .between)
   pub white : blank (p .between) ≡ true
+
+-- each of them
+abbrev pub Sounds : List Piece → Type 0
+Sounds ps = (p : Piece) → List·Memᴰ p ps → Sound p
 
 -- a text, and then a space
 abbrev pub spaced : ℕ → List ℕ → Piece

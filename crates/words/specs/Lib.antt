@@ -2,3 +2,4 @@ pub mod Words
 pub mod Right
 pub mod Layout
 pub mod Lies
+pub mod Members

@@ -1,0 +1,158 @@
+-- Each class that tokens have is that of its sample, and the class of a word is that of one text alone; so there is a draft for every list of classes.
+-- Assumes nothing.
+use mathlib.Core.Bool.{Bool, true, false, _&&_, _||_, not}
+use mathlib.Core.List.{List, [], _∷_, map, List·Memᴰ, List·Memᴰ·head, List·Memᴰ·tail, List·Memᴰ·not-nil, Memᴰ·of-map, append-nil}
+use mathlib.Core.Logic.{_↔_}
+use mathlib.Core.Path.{_≡_, refl, sym, ap, ap₂, _∙_, subst}
+use Prim.Native.Nat.{ℕ, _+_, _-_, _≤_, _<_}
+use native.Mathlib.Omega.{arith}
+use lib.Dec.{T, eqb, ltb, leb, eqb→eq, leb→le, le→leb, ltb→lt}
+use lib.ListN.{length, getD, replicate}
+use Rattle.text.specs.Ascii.{ascii, asciiFrom}
+use Rattle.text.specs.Same.{same, same-true}
+use Rattle.text.specs.Table.{all, each, every, at, is-true, first-of, second-of}
+use Rattle.words.specs.Right.{Says, says}
+use Rattle.words.specs.Words.{FUNCTION_RESERVED, KEYWORDS, MACROS, MODULE_RESERVED, RULE_NAMES, BOOLEANS, RULE_WORDS, find, wordOf}
+use Rattle.words.specs.declared.Found.{Found}
+use Rattle.words.specs.declared.Found.the-variants.{Word, Plain}
+use Rattle.lexer.specs.Chars.{among, whitespace, lineEnds, plainBytes, binaryDigits, decimalDigits, hexDigits, underscore, nameStarts, nameBytes, run, begins}
+use Rattle.lexer.specs.Class.{wordClass, classOf}
+use Rattle.lexer.specs.Classes as t
+use Rattle.lexer.specs.ClassLaws.{or-second, other-class}
+use Rattle.lexer.specs.ClassTexts.{Sample, samples, wordKinds, neverGiven, given, Given, sampleIn, sampleOf, pieceOf, draftOf}
+use Rattle.lexer.specs.Lexemes.{token, space, comment, lineComment, inside, closing, blockComment, nameLength, qualified, macro, word, digits, hexadecimal, binary, decimal, marks, mark, noLexeme, lexeme, Token, tokens, lexemes}
+use Rattle.lexer.specs.SameLexeme.{sameLexeme, same-lexeme}
+use Rattle.lexer.specs.TextLaws.{joined-tokens, joined-classes}
+use Rattle.lexer.specs.Texts.{classIn, OneToken, blank, Piece, Sound, Sounds, joined, tokensAt}
+use Rattle.lexer.specs.TokenKinds.{Kind, a-name, a-boolean, a-macro, another, kind-of}
+
+-- ---- the words of the rules
+
+abbrev place-is : Found → ℕ → Bool
+place-is (Word m) i = eqb m i
+place-is Plain i = false
+
+-- each is found at its place
+places-pass : T (every (λ i w. place-is (wordOf RULE_WORDS w) i) 0 RULE_WORDS)
+unfolding wordOf find same FUNCTION_RESERVED MACROS RULE_NAMES BOOLEANS RULE_WORDS ascii asciiFrom
+places-pass = tt
+
+found-at : (i : ℕ) → i < length RULE_WORDS → wordOf RULE_WORDS (getD RULE_WORDS i []) ≡ Word i
+found-at i h = go (wordOf RULE_WORDS (getD RULE_WORDS i [])) (at (λ i w. place-is (wordOf RULE_WORDS w) i) RULE_WORDS [] places-pass i h)
+  where
+    go : (f : Found) → T (place-is f i) → f ≡ Word i
+    go (Word m) p = ap Word (eqb→eq m i p)
+    go Plain p = absurd p
+
+by-word : (k : ℕ) (w : List ℕ) → List·Memᴰ k wordKinds → (classOf k w ≡ wordClass (wordOf RULE_WORDS w) k) × (k < t.words)
+unfolding classOf
+by-word k w (List·Memᴰ·head e) = subst (λ k. (classOf k w ≡ wordClass (wordOf RULE_WORDS w) k) × (k < t.words)) (sym e) (refl, omega arith)
+by-word k w (List·Memᴰ·tail (List·Memᴰ·head e)) = subst (λ k. (classOf k w ≡ wordClass (wordOf RULE_WORDS w) k) × (k < t.words)) (sym e) (refl, omega arith)
+by-word k w (List·Memᴰ·tail (List·Memᴰ·tail (List·Memᴰ·head e))) = subst (λ k. (classOf k w ≡ wordClass (wordOf RULE_WORDS w) k) × (k < t.words)) (sym e) (refl, omega arith)
+by-word k w (List·Memᴰ·tail (List·Memᴰ·tail (List·Memᴰ·tail m))) = absurd (List·Memᴰ·not-nil m)
+
+-- The names, macros and booleans that the rules tell apart: a name, macro or boolean is of the class of word number i exactly when it is that word.
+pub word-class : (k : ℕ) (w : List ℕ) → List·Memᴰ k wordKinds → (i : ℕ) → i < length RULE_WORDS → (classOf k w ≡ t.words + i) ↔ (w ≡ getD RULE_WORDS i [])
+word-class k w m i h = (λ e. one (wordOf RULE_WORDS w) (says RULE_WORDS w) (sym (b .0) ∙ e), λ e. b .0 ∙ ap (λ f. wordClass f k) (ap (wordOf RULE_WORDS) e ∙ found-at i h))
+  where
+    b : (classOf k w ≡ wordClass (wordOf RULE_WORDS w) k) × (k < t.words)
+    b = by-word k w m
+
+    one : (f : Found) → Says RULE_WORDS w f → wordClass f k ≡ t.words + i → w ≡ getD RULE_WORDS i []
+    one (Word j) s e = let q : j ≡ i = omega arith in sym (s .1) ∙ ap (λ (n : ℕ). getD RULE_WORDS n []) q
+    one Plain s e = let l = b .1 in absurd (omega arith)
+
+-- ---- the samples
+
+-- a sample of c is a token of its kind and of the class c; if that is a word's, it is that word
+abbrev sample-tests : ℕ → Sample → List Bool
+sample-tests c s =
+    sameLexeme (lexeme (ascii (s .text))) (token (s .kind) (length (ascii (s .text)))) ∷
+    eqb (classOf (s .kind) (ascii (s .text))) c ∷
+    (not (leb t.words c) || ltb (c - t.words) (length RULE_WORDS)) ∷
+    (not (leb t.words c) || same (getD RULE_WORDS (c - t.words) []) (ascii (s .text))) ∷ []
+
+-- computed over all classes
+samples-pass : T (every {A = ℕ} (λ c x. not (given c) || all (sample-tests c (sampleOf c))) 0 (replicate (t.true + 1) 0))
+unfolding sameLexeme samples sampleIn given neverGiven classOf wordOf find same FUNCTION_RESERVED KEYWORDS MACROS MODULE_RESERVED RULE_NAMES BOOLEANS RULE_WORDS ascii asciiFrom among whitespace lineEnds plainBytes binaryDigits decimalDigits hexDigits underscore nameStarts nameBytes run begins space comment lineComment inside closing blockComment nameLength qualified macro word digits hexadecimal binary decimal marks mark noLexeme lexeme
+samples-pass = tt
+
+module _ (c : ℕ) (g : T (given c)) where
+  -- the text of its sample
+  abbrev v : List ℕ
+  v = ascii (sampleOf c .text)
+
+  passes : (i : ℕ) → T (getD (sample-tests c (sampleOf c)) i true)
+  unfolding given
+  passes =
+      let l = leb→le c t.true (second-of (leb t.Pub c) (leb c t.true) (first-of (leb t.Pub c && leb c t.true) _ g)) in
+      each (sample-tests c (sampleOf c))
+      (or-second (given c) _ (at {A = ℕ} (λ c x. not (given c) || all (sample-tests c (sampleOf c))) (replicate (t.true + 1) 0) 0 samples-pass c (omega arith)) g)
+
+  -- A class's sample is one token, and has that class.
+  pub sample-token : OneToken (sampleOf c .kind) v
+  sample-token = record { lexed = same-lexeme (lexeme v) (token (sampleOf c .kind) (length v)) (passes 0) }
+
+  pub sample-class : classOf (sampleOf c .kind) v ≡ c
+  sample-class = eqb→eq (classOf (sampleOf c .kind) v) c (passes 1)
+
+  -- Each word that the rules name: a token is of its class exactly when it is that text.
+  pub named-class : t.words ≤ c → {k : ℕ} {w : List ℕ} → OneToken k w → (classOf k w ≡ c) ↔ (w ≡ ascii (sampleOf c .text))
+  named-class h {k} {w} o = (λ e. go (kind-of w k o) e, back)
+    where
+      i : ℕ
+      i = c - t.words
+
+      a : T (leb t.words c)
+      a = le→leb t.words c h
+
+      of-word : List·Memᴰ k wordKinds → classOf k w ≡ c → w ≡ v
+      of-word m e =
+          let q : c ≡ t.words + i = omega arith in
+          let l = ltb→lt i (length RULE_WORDS) (or-second (leb t.words c) (ltb i (length RULE_WORDS)) (passes 2) a) in
+          word-class k w m i l .0 (e ∙ q) ∙ same-true (getD RULE_WORDS i []) v (is-true _ (or-second (leb t.words c) (same (getD RULE_WORDS i []) v) (passes 3) a))
+
+      go : Kind w k → classOf k w ≡ c → w ≡ v
+      go (a-name e l q) r = of-word (List·Memᴰ·tail (List·Memᴰ·head e)) r
+      go (a-boolean j e q b) r = of-word (List·Memᴰ·head e) r
+      go (a-macro j e q) r = of-word (List·Memᴰ·tail (List·Memᴰ·tail (List·Memᴰ·head e))) r
+      go (another p) r =
+          let l = ltb→lt k t.words (second-of (leb t.Pub k) (ltb k t.words) (first-of (leb t.Pub k && ltb k t.words) _ p)) in
+          let z = other-class k w p in
+          absurd (omega arith)
+
+      back : w ≡ v → classOf k w ≡ c
+      back e =
+          let x = o .lexed in
+          let y = sample-token .lexed in
+          let q : k ≡ sampleOf c .kind = cc in
+          ap₂ classOf q e ∙ sample-class
+
+-- ---- drafts of classes
+
+space-blank : (s : Sample) → (0 < length (pieceOf s .between)) × (blank (pieceOf s .between) ≡ true)
+unfolding blank among whitespace ascii asciiFrom
+space-blank s = (omega arith, refl)
+
+abbrev pieces : List ℕ → List Piece
+pieces cs = map (λ c. pieceOf (sampleOf c)) cs
+
+pieces-sound : (cs : List ℕ) → Given cs → Sounds (pieces cs)
+pieces-sound cs g p m =
+    let r = Memᴰ·of-map (λ c. pieceOf (sampleOf c)) cs m in
+    let b = space-blank (sampleOf (r .0)) in
+    subst Sound (r .2) (record { one = sample-token (r .0) (g (r .0) (r .1)); apart = b .0; white = b .1 })
+
+pieces-classes : (cs : List ℕ) → Given cs → map (λ p. classOf (p .kind) (p .text)) (pieces cs) ≡ cs
+pieces-classes [] g = refl
+pieces-classes (c ∷ cs) g = ap₂ (λ x l. x ∷ l) (sample-class c (g c (List·Memᴰ·head refl))) (pieces-classes cs (λ e m. g e (List·Memᴰ·tail m)))
+
+-- For every list of classes that tokens have there is a draft whose tokens have exactly these.
+pub drafted : (cs : List ℕ) → Given cs → (ts : List Token) × (lexemes (draftOf cs) ≡ tokens ts) × (map (classIn (draftOf cs)) ts ≡ cs)
+unfolding draftOf
+drafted cs g =
+    let s = pieces-sound cs g in (
+      tokensAt 0 (pieces cs),
+      joined-tokens (pieces cs) s,
+      ap (λ d. map (classIn d) (tokensAt 0 (pieces cs))) (sym (append-nil (joined (pieces cs)))) ∙ joined-classes (pieces cs) s [] ∙ pieces-classes cs g,
+    )

@@ -1,0 +1,129 @@
+-- The classes that tokens have, with the kind and a text of each: so that each name of Classes.antt is held beside the text that it stands for,
+-- and that a draft can be written for every list of classes.
+-- Assumes nothing.
+use mathlib.Core.Bool.{Bool, cond, _&&_, not}
+use mathlib.Core.List.{List, [], _∷_, map, List·Memᴰ}
+use Prim.Native.Nat.{ℕ}
+use Prim.Native.String.{String}
+use lib.Dec.{T, eqb, leb}
+use Rattle.text.specs.Ascii.{ascii}
+use Rattle.text.specs.Refusals.{oneOf}
+use Rattle.lexer.specs.Class.{classOf}
+use Rattle.lexer.specs.Classes as t
+use Rattle.lexer.specs.Texts.{Piece, spaced, joined}
+
+-- A class, its tokens' kind, and a text that has it.
+pub record Sample : Type 0 where
+  pub class : ℕ
+  pub kind : ℕ
+  pub text : String
+
+-- the class is the kind
+abbrev pub kind : ℕ → String → Sample
+kind c s = record { class = c; kind = c; text = s }
+
+-- the class is that of one word: a name, a macro, a boolean
+abbrev pub name : ℕ → String → Sample
+name c s = record { class = c; kind = t.Ident; text = s }
+
+abbrev pub macro : ℕ → String → Sample
+macro c s = record { class = c; kind = t.Macro; text = s }
+
+abbrev pub boolean : ℕ → String → Sample
+boolean c s = record { class = c; kind = t.Bool; text = s }
+
+-- The keywords and the marks have one text each; so have the words that the rules name, the macros and the booleans. Of numbers, names, jets,
+-- witnesses and parameters this is one text of many.
+unfoldable pub samples : List Sample
+samples =
+    kind t.Ident "x"
+    ∷ kind t.Pub "pub"
+    ∷ kind t.Use "use"
+    ∷ kind t.As "as"
+    ∷ kind t.Fn "fn"
+    ∷ kind t.Let "let"
+    ∷ kind t.«Type» "type"
+    ∷ kind t.Mod "mod"
+    ∷ kind t.Const "const"
+    ∷ kind t.Match "match"
+    ∷ kind t.Enum "enum"
+    ∷ kind t.Crate "crate"
+    ∷ kind t.Arrow "->"
+    ∷ kind t.DoubleColon "::"
+    ∷ kind t.Colon ":"
+    ∷ kind t.Semi ";"
+    ∷ kind t.Comma ","
+    ∷ kind t.Eq "="
+    ∷ kind t.FatArrow "=>"
+    ∷ kind t.LParen "("
+    ∷ kind t.RParen ")"
+    ∷ kind t.LBracket "["
+    ∷ kind t.RBracket "]"
+    ∷ kind t.LBrace "{"
+    ∷ kind t.RBrace "}"
+    ∷ kind t.LAngle "<"
+    ∷ kind t.RAngle ">"
+    ∷ kind t.DecLiteral "2"
+    ∷ kind t.HexLiteral "0x2"
+    ∷ kind t.BinLiteral "0b1"
+    ∷ kind t.Jet "jet::x"
+    ∷ kind t.Witness "witness::x"
+    ∷ kind t.Param "param::x"
+    ∷ name t.Left "Left"
+    ∷ name t.Right "Right"
+    ∷ name t.Some "Some"
+    ∷ name t.None "None"
+    ∷ name t.Either "Either"
+    ∷ name t.Option "Option"
+    ∷ name t.List "List"
+    ∷ name t.unwrap-left "unwrap_left"
+    ∷ name t.unwrap-right "unwrap_right"
+    ∷ name t.array-fold "array_fold"
+    ∷ name t.for-while "for_while"
+    ∷ name t.is-none "is_none"
+    ∷ name t.unwrap "unwrap"
+    ∷ name t.assert "assert"
+    ∷ name t.panic "panic"
+    ∷ name t.into "into"
+    ∷ name t.fold "fold"
+    ∷ name t.dbg "dbg"
+    ∷ name t.raw-hash "raw_hash"
+    ∷ macro t.assert! "assert!"
+    ∷ macro t.panic! "panic!"
+    ∷ macro t.dbg! "dbg!"
+    ∷ macro t.list! "list!"
+    ∷ boolean t.false "false"
+    ∷ boolean t.true "true"
+    ∷ []
+
+-- The kinds whose words have classes of their own.
+abbrev pub wordKinds : List ℕ
+wordKinds = t.Bool ∷ t.Ident ∷ t.Macro ∷ []
+
+-- Numbers up to the last class that no token has: `simc` is refused, each boolean and each macro has a class of its own, and `match` is always the
+-- keyword.
+unfoldable pub neverGiven : List ℕ
+neverGiven = t.Simc ∷ t.Bool ∷ t.Macro ∷ classOf t.Ident (ascii "match") ∷ []
+
+-- The classes of tokens.
+unfoldable pub given : ℕ → Bool
+given c = leb t.Pub c && leb c t.true && not (oneOf neverGiven c)
+
+-- each of them is one
+abbrev pub Given : List ℕ → Type 0
+Given cs = (c : ℕ) → List·Memᴰ c cs → T (given c)
+
+-- the sample of a class, a plain name where there is none
+unfoldable pub sampleIn : List Sample → ℕ → Sample
+sampleIn [] c = kind t.Ident "x"
+sampleIn (s ∷ ss) c = cond (eqb (s .class) c) s (sampleIn ss c)
+
+abbrev pub sampleOf : ℕ → Sample
+sampleOf = sampleIn samples
+
+-- A draft with a token of each of these classes, in this order.
+abbrev pub pieceOf : Sample → Piece
+pieceOf s = spaced (s .kind) (ascii (s .text))
+
+unfoldable pub draftOf : List ℕ → List ℕ
+draftOf cs = joined (map (λ c. pieceOf (sampleOf c)) cs)
