@@ -1,8 +1,8 @@
 -- Each class that tokens have is that of its sample, and the class of a word is that of one text alone; so there is a draft for every list of classes.
 -- Assumes nothing.
 use mathlib.Core.Bool.{Bool, true, false, _&&_, _||_, not}
-use mathlib.Core.List.{List, [], _∷_, map, List·Memᴰ, List·Memᴰ·head, List·Memᴰ·tail, List·Memᴰ·not-nil, Memᴰ·of-map, append-nil}
-use mathlib.Core.Logic.{_↔_}
+use mathlib.Core.List.{List, [], _∷_, _++_, map, map-map, map-append, List·Memᴰ, List·Memᴰ·head, List·Memᴰ·tail, List·Memᴰ·not-nil, List·Memᴰ·append-cases, Memᴰ·append-left, Memᴰ·of-map, append-nil}
+use mathlib.Core.Logic.{_↔_, _⊎_, inl, inr}
 use mathlib.Core.Path.{_≡_, refl, sym, ap, ap₂, _∙_, subst}
 use Prim.Native.Nat.{ℕ, _+_, _-_, _≤_, _<_}
 use native.Mathlib.Omega.{arith}
@@ -19,11 +19,11 @@ use Rattle.lexer.specs.Chars.{among, whitespace, lineEnds, plainBytes, b
 use Rattle.lexer.specs.Class.{wordClass, classOf}
 use Rattle.lexer.specs.Classes as t
 use Rattle.lexer.specs.ClassLaws.{or-second, other-class}
-use Rattle.lexer.specs.ClassTexts.{Sample, samples, wordKinds, neverGiven, given, Given, sampleIn, sampleOf, pieceOf, draftOf}
+use Rattle.lexer.specs.ClassTexts.{Sample, samples, wordKinds, neverGiven, given, AllGiven, sampleIn, sampleOf, sampled, draftOf, continuedWith}
 use Rattle.lexer.specs.Lexemes.{token, space, comment, lineComment, inside, closing, blockComment, nameLength, qualified, macro, word, digits, hexadecimal, binary, decimal, marks, mark, noLexeme, lexeme, Token, tokens, lexemes}
 use Rattle.lexer.specs.SameLexeme.{sameLexeme, same-lexeme}
-use Rattle.lexer.specs.TextLaws.{joined-tokens, joined-classes}
-use Rattle.lexer.specs.Texts.{classIn, OneToken, blank, Piece, Sound, Sounds, joined, tokensAt}
+use Rattle.lexer.specs.TextLaws.{token-texts, joined-tokens, joined-each, joined-classes}
+use Rattle.lexer.specs.Texts.{textIn, classIn, OneToken, blank, Piece, Sound, Sounds, spaced, respaced, joined, tokensAt}
 use Rattle.lexer.specs.TokenKinds.{Kind, a-name, a-boolean, a-macro, another, kind-of}
 
 -- ---- the words of the rules
@@ -130,29 +130,59 @@ module _ (c : ℕ) (g : T (given c)) where
 
 -- ---- drafts of classes
 
-space-blank : (s : Sample) → (0 < length (pieceOf s .between)) × (blank (pieceOf s .between) ≡ true)
+space-sound : {k : ℕ} {w : List ℕ} → OneToken k w → Sound (spaced k w)
 unfolding blank among whitespace ascii asciiFrom
-space-blank s = (omega arith, refl)
+space-sound o = record { one = o; apart = omega arith; white = refl }
 
-abbrev pieces : List ℕ → List Piece
-pieces cs = map (λ c. pieceOf (sampleOf c)) cs
+sampled-sound : (cs : List ℕ) → AllGiven cs → Sounds (map sampled cs)
+sampled-sound cs g p m = let r = Memᴰ·of-map sampled cs m in subst Sound (r .2) (space-sound (sample-token (r .0) (g (r .0) (r .1))))
 
-pieces-sound : (cs : List ℕ) → Given cs → Sounds (pieces cs)
-pieces-sound cs g p m =
-    let r = Memᴰ·of-map (λ c. pieceOf (sampleOf c)) cs m in
-    let b = space-blank (sampleOf (r .0)) in
-    subst Sound (r .2) (record { one = sample-token (r .0) (g (r .0) (r .1)); apart = b .0; white = b .1 })
-
-pieces-classes : (cs : List ℕ) → Given cs → map (λ p. classOf (p .kind) (p .text)) (pieces cs) ≡ cs
-pieces-classes [] g = refl
-pieces-classes (c ∷ cs) g = ap₂ (λ x l. x ∷ l) (sample-class c (g c (List·Memᴰ·head refl))) (pieces-classes cs (λ e m. g e (List·Memᴰ·tail m)))
+sampled-classes : (cs : List ℕ) → AllGiven cs → map (λ c. classOf (sampleOf c .kind) (ascii (sampleOf c .text))) cs ≡ cs
+sampled-classes [] g = refl
+sampled-classes (c ∷ cs) g = ap₂ (λ x l. x ∷ l) (sample-class c (g c (List·Memᴰ·head refl))) (sampled-classes cs (λ e m. g e (List·Memᴰ·tail m)))
 
 -- For every list of classes that tokens have there is a draft whose tokens have exactly these.
-pub drafted : (cs : List ℕ) → Given cs → (ts : List Token) × (lexemes (draftOf cs) ≡ tokens ts) × (map (classIn (draftOf cs)) ts ≡ cs)
+pub drafted : (cs : List ℕ) → AllGiven cs → (ts : List Token) × (lexemes (draftOf cs) ≡ tokens ts) × (map (classIn (draftOf cs)) ts ≡ cs)
 unfolding draftOf
 drafted cs g =
-    let s = pieces-sound cs g in (
-      tokensAt 0 (pieces cs),
-      joined-tokens (pieces cs) s,
-      ap (λ d. map (classIn d) (tokensAt 0 (pieces cs))) (sym (append-nil (joined (pieces cs)))) ∙ joined-classes (pieces cs) s [] ∙ pieces-classes cs g,
-    )
+    let ps = map sampled cs in
+    let s = sampled-sound cs g in
+    (tokensAt 0 ps, joined-tokens ps s, ap (λ d. map (classIn d) (tokensAt 0 ps)) (sym (append-nil (joined ps))) ∙ joined-classes ps s [] ∙ map-map (λ p. classOf (p .kind) (p .text)) sampled cs ∙ sampled-classes cs g)
+
+-- ---- the first tokens of a draft, continued
+
+module _ (draft : List ℕ) (front rest : List Token) (e : lexemes draft ≡ tokens (front ++ rest)) (cs : List ℕ) (g : AllGiven cs) where
+  abbrev parts : List Piece
+  parts = map (respaced draft) front ++ map sampled cs
+
+  parts-sound : Sounds parts
+  parts-sound p m = go (List·Memᴰ·append-cases (map (respaced draft) front) m)
+    where
+      go : List·Memᴰ p (map (respaced draft) front) ⊎ List·Memᴰ p (map sampled cs) → Sound p
+      go (inl m) = let r = Memᴰ·of-map (respaced draft) front m in subst Sound (r .2) (space-sound (token-texts draft (front ++ rest) e (r .0) (Memᴰ·append-left rest (r .1))))
+      go (inr m) = sampled-sound cs g p m
+
+  -- what kinds and texts decide
+  parts-each : {A : Type 0} (f : ℕ → List ℕ → A)
+      → map (λ t. f (t .kind) (textIn (joined parts) t)) (tokensAt 0 parts)
+      ≡ map (λ t. f (t .kind) (textIn draft t)) front ++ map (λ c. f (sampleOf c .kind) (ascii (sampleOf c .text))) cs
+  parts-each f =
+      ap (λ d. map (λ t. f (t .kind) (textIn d t)) (tokensAt 0 parts)) (sym (append-nil (joined parts)))
+      ∙ joined-each f parts parts-sound []
+      ∙ map-append (λ p. f (p .kind) (p .text)) (map (respaced draft) front) (map sampled cs)
+      ∙ ap₂ (λ x y. x ++ y) (map-map (λ p. f (p .kind) (p .text)) (respaced draft) front) (map-map (λ p. f (p .kind) (p .text)) sampled cs)
+
+  -- The first tokens of a draft can be continued by tokens of any classes that tokens have: there is a draft whose tokens are those, with the same
+  -- kinds, texts and classes, and then tokens of exactly these classes.
+  pub continued : (ts : List Token) × (lexemes (continuedWith draft front cs) ≡ tokens ts)
+      × (map (λ t. t .kind) ts ≡ map (λ t. t .kind) front ++ map (λ c. sampleOf c .kind) cs)
+      × (map (textIn (continuedWith draft front cs)) ts ≡ map (textIn draft) front ++ map (λ c. ascii (sampleOf c .text)) cs)
+      × (map (classIn (continuedWith draft front cs)) ts ≡ map (classIn draft) front ++ cs)
+  unfolding continuedWith classIn
+  continued = (
+    tokensAt 0 parts,
+    joined-tokens parts parts-sound,
+    parts-each (λ k w. k),
+    parts-each (λ k w. w),
+    parts-each classOf ∙ ap (λ l. map (λ t. classOf (t .kind) (textIn draft t)) front ++ l) (sampled-classes cs g),
+  )

@@ -2,7 +2,7 @@
 -- and that a draft can be written for every list of classes.
 -- Assumes nothing.
 use mathlib.Core.Bool.{Bool, cond, _&&_, not}
-use mathlib.Core.List.{List, [], _∷_, map, List·Memᴰ}
+use mathlib.Core.List.{List, [], _∷_, _++_, map, List·Memᴰ}
 use Prim.Native.Nat.{ℕ}
 use Prim.Native.String.{String}
 use lib.Dec.{T, eqb, leb}
@@ -10,7 +10,8 @@ use Rattle.text.specs.Ascii.{ascii}
 use Rattle.text.specs.Refusals.{oneOf}
 use Rattle.lexer.specs.Class.{classOf}
 use Rattle.lexer.specs.Classes as t
-use Rattle.lexer.specs.Texts.{Piece, spaced, joined}
+use Rattle.lexer.specs.Lexemes.{Token}
+use Rattle.lexer.specs.Texts.{Piece, spaced, respaced, joined}
 
 -- A class, its tokens' kind, and a text that has it.
 pub record Sample : Type 0 where
@@ -110,8 +111,8 @@ unfoldable pub given : ℕ → Bool
 given c = leb t.Pub c && leb c t.true && not (oneOf neverGiven c)
 
 -- each of them is one
-abbrev pub Given : List ℕ → Type 0
-Given cs = (c : ℕ) → List·Memᴰ c cs → T (given c)
+abbrev pub AllGiven : List ℕ → Type 0
+AllGiven cs = (c : ℕ) → List·Memᴰ c cs → T (given c)
 
 -- the sample of a class, a plain name where there is none
 unfoldable pub sampleIn : List Sample → ℕ → Sample
@@ -121,9 +122,14 @@ sampleIn (s ∷ ss) c = cond (eqb (s .class) c) s (sampleIn ss c)
 abbrev pub sampleOf : ℕ → Sample
 sampleOf = sampleIn samples
 
--- A draft with a token of each of these classes, in this order.
-abbrev pub pieceOf : Sample → Piece
-pieceOf s = spaced (s .kind) (ascii (s .text))
+-- its text, and then a space
+abbrev pub sampled : ℕ → Piece
+sampled c = spaced (sampleOf c .kind) (ascii (sampleOf c .text))
 
+-- A draft with a token of each of these classes, in this order,
 unfoldable pub draftOf : List ℕ → List ℕ
-draftOf cs = joined (map (λ c. pieceOf (sampleOf c)) cs)
+draftOf cs = joined (map sampled cs)
+
+-- and one that begins with these tokens of another draft and goes on with tokens of these classes.
+unfoldable pub continuedWith : List ℕ → List Token → List ℕ → List ℕ
+continuedWith draft ts cs = joined (map (respaced draft) ts ++ map sampled cs)

@@ -196,11 +196,15 @@ module _ {A : Type 0} (f : ℕ → List ℕ → A) (d x : List ℕ) where
       let c : drop (i + length w + length g) d ≡ r = sym (drop-drop (length g) (i + length w) d) ∙ ap (drop (length g)) b ∙ drop-append-seam g r in
       ap₂ (λ y ys. y ∷ ys) (ap (f (p .kind)) e) (texts-at ps (λ q k. s q (List·Memᴰ·tail k)) (i + length w + length g) c)
 
--- The tokens of texts joined have those texts,
-pub joined-texts : (ps : List Piece) → Sounds ps → (x : List ℕ) → map (textIn (joined ps ++ x)) (tokensAt 0 ps) ≡ map (λ p. p .text) ps
-joined-texts ps s x = texts-at (λ k w. w) (joined ps ++ x) x ps s 0 refl
+-- What kinds and texts decide is the same of the tokens of texts joined: their texts themselves,
+pub joined-each : {A : Type 0} (f : ℕ → List ℕ → A) (ps : List Piece) → Sounds ps → (x : List ℕ)
+    → map (λ t. f (t .kind) (textIn (joined ps ++ x) t)) (tokensAt 0 ps) ≡ map (λ p. f (p .kind) (p .text)) ps
+joined-each f ps s x = texts-at f (joined ps ++ x) x ps s 0 refl
 
--- and the classes of those texts.
+pub joined-texts : (ps : List Piece) → Sounds ps → (x : List ℕ) → map (textIn (joined ps ++ x)) (tokensAt 0 ps) ≡ map (λ p. p .text) ps
+joined-texts = joined-each (λ k w. w)
+
+-- and their classes.
 pub joined-classes : (ps : List Piece) → Sounds ps → (x : List ℕ) → map (classIn (joined ps ++ x)) (tokensAt 0 ps) ≡ map (λ p. classOf (p .kind) (p .text)) ps
 unfolding classIn
-joined-classes ps s x = texts-at classOf (joined ps ++ x) x ps s 0 refl
+joined-classes = joined-each classOf

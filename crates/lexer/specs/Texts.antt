@@ -53,6 +53,10 @@ Sounds ps = (p : Piece) → List·Memᴰ p ps → Sound p
 abbrev pub spaced : ℕ → List ℕ → Piece
 spaced kind text = record { kind = kind; text = text; between = ascii " " }
 
+-- a token of a draft, and then a space
+abbrev pub respaced : List ℕ → Token → Piece
+respaced draft t = spaced (t .kind) (textIn draft t)
+
 -- The draft that pieces are joined to,
 unfoldable pub joined : List Piece → List ℕ
 joined [] = []
