@@ -3,5 +3,7 @@ pub mod Answer
 pub mod Lines
 pub mod Outcome
 pub mod TokensInOrder
+pub mod Continuations
+pub mod OutcomeLaws
 pub mod Laws
 pub mod Places

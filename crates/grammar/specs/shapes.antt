@@ -6,3 +6,4 @@ pub mod Tables
 pub mod TablesIndex
 pub mod WellShaped
 pub mod Samples
+pub mod TokenClasses

@@ -175,14 +175,12 @@ module _ (draft : List ℕ) (front rest : List Token) (e : lexemes draft ≡ tok
   -- The first tokens of a draft can be continued by tokens of any classes that tokens have: there is a draft whose tokens are those, with the same
   -- kinds, texts and classes, and then tokens of exactly these classes.
   pub continued : (ts : List Token) × (lexemes (continuedWith draft front cs) ≡ tokens ts)
-      × (map (λ t. t .kind) ts ≡ map (λ t. t .kind) front ++ map (λ c. sampleOf c .kind) cs)
-      × (map (textIn (continuedWith draft front cs)) ts ≡ map (textIn draft) front ++ map (λ c. ascii (sampleOf c .text)) cs)
+      × (map {B = ℕ × List ℕ} (λ t. (t .kind, textIn (continuedWith draft front cs) t)) ts ≡ map {B = ℕ × List ℕ} (λ t. (t .kind, textIn draft t)) front ++ map {B = ℕ × List ℕ} (λ c. (sampleOf c .kind, ascii (sampleOf c .text))) cs)
       × (map (classIn (continuedWith draft front cs)) ts ≡ map (classIn draft) front ++ cs)
   unfolding continuedWith classIn
   continued = (
     tokensAt 0 parts,
     joined-tokens parts parts-sound,
-    parts-each (λ k w. k),
-    parts-each (λ k w. w),
+    parts-each {A = ℕ × List ℕ} (λ k w. (k, w)),
     parts-each classOf ∙ ap (λ l. map (λ t. classOf (t .kind) (textIn draft t)) front ++ l) (sampled-classes cs g),
   )

@@ -16,6 +16,7 @@ use Rattle.theory.specs.Parse.{found}
 use Rattle.lexer.specs.Lexemes.{Token}
 use Rattle.lexer.specs.Limits.{Limits, noToken, tokenWords, tokensOf, bufferOf}
 use Rattle.lexer.specs.Limits as lexer
+use Rattle.lexer.specs.RowLaws as rows
 use Rattle.lexer.specs.Tokens.{lexeme-refused}
 use Rattle.own.specs.Tree.{Tok, Node, Rec, tokens}
 use Rattle.text.specs.Widths.{tokWide, recWide}
@@ -34,29 +35,9 @@ use Rattle.grammar.specs.records.Faults.{faultOf}
 use Rattle.grammar.specs.records.FaultNumbers.{fault-numbers}
 use Rattle.grammar.specs.spelled.RecordLaws.{is-right}
 use Rattle.grammar.specs.answers.Answer.{toksOf, startOf, treesOf, recordsFor, read, reading, answer, content, tokensRead, recordsIn, tokenBuffer, recordsRead, treeBuffer}
-use Rattle.grammar.specs.answers.Outcome.{Within, Shaped, Refusal, too-long, no-lexeme, too-many, too-deep, misshapen, faulted, no-room, Accepted, refused-exactly, accepted-exactly, lexed-within, read-faultless}
+use Rattle.grammar.specs.answers.Outcome.{Shaped, Misshapen, Refusal, too-long, bad-bytes, too-many, too-deep, misshapen, faulted, no-room, Accepted, Written}
+use Rattle.grammar.specs.answers.OutcomeLaws.{refused-exactly, accepted-exactly, lexed-within, read-faultless}
 use Rattle.grammar.specs.answers.TokensInOrder.{tokens-in-order, toks-length, classes-length, token-words-length, record-words-length, tokens-read-back}
-
--- What stands in the two buffers of an accepted draft: "tokens and tree written, zeros after them".
-pub record Written (tw rw : ℕ) (ts : List Token) (rs : List Rec) (tb rb : List ℕ) : Type 0 where
-  pub token-words : tb ≡ tokenWords ts ++ replicate (tw - tokWide * length ts) 0
-  pub record-words : rb ≡ recWords rs ++ replicate (rw - recWide * length rs) 0
-
--- Refusal 8 in terms of the draft's tokens: token number `at` is the refused one; as many as there are tokens stands for the end.
-pub record Misshapen (en : Entry) (l : Limits) (draft : List ℕ) (tw p : ℕ) : Type 0 where
-  pub its-tokens : List Token
-  pub within : Within l draft tw its-tokens
-  pub at : ℕ
-  pub there : at ≤ length its-tokens
-  -- "its start, or the length at the end"
-  pub at-token : at < length its-tokens → p ≡ getD its-tokens at noToken .start
-  pub at-end : at ≡ length its-tokens → p ≡ length draft
-  -- "the tokens before this one can be continued to a well-shaped draft,
-  pub before : (more : List ℕ) × WellShaped en (take at (classesOf (toksOf draft its-tokens)) ++ more)
-  -- but not with this one";
-  pub further : at < length its-tokens → (more : List ℕ) → WellShaped en (take (suc at) (classesOf (toksOf draft its-tokens)) ++ more) → ⊥
-  -- and at the end the tokens themselves are not well-shaped.
-  pub ended : at ≡ length its-tokens → WellShaped en (classesOf (toksOf draft its-tokens)) → ⊥
 
 -- Right trees are owned as each entry promises, and then there are no more records than it says.
 owned-at : (en : Entry) (len : ℕ) (ns : List Node) → Right ns → Owned en len (tokens ns) (recordsOf en len ns)
@@ -64,22 +45,6 @@ owned-at oneFunction len ns r = kinds.law-3 ns r
 
 few-owned : (en : Entry) (len : ℕ) (ts : List Tok) (rs : List Rec) → Owned en len ts rs → length rs ≤ over en + length ts
 few-owned oneFunction len ts rs o = omega (arith, o .few)
-
-module _ (draft : List ℕ) (ts : List Token) (k : ℕ) where
-  start-token : k < length ts → startOf draft ts k ≡ getD ts k noToken .start
-  unfolding startOf
-  start-token h = simp (lt-ltb _ _ h)
-
-  start-end : k ≡ length ts → startOf draft ts k ≡ length draft
-  unfolding startOf
-  start-end h = simp (le-ltb k (length ts) (omega arith))
-
-  start-is : (p : ℕ) → k ≤ length ts → (k < length ts → p ≡ getD ts k noToken .start) → (k ≡ length ts → p ≡ length draft) → startOf draft ts k ≡ p
-  start-is p h f g = go (decLt k (length ts))
-    where
-      go : Dec (k < length ts) → startOf draft ts k ≡ p
-      go (yes q) = start-token q ∙ sym (f q)
-      go (no q) = let e : k ≡ length ts = omega arith in start-end e ∙ sym (g e)
 
 module _ (en : Entry) (l : Limits) (draft : List ℕ) (tw rw : ℕ) where
   -- Law 1. "An accepted draft, to which no row below applies": accepted exactly when the draft lexes, is within the limits, some shape
@@ -131,39 +96,17 @@ module _ (en : Entry) (l : Limits) (draft : List ℕ) (tw rw : ℕ) where
   -- a row with the number of row 8 is row 8
   row-misshapen : {c p : ℕ} → Refusal en l draft tw rw c p → c ≡ refusal.Misshapen → Misshapen en l draft tw p
   row-misshapen (too-long h) q = absurd (omega arith)
-  row-misshapen (no-lexeme {c = c} {p = p} h e) q = absurd (subst (λ n. T (oneOf refusal.ofBytes n)) q (lexeme-refused draft c p e .0))
+  row-misshapen (bad-bytes {c = c} {p = p} h e) q = absurd (subst (λ n. T (oneOf refusal.ofBytes n)) q (lexeme-refused draft c p (rows.refused-exactly draft c p .1 e) .0))
   row-misshapen (too-many h e k) q = absurd (omega arith)
   row-misshapen (too-deep h e k f) q = absurd (omega arith)
-  row-misshapen (misshapen {ts = ts} {k = k} w f) q =
-      let n = classes-length draft ts in
-      let t = f .within in
-      record {
-        its-tokens = ts;
-        within = w;
-        at = k;
-        there = omega arith;
-        at-token = start-token draft ts k;
-        at-end = start-end draft ts k;
-        before = f .before;
-        further = λ h. f .further (omega arith);
-        ended = λ h. f .ended (omega arith);
-      }
+  row-misshapen (misshapen w) q = w
   row-misshapen (faulted {ts = ts} {r = r} {f = f} s e) q = absurd (subst (λ n. T (oneOf refusal.ofShapes n)) q (fault-numbers draft (toksOf draft ts) r f e))
   row-misshapen (no-room s e h) q = absurd (omega arith)
-
-  of-misshapen : (p : ℕ) → Misshapen en l draft tw p → Refusal en l draft tw rw refusal.Misshapen p
-  of-misshapen p w =
-      let ts = w .its-tokens in
-      let n = classes-length draft ts in
-      let t = w .there in
-      let f : FirstWrong shapes (startEx en) (classesOf (toksOf draft ts)) (w .at) =
-      record { within = omega arith; before = w .before; further = λ h. w .further (omega arith); ended = λ h. w .ended (omega arith) } in
-      subst (λ (q : ℕ). Refusal en l draft tw rw refusal.Misshapen q) (start-is draft ts (w .at) p t (w .at-token) (w .at-end)) (misshapen (w .within) f)
 
   -- Law 2. Row 8, both halves: "the tokens before this one can be continued to a well-shaped draft, but not with this one", at "its
   -- start, or the length at the end". "In 8, limits and refusals 9 to 14 are left aside."
   pub law-2 : (p : ℕ) → (answer en l draft tw rw ≡ refused refusal.Misshapen p) ↔ Misshapen en l draft tw p
-  law-2 p = ((λ e. row-misshapen (refused-exactly en l draft tw rw refusal.Misshapen p .0 e) refl), λ w. refused-exactly en l draft tw rw refusal.Misshapen p .1 (of-misshapen p w))
+  law-2 p = ((λ e. row-misshapen (refused-exactly en l draft tw rw refusal.Misshapen p .0 e) refl), λ w. refused-exactly en l draft tw rw refusal.Misshapen p .1 (misshapen w))
 
   -- Law 4. "A refusal: [..] every word of both buffers 0."
   pub law-4-refused : (c p : ℕ) → answer en l draft tw rw ≡ refused c p → (tokenBuffer en l draft tw rw ≡ replicate tw 0) × (treeBuffer en l draft tw rw ≡ replicate rw 0)
@@ -259,9 +202,9 @@ module _ (en : Entry) (l : Limits) (draft : List ℕ) (tw rw : ℕ) where
     where
       row-no-room : {c q : ℕ} → Refusal en l draft tw rw c q → c ≡ refusal.NoRoom → ⊥
       row-no-room (too-long x) y = omega arith
-      row-no-room (no-lexeme {c = c} {p = q} x e) y = subst (λ n. T (oneOf refusal.ofBytes n)) y (lexeme-refused draft c q e .0)
+      row-no-room (bad-bytes {c = c} {p = q} x e) y = subst (λ n. T (oneOf refusal.ofBytes n)) y (lexeme-refused draft c q (rows.refused-exactly draft c q .1 e) .0)
       row-no-room (too-many x e k) y = omega arith
       row-no-room (too-deep x e k f) y = omega arith
-      row-no-room (misshapen w f) y = omega arith
+      row-no-room (misshapen w) y = omega arith
       row-no-room (faulted {ts = ts} {r = r} {f = f} s e) y = subst (λ n. T (oneOf refusal.ofShapes n)) y (fault-numbers draft (toksOf draft ts) r f e)
       row-no-room (no-room {ts = ts} {r = r} s e x) y = let z = few-records ts r s e in let w = s .within .few in omega arith

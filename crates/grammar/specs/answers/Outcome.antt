@@ -1,30 +1,25 @@
--- When the reader accepts and when it refuses, row by row in document 01's order of refusals, and that `answer` is just that:
--- "Refusal 1 is tested first; of 2 to 5 the earliest place wins; then 6, 7 and 8 in turn, each over all tokens; of 9 to 14 the
--- earliest place; last 15."
--- Assumes nothing.
-use mathlib.Core.Bool.{Bool, true, false, cond}
-use mathlib.Core.List.{List}
-use mathlib.Core.Logic.{_↔_}
-use mathlib.Core.Option.{Option, none, some}
-use mathlib.Core.Path.{_≡_, refl, sym, ap, ap₂, _∙_, subst}
-use Prim.Native.Nat.{ℕ, _*_, _≤_, _<_}
-use native.Mathlib.Omega.{arith}
-use borrow.Author.Tests.{ltb-true, ltb-false, lt-ltb, le-ltb}
-use lib.Dec.{ltb}
-use lib.ListN.{length, getD}
-use Rattle.theory.specs.Ebnf.{Items, yield, FirstWrong}
-use Rattle.theory.specs.Parse.{Found, found, stuck}
-use Rattle.lexer.specs.Lexemes.{Token, Lexemes, tokens, refusedAt, lexemes}
-use Rattle.lexer.specs.Limits.{Limits, tooDeep, room, noToken, deep, judged, lexedOf, tokensOf}
+-- When the reader accepts and when it refuses, row by row in document 01's order of refusals: "Refusal 1 is tested first; of 2 to 5 the earliest
+-- place wins; then 6, 7 and 8 in turn, each over all tokens; of 9 to 14 the earliest place; last 15."
+-- Assumes nothing: these are definitions. That `answer` is just that stands in OutcomeLaws.antt.
+use mathlib.Core.List.{List, _++_, map}
+use mathlib.Core.Option.{none, some}
+use mathlib.Core.Path.{_≡_}
+use Prim.Native.Nat.{ℕ, suc, _-_, _*_, _≤_, _<_}
+use lib.ListN.{length, getD, take, replicate}
+use Rattle.theory.specs.Ebnf.{Items, yield}
+use Rattle.lexer.specs.Lexemes.{Token, tokens, lexemes}
+use Rattle.lexer.specs.Limits.{Limits, tooDeep, room, noToken, tokenWords}
+use Rattle.lexer.specs.Rows.{Earliest}
+use Rattle.lexer.specs.Texts.{textIn}
+use Rattle.own.specs.Tree.{Rec}
+use Rattle.own.specs.Words.{recWords}
 use Rattle.text.specs.Widths.{tokWide, recWide}
-use Rattle.text.specs.Answers.{Answer, accepted, refused}
 use Rattle.text.specs.Refusals as refusal
-use Rattle.grammar.specs.shapes.Shapes.{shapes}
-use Rattle.grammar.specs.Entry.{Entry, startEx}
-use Rattle.grammar.specs.shapes.WellShaped.{Shape, shapeOf, shape-exactly, stuck-shape-exactly}
+use Rattle.grammar.specs.Entry.{Entry}
+use Rattle.grammar.specs.shapes.WellShaped.{Shape, WellShaped}
 use Rattle.grammar.specs.records.Faults.{Fault, faultOf}
 use Rattle.grammar.specs.spelled.TreeTokens.{classesOf}
-use Rattle.grammar.specs.answers.Answer.{toksOf, startOf, recordsFor, Reading, unread, read, faulty, shaped, lexed, reading, fitted, answer}
+use Rattle.grammar.specs.answers.Answer.{toksOf, startOf, recordsFor}
 
 -- The draft lexes to these tokens, within the limits: no refusal of the lexer's.
 pub record Within (l : Limits) (draft : List ℕ) (tw : ℕ) (ts : List Token) : Type 0 where
@@ -40,20 +35,47 @@ pub record Shaped (en : Entry) (l : Limits) (draft : List ℕ) (tw : ℕ) (ts : 
   pub is-shape : Shape en r
   pub its-yield : yield r ≡ classesOf (toksOf draft ts)
 
+-- Tokens as what they are in any draft: their kinds and texts.
+abbrev pub spelled : List ℕ → List Token → List (ℕ × List ℕ)
+spelled draft ts = map (λ t. (t .kind, textIn draft t)) ts
+
+-- Tokens "can be continued to a well-shaped draft": there is one whose first tokens they are.
+pub record Continued (en : Entry) (these : List (ℕ × List ℕ)) : Type 0 where
+  pub draft : List ℕ
+  pub its-tokens : List Token
+  pub lexes : lexemes draft ≡ tokens its-tokens
+  pub begins : take (length these) (spelled draft its-tokens) ≡ these
+  pub well-shaped : WellShaped en (classesOf (toksOf draft its-tokens))
+
+-- Row 8: "In 8, limits and refusals 9 to 14 are left aside."
+pub record Misshapen (en : Entry) (l : Limits) (draft : List ℕ) (tw p : ℕ) : Type 0 where
+  pub its-tokens : List Token
+  pub within : Within l draft tw its-tokens
+  -- the number of the token, as many as there are tokens for the end
+  pub at : ℕ
+  pub there : at ≤ length its-tokens
+  -- "its start, or the length at the end"
+  pub place : p ≡ startOf draft its-tokens at
+  -- "the tokens before this one can be continued to a well-shaped draft,
+  pub before : Continued en (take at (spelled draft its-tokens))
+  -- but not with this one"; at the end they are no well-shaped draft themselves
+  pub further : at < length its-tokens → Continued en (take (suc at) (spelled draft its-tokens)) → ⊥
+  pub ended : at ≡ length its-tokens → WellShaped en (classesOf (toksOf draft its-tokens)) → ⊥
+
 -- Refused: one case a row, or one for rows that are told apart by what is found, each with no row before it.
 pub data Refusal (en : Entry) (l : Limits) (draft : List ℕ) (tw rw : ℕ) : ℕ → ℕ → Type 0 where
   -- 1: "draft over 16,384 bytes"
   too-long : l .bytes < length draft → Refusal en l draft tw rw refusal.TooLong (l .bytes)
   -- those of the bytes: "of 2 to 5 the earliest place wins"
-  no-lexeme : {c p : ℕ} → length draft ≤ l .bytes → lexemes draft ≡ refusedAt c p → Refusal en l draft tw rw c p
+  bad-bytes : {c p : ℕ} → length draft ≤ l .bytes → Earliest draft c p → Refusal en l draft tw rw c p
   -- 6: "over 2,048 tokens, or over a third of the token buffer's words", at the "first token too many"
   too-many : {ts : List Token} → length draft ≤ l .bytes → lexemes draft ≡ tokens ts → room l tw < length ts
       → Refusal en l draft tw rw refusal.TooMany (getD ts (room l tw) noToken .start)
   -- 7: "over 48 brackets open, or over 8 `match` tokens in a row", at "the token that passes it"
   too-deep : {ts : List Token} {p : ℕ} → length draft ≤ l .bytes → lexemes draft ≡ tokens ts → length ts ≤ room l tw → tooDeep 0 0 ts ≡ some p
       → Refusal en l draft tw rw refusal.TooDeep p
-  -- 8: "the tokens before this one can be continued to a well-shaped draft, but not with this one", at "its start, or the length at the end"
-  misshapen : {ts : List Token} {k : ℕ} → Within l draft tw ts → FirstWrong shapes (startEx en) (classesOf (toksOf draft ts)) k → Refusal en l draft tw rw refusal.Misshapen (startOf draft ts k)
+  -- 8, both halves
+  misshapen : {p : ℕ} → Misshapen en l draft tw p → Refusal en l draft tw rw refusal.Misshapen p
   -- those of the shapes: "of 9 to 14 the earliest place"
   faulted : {ts : List Token} {r : Items} {f : Fault} → Shaped en l draft tw ts r → faultOf draft (toksOf draft ts) r ≡ some f → Refusal en l draft tw rw (f .number) (f .place)
   -- 15: "tree buffer under six words a record", at 0
@@ -70,133 +92,7 @@ pub record Accepted (en : Entry) (l : Limits) (draft : List ℕ) (tw rw n m : �
   pub tokens-number : n ≡ length its-tokens
   pub records-number : m ≡ length (recordsFor en draft its-tokens shape)
 
-module _ (en : Entry) (l : Limits) (draft : List ℕ) (tw rw : ℕ) where
-  -- what an answer says
-  abbrev Outcome : Answer → Type 0
-  Outcome (accepted n m) = Accepted en l draft tw rw n m
-  Outcome (refused c p) = Refusal en l draft tw rw c p
-
-  module _ (ts : List Token) (short : length draft ≤ l .bytes) (lexes : lexemes draft ≡ tokens ts) (h : length ts ≤ room l tw) where
-    is-within : tooDeep 0 0 ts ≡ none → Within l draft tw ts
-    unfolding room
-    is-within e = record { short = short; lexes = lexes; few = omega arith; third = omega arith; shallow = e }
-
-  module _ (ts : List Token) (r : Items) (s : Shaped en l draft tw ts r) where
-    says-fitted : faultOf draft (toksOf draft ts) r ≡ none → Outcome (fitted rw (read ts (recordsFor en draft ts r)))
-    says-fitted e = go (ltb rw (recWide * length (recordsFor en draft ts r))) refl
-      where
-        go : (b : Bool) → ltb rw (recWide * length (recordsFor en draft ts r)) ≡ b
-            → Outcome (cond b (refused refusal.NoRoom 0) (accepted (length ts) (length (recordsFor en draft ts r))))
-        go true q = no-room s e (ltb-true _ _ q)
-        go false q =
-            record { its-tokens = ts; shape = r; shaped = s; no-fault = e; fits = ltb-false _ _ q; tokens-number = refl; records-number = refl }
-
-    says-faulty : (o : Option Fault) → faultOf draft (toksOf draft ts) r ≡ o → Outcome (fitted rw (faulty o ts (recordsFor en draft ts r)))
-    says-faulty none e = says-fitted e
-    says-faulty (some f) e = faulted s e
-
-  says-shaped : (ts : List Token) → Within l draft tw ts → (x : Found) → shapeOf en (classesOf (toksOf draft ts)) ≡ x → Outcome (fitted rw (shaped en draft ts x))
-  says-shaped ts w (stuck k) e = misshapen w (stuck-shape-exactly en (classesOf (toksOf draft ts)) k .0 e)
-  says-shaped ts w (found r) e =
-      let m = shape-exactly en (classesOf (toksOf draft ts)) r .0 e in
-      says-faulty ts r (record { within = w; is-shape = m .0; its-yield = m .1 }) (faultOf draft (toksOf draft ts) r) refl
-
-  says-deep : (ts : List Token) → length draft ≤ l .bytes → lexemes draft ≡ tokens ts → length ts ≤ room l tw → (o : Option ℕ) → tooDeep 0 0 ts ≡ o
-      → Outcome (fitted rw (lexed en (deep o (length ts)) draft ts))
-  says-deep ts short e h none q = says-shaped ts (is-within ts short e h q) (shapeOf en (classesOf (toksOf draft ts))) refl
-  says-deep ts short e h (some p) q = too-deep short e h q
-
-  says-judged : (x : Lexemes) → length draft ≤ l .bytes → lexemes draft ≡ x → Outcome (fitted rw (lexed en (judged l tw x) draft (tokensOf x)))
-  says-judged (refusedAt c p) short e = no-lexeme short e
-  says-judged (tokens ts) short e = go (ltb (room l tw) (length ts)) refl
-    where
-      go : (b : Bool) → ltb (room l tw) (length ts) ≡ b
-          → Outcome (fitted rw (lexed en (cond b (refused refusal.TooMany (getD ts (room l tw) noToken .start)) (deep (tooDeep 0 0 ts) (length ts))) draft ts))
-      go true q = too-many short e (ltb-true _ _ q)
-      go false q = says-deep ts short e (ltb-false _ _ q) (tooDeep 0 0 ts) refl
-
-  -- The answer is as its rows say.
-  says : Outcome (answer en l draft tw rw)
-  unfolding answer reading lexedOf
-  says = go (ltb (l .bytes) (length draft)) refl
-    where
-      go : (b : Bool) → ltb (l .bytes) (length draft) ≡ b
-          → Outcome (fitted rw (lexed en (cond b (refused refusal.TooLong (l .bytes)) (judged l tw (lexemes draft))) draft (tokensOf (lexemes draft))))
-      go true q = too-long (ltb-true _ _ q)
-      go false q = says-judged (lexemes draft) (ltb-false _ _ q) refl
-
-  -- the lexer's answer decides
-  read-lexed : (x : Answer) → lexedOf l draft tw ≡ x → reading en l draft tw ≡ lexed en x draft (tokensOf (lexemes draft))
-  unfolding reading
-  read-lexed x e = ap (λ y. lexed en y draft (tokensOf (lexemes draft))) e
-
-  whole : length draft ≤ l .bytes → lexedOf l draft tw ≡ judged l tw (lexemes draft)
-  unfolding lexedOf
-  whole h = simp (le-ltb _ _ h)
-
-  first : l .bytes < length draft → lexedOf l draft tw ≡ refused refusal.TooLong (l .bytes)
-  unfolding lexedOf
-  first h = simp (lt-ltb _ _ h)
-
-  counted : (ts : List Token) → length draft ≤ l .bytes → lexemes draft ≡ tokens ts → length ts ≤ room l tw → lexedOf l draft tw ≡ deep (tooDeep 0 0 ts) (length ts)
-  counted ts h e k =
-      whole h ∙ ap (judged l tw) e
-      ∙ ap (λ b. cond b (refused refusal.TooMany (getD ts (room l tw) noToken .start)) (deep (tooDeep 0 0 ts) (length ts))) (le-ltb (room l tw) (length ts) k)
-
-  -- Within the limits the lexer has no refusal;
-  pub lexed-within : (ts : List Token) → Within l draft tw ts → lexedOf l draft tw ≡ accepted (length ts) 0
-  unfolding room
-  lexed-within ts w = counted ts (w .short) (w .lexes) (omega (arith, w .few, w .third)) ∙ ap (λ o. deep o (length ts)) (w .shallow)
-
-  -- the shapes decide,
-  pub read-within : (ts : List Token) → Within l draft tw ts → reading en l draft tw ≡ shaped en draft ts (shapeOf en (classesOf (toksOf draft ts)))
-  read-within ts w =
-      read-lexed (accepted (length ts) 0) (lexed-within ts w)
-      ∙ ap (λ x. shaped en draft (tokensOf x) (shapeOf en (classesOf (toksOf draft (tokensOf x))))) (w .lexes)
-
-  -- and then the refusals of the shapes.
-  pub read-shaped : (ts : List Token) (r : Items) → Shaped en l draft tw ts r → reading en l draft tw ≡ faulty (faultOf draft (toksOf draft ts) r) ts (recordsFor en draft ts r)
-  read-shaped ts r s =
-      read-within ts (s .within) ∙ ap (shaped en draft ts) (shape-exactly en (classesOf (toksOf draft ts)) r .1 (s .is-shape, s .its-yield))
-
-  -- What is read of a draft to which no refusal but the last may apply.
-  pub read-faultless : (ts : List Token) (r : Items) → Shaped en l draft tw ts r → faultOf draft (toksOf draft ts) r ≡ none → reading en l draft tw ≡ read ts (recordsFor en draft ts r)
-  read-faultless ts r s e = read-shaped ts r s ∙ ap (λ o. faulty o ts (recordsFor en draft ts r)) e
-
-  by-reading : (x : Reading) → reading en l draft tw ≡ x → answer en l draft tw rw ≡ fitted rw x
-  unfolding answer
-  by-reading x e = ap (fitted rw) e
-
-  refused-only : {c p : ℕ} → Refusal en l draft tw rw c p → answer en l draft tw rw ≡ refused c p
-  refused-only (too-long h) = by-reading (unread refusal.TooLong (l .bytes)) (read-lexed (refused refusal.TooLong (l .bytes)) (first h))
-  refused-only (no-lexeme {c = c} {p = p} h e) = by-reading (unread c p) (read-lexed (refused c p) (whole h ∙ ap (judged l tw) e))
-  refused-only (too-many {ts = ts} h e k) =
-      by-reading (unread refusal.TooMany (getD ts (room l tw) noToken .start))
-      (read-lexed (refused refusal.TooMany (getD ts (room l tw) noToken .start))
-      (whole h ∙ ap (judged l tw) e
-      ∙ ap (λ b. cond b (refused refusal.TooMany (getD ts (room l tw) noToken .start)) (deep (tooDeep 0 0 ts) (length ts))) (lt-ltb (room l tw) (length ts) k)))
-  refused-only (too-deep {ts = ts} {p = p} h e k q) =
-      by-reading (unread refusal.TooDeep p) (read-lexed (refused refusal.TooDeep p) (counted ts h e k ∙ ap (λ o. deep o (length ts)) q))
-  refused-only (misshapen {ts = ts} {k = k} w f) =
-      by-reading (unread refusal.Misshapen (startOf draft ts k)) (read-within ts w ∙ ap (shaped en draft ts) (stuck-shape-exactly en (classesOf (toksOf draft ts)) k .1 f))
-  refused-only (faulted {ts = ts} {r = r} {f = f} s e) =
-      by-reading (unread (f .number) (f .place)) (read-shaped ts r s ∙ ap (λ o. faulty o ts (recordsFor en draft ts r)) e)
-  refused-only (no-room {ts = ts} {r = r} s e h) =
-      by-reading (read ts (recordsFor en draft ts r)) (read-faultless ts r s e)
-      ∙ ap (λ b. cond b (refused refusal.NoRoom 0) (accepted (length ts) (length (recordsFor en draft ts r)))) (lt-ltb rw (recWide * length (recordsFor en draft ts r)) h)
-
-  accepted-only : (n m : ℕ) → Accepted en l draft tw rw n m → answer en l draft tw rw ≡ accepted n m
-  accepted-only n m a =
-      let ts = a .its-tokens in
-      let r = a .shape in
-      by-reading (read ts (recordsFor en draft ts r)) (read-faultless ts r (a .shaped) (a .no-fault))
-      ∙ ap (λ b. cond b (refused refusal.NoRoom 0) (accepted (length ts) (length (recordsFor en draft ts r)))) (le-ltb rw (recWide * length (recordsFor en draft ts r)) (a .fits))
-      ∙ ap₂ (λ x y. accepted x y) (sym (a .tokens-number)) (sym (a .records-number))
-
-  -- Refused exactly by one of the rows, each with no row before it: the order of refusals.
-  pub refused-exactly : (c p : ℕ) → (answer en l draft tw rw ≡ refused c p) ↔ Refusal en l draft tw rw c p
-  refused-exactly c p = ((λ e. subst Outcome e says), refused-only)
-
-  -- Accepted exactly when no row applies.
-  pub accepted-exactly : (n m : ℕ) → (answer en l draft tw rw ≡ accepted n m) ↔ Accepted en l draft tw rw n m
-  accepted-exactly n m = ((λ e. subst Outcome e says), accepted-only n m)
+-- What stands in the two buffers of an accepted draft: "tokens and tree written, zeros after them".
+pub record Written (tw rw : ℕ) (ts : List Token) (rs : List Rec) (tb rb : List ℕ) : Type 0 where
+  pub token-words : tb ≡ tokenWords ts ++ replicate (tw - tokWide * length ts) 0
+  pub record-words : rb ≡ recWords rs ++ replicate (rw - recWide * length rs) 0

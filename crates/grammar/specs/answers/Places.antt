@@ -15,6 +15,7 @@ use Rattle.num.specs.Bound.{boundOk, sizeOk}
 use Rattle.theory.specs.Ebnf as shape
 use Rattle.lexer.specs.Lexemes.{Token}
 use Rattle.lexer.specs.Limits.{Limits, noToken, depthAfter, rowAfter, tooDeep, room}
+use Rattle.lexer.specs.RowLaws as rows
 use Rattle.lexer.specs.Tokens.{Between, tokens-between, lexeme-refused}
 use Rattle.own.specs.Tree.{Tok, Items, marks}
 use Rattle.own.specs.Lists.{All, nil, _&_}
@@ -28,7 +29,8 @@ use Rattle.grammar.specs.records.Faults.{Fault, unless, armLows, armsFau
 use Rattle.grammar.specs.records.FaultNumbers.{both, chosen, of-answered}
 use Rattle.grammar.specs.Entry.{Entry}
 use Rattle.grammar.specs.answers.Answer.{toksOf, startOf, answer}
-use Rattle.grammar.specs.answers.Outcome.{Refusal, too-long, no-lexeme, too-many, too-deep, misshapen, faulted, no-room, refused-exactly}
+use Rattle.grammar.specs.answers.Outcome.{Refusal, too-long, bad-bytes, too-many, too-deep, misshapen, faulted, no-room}
+use Rattle.grammar.specs.answers.OutcomeLaws.{refused-exactly}
 
 -- a token of the list starts before the place m
 at-before : (at m : ℕ) (ts : List Token) (k : ℕ) → Between at m ts → k < length ts → getD ts k noToken .start < m
@@ -125,10 +127,10 @@ start-within draft ts k b = go (ltb k (length ts)) refl
 module _ (en : Entry) (l : Limits) (draft : List ℕ) (tw rw : ℕ) where
   row-within : {c p : ℕ} → Refusal en l draft tw rw c p → p ≤ length draft
   row-within (too-long h) = omega arith
-  row-within (no-lexeme {c = c} {p = p} h e) = let z = lexeme-refused draft c p e .1 in omega arith
+  row-within (bad-bytes {c = c} {p = p} h e) = let z = lexeme-refused draft c p (rows.refused-exactly draft c p .1 e) .1 in omega arith
   row-within (too-many {ts = ts} h e k) = let z = at-before 0 (length draft) ts (room l tw) (tokens-between draft ts e) k in omega arith
   row-within (too-deep {ts = ts} {p = p} h e k q) = let z = deep-before 0 (length draft) 0 0 ts p (tokens-between draft ts e) q in omega arith
-  row-within (misshapen {ts = ts} {k = k} w f) = start-within draft ts k (tokens-between draft ts (w .lexes))
+  row-within (misshapen w) = let z = start-within draft (w .its-tokens) (w .at) (tokens-between draft (w .its-tokens) (w .within .lexes)) in let q = w .place in omega arith
   row-within (faulted {ts = ts} {r = r} {f = f} s e) =
       fault-start draft (length draft) (toksOf draft ts) r f (starts-of draft 0 (length draft) ts (tokens-between draft ts (s .within .lexes))) e
   row-within (no-room s e h) = omega arith
