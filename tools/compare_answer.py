@@ -3,12 +3,14 @@
 
 antt computes the definition: the drafts with the partner's listings become one more file of specs/ in a copy of the repository, and the
 check there refuses it if one of them differs.
-    tools/compare_answer.py SEED COUNT LENGTH    COUNT drafts of each kind of rust/partner/drafts.py, of at most LENGTH bytes
-Needs cargo. The copy proves the crates below first, so a run takes some minutes. Run by hand: the gate does not need it.
+    tools/compare_answer.py PARTNER SEED COUNT LENGTH    COUNT drafts of each kind of rust/partner/drafts.py, of at most LENGTH bytes; PARTNER is the
+                                                         partner's program, as `cargo build --package partner` makes it
+What is proved of the crates below is copied too; where nothing is, the copy proves them first, which takes a minute or two.
 """
 import collections, pathlib, shutil, subprocess, sys, tempfile
 
 root = pathlib.Path(__file__).resolve().parent.parent
+PROVED = ("rlib", "stamp")  # where rt keeps what it has proved
 
 
 def cases(stream):
@@ -44,21 +46,22 @@ def spec(rows):
 
 
 def main():
-    seed, count, length = sys.argv[1], int(sys.argv[2]), int(sys.argv[3])
+    partner, seed, count, length = sys.argv[1], sys.argv[2], int(sys.argv[3]), int(sys.argv[4])
     with tempfile.TemporaryDirectory() as folder:
         work = pathlib.Path(folder)
-        cargo = ["cargo", "build", "--manifest-path", root / "rust/Cargo.toml", "--target-dir", root / "target/rust", "--offline", "--release", "--quiet"]
-        subprocess.run([*cargo, "--package", "partner"], check=True)
         drafts = []
         for kind in ("shaped", "damaged", "tokens"):
             stream = subprocess.run([sys.executable, root / "rust/partner/drafts.py", seed, str(20 * count), kind], capture_output=True, check=True).stdout
             drafts += list(dict.fromkeys(d for d in cases(stream) if len(d) <= length))[:count]
         stream = b"".join(b"%d\n%s" % (len(d), d) for d in drafts)
-        listings = cases(subprocess.run([root / "target/rust/release/partner", "--many"], input=stream, capture_output=True, check=True).stdout)
+        listings = cases(subprocess.run([partner, "--many"], input=stream, capture_output=True, check=True).stdout)
         copy = work / "copy"
         copy.mkdir()
         shutil.copy(root / "crates.txt", copy)
         shutil.copytree(root / "crates", copy / "crates")
+        for proved in PROVED:
+            if (root / "target" / proved).exists():
+                shutil.copytree(root / "target" / proved, copy / "target" / proved)
         specs = copy / "crates/grammar/specs"
         (specs / "Partner.antt").write_text(spec([row(*c) for c in zip(drafts, listings)]))
         with (specs / "Lib.antt").open("a") as lib:

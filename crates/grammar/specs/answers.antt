@@ -5,5 +5,6 @@ pub mod Outcome
 pub mod TokensInOrder
 pub mod Continuations
 pub mod OutcomeLaws
+pub mod Promised
 pub mod Laws
 pub mod Places

@@ -11,8 +11,10 @@ use Rattle.own.specs.Words.{recs}
 use Rattle.lines.specs.Lines.{lines}
 use Rattle.lines.specs.Written.{used, padded}
 use Rattle.grammar.specs.Entry.{Entry}
-use Rattle.grammar.specs.answers.Answer.{Answer, refused, Reading, read, reading, answer, recordsFor, recordsIn, treeBuffer, recordsRead}
-use Rattle.grammar.specs.answers.Outcome.{Accepted, Refusal, read-faultless}
+use Rattle.text.specs.Answers.{Answer, refused}
+use Rattle.grammar.specs.answers.Answer.{Reading, read, reading, answer, recordsFor, recordsIn, treeBuffer, recordsRead}
+use Rattle.grammar.specs.answers.Outcome.{Accepted, Refusal}
+use Rattle.grammar.specs.answers.OutcomeLaws.{read-faultless}
 use Rattle.grammar.specs.answers.Laws.{law-1, refusals-in-order, law-4-lengths, handed-over}
 use Rattle.grammar.specs.answers.Lines.{listed, listing}
 use Rattle.reader.specs.Listed.{listingOf, usedOf, bytesOf}

@@ -11,7 +11,7 @@ use Rattle.lines.specs.Hex.{hex, power, last-digits}
 use Rattle.lines.specs.Form.{space, lineOf}
 use Rattle.lines.specs.Lines.{kindDigits, placeDigits, halfDigits, linesOf, lines}
 use Rattle.lines.specs.Written.{used, padded, held, linesIn}
-use Rattle.grammar.specs.answers.Answer.{refused, returned}
+use Rattle.text.specs.Answers.{refused}
 use Rattle.grammar.specs.answers.Lines.{listed, refusalRec}
 
 -- Records that the buffer holds are all listed,
@@ -30,7 +30,7 @@ refusalWords c p = recThen 0 (p % power placeDigits) (p % power placeDigits) c 0
 
 -- are listed as its line;
 refusal-is : (c p : ℕ) → linesIn (refusalWords c p) 1 ≡ lines (listed (refused c p) [])
-unfolding linesIn linesOf lineOf refusalRec returned
+unfolding linesIn linesOf lineOf refusalRec
 refusal-is c p =
     ap
     (λ (f : List ℕ). (hex kindDigits 0 ++ (space ∷ f ++ (space ∷ f ++ (space ∷ lineOf (halfDigits ∷ halfDigits ∷ placeDigits ∷ []) (c ∷ 0 ∷ 1 ∷ []))))) ++ [])

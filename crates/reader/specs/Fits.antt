@@ -1,19 +1,28 @@
--- A buffer of a line for each of 2,048 records has room for the listing of every draft, and no more bytes are used than there are.
+-- A buffer of a line for each of 2,048 records has room for the listing of every draft, no more bytes are used than there are, and none only where it
+-- does not fit.
 -- Assumes nothing.
 use mathlib.Core.Bool.{Bool, true, false, cond}
-use mathlib.Core.List.{List}
-use mathlib.Core.Path.{_≡_, refl, ap}
-use Prim.Native.Nat.{ℕ, _*_, _≤_}
+use mathlib.Core.List.{List, [], _∷_}
+use mathlib.Core.Logic.{_↔_}
+use mathlib.Core.Path.{_≡_, refl, sym, ap, subst, _∙_}
+use Prim.Native.Nat.{ℕ, _*_, _≤_, _<_}
 use native.Mathlib.Omega.{arith}
-use borrow.Author.Tests.{ltb-false, le-ltb}
+use borrow.Author.Tests.{ltb-true, ltb-false, le-ltb}
 use lib.Dec.{ltb}
 use lib.ListN.{length}
-use Rattle.lexer.specs.Limits.{draftLimits}
-use Rattle.own.specs.Tree.{Rec}
+use Rattle.lexer.specs.Limits.{Limits, draftLimits}
+use Rattle.own.specs.Kinds as kind
+use Rattle.own.specs.Tree.{Node, Rec, records}
 use Rattle.text.specs.Widths.{tokWide, recWide}
 use Rattle.text.specs.Refusals as refusal
 use Rattle.grammar.specs.Entry.{oneFunction}
-use Rattle.grammar.specs.answers.Answer.{Answer, accepted, refused, Reading, unread, read, reading, answer, fitted, recordsIn, recordsRead}
+use Rattle.text.specs.Answers.{Answer, accepted, refused}
+use Rattle.grammar.specs.answers.Answer.{toksOf, treesOf, Reading, unread, read, reading, answer, fitted, recordsIn, recordsRead}
+use Rattle.grammar.specs.answers.Outcome.{Accepted}
+use Rattle.grammar.specs.answers.OutcomeLaws.{read-faultless}
+use Rattle.grammar.specs.answers.Laws.{law-1}
+use Rattle.grammar.specs.shapes.WellShaped.{shape-exactly}
+use Rattle.grammar.specs.spelled.TreeTokens.{classesOf, top-function}
 use Rattle.lines.specs.Lines.{lineBytes, lines, lines-length}
 use Rattle.grammar.specs.answers.Lines.{listed, listing}
 use Rattle.reader.specs.Listed.{listingOf, usedOf}
@@ -61,3 +70,45 @@ by-size m size false e = ltb-false size m e
 pub used-within : (draft : List ℕ) {size n : ℕ} → n ≡ usedOf draft size → n ≤ size
 unfolding usedOf
 used-within draft {size} {n} e = let h = by-size (length (listingOf draft)) size (ltb size (length (listingOf draft))) refl in omega (arith, e, h)
+
+-- An accepted draft has a record, that of its function,
+top-counts : (ns : List Node) → (n : Node) × (ns ≡ n ∷ []) × (n .kind ≡ kind.Function) → 1 ≤ length (records ns)
+top-counts ns t = subst (λ (k : List Node). 1 ≤ length (records k)) (sym (t .1)) (omega arith)
+
+some-record : {l : Limits} (draft : List ℕ) {tw rw n m : ℕ} → Accepted oneFunction l draft tw rw n m → 1 ≤ m
+some-record draft a =
+    let ts = toksOf draft (a .its-tokens) in
+    let f = shape-exactly oneFunction (classesOf ts) (a .shape) .1 (a .shaped .is-shape, a .shaped .its-yield) in
+    let h = top-counts (treesOf draft (a .its-tokens) (a .shape)) (top-function draft ts (a .shape) f) in
+    omega (arith, a .records-number)
+
+some-line : (draft : List ℕ) (tw rw : ℕ) (x : Answer) → answer oneFunction draftLimits draft tw rw ≡ x → 1 ≤ length (listed x (recordsRead oneFunction draftLimits draft tw))
+unfolding recordsRead
+some-line draft tw rw (refused c p) e = omega arith
+some-line draft tw rw (accepted n m) e =
+    let a = law-1 oneFunction draftLimits draft tw rw n m .0 e in
+    let f = read-faultless oneFunction draftLimits draft tw rw (a .its-tokens) (a .shape) (a .shaped) (a .no-fault) in
+    let h = some-record draft a in
+    let k : length (recordsIn (reading oneFunction draftLimits draft tw)) ≡ m = ap (λ y. length (recordsIn y)) f ∙ sym (a .records-number) in
+    omega arith
+
+-- so that the listing of every draft has a line,
+pub listing-some : (draft : List ℕ) → 0 < length (listingOf draft)
+unfolding listing
+listing-some draft =
+    let a = answer oneFunction draftLimits draft (tokWide * most) (recWide * most) in
+    let h = some-line draft (tokWide * most) (recWide * most) a refl in
+    let k = lines-length (listed a (recordsRead oneFunction draftLimits draft (tokWide * most))) in
+    omega (arith, h, k)
+
+-- and no byte is used only when it does not fit: "It gets 0, all bytes zero, only when the lines do not fit."
+pub nothing-only : (draft : List ℕ) (size : ℕ) {n : ℕ} → n ≡ usedOf draft size → (n ≡ 0) ↔ (size < length (listingOf draft))
+unfolding usedOf
+nothing-only draft size {n} e = go (ltb size (length (listingOf draft))) refl e
+  where
+    go : (b : Bool) → ltb size (length (listingOf draft)) ≡ b → n ≡ cond b 0 (length (listingOf draft)) → (n ≡ 0) ↔ (size < length (listingOf draft))
+    go true q e = ((λ _. ltb-true size (length (listingOf draft)) q), λ _. e)
+    go false q e =
+        let h = listing-some draft in
+        let k = ltb-false size (length (listingOf draft)) q in
+        ((λ z. absurd (omega arith)), λ z. absurd (omega arith))

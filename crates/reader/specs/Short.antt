@@ -11,12 +11,11 @@ use lib.ListN.{length, getD}
 use Rattle.lexer.specs.Lexemes.{Token, Lexemes, tokens, refusedAt, lexemes}
 use Rattle.lexer.specs.Limits.{Limits, limitsOf, draftLimits, tooDeep, room, noToken, deep, judged, lexedOf, tokensOf}
 use Rattle.lexer.specs.Tokens.{Between, tokens-between}
-use Rattle.lexer.specs.declared.Lexed.{Lexed}
-use Rattle.lexer.specs.declared.Lexed.the-variants.{Tokens, Refused}
 use Rattle.text.specs.Widths.{tokWide, recWide}
 use Rattle.text.specs.Refusals as refusal
 use Rattle.grammar.specs.Entry.{Entry, oneFunction, over}
-use Rattle.grammar.specs.answers.Answer.{Answer, accepted, refused, Reading, unread, read, lexed, reading, answer, fitted, recordsIn, recordsRead}
+use Rattle.text.specs.Answers.{Answer, accepted, refused}
+use Rattle.grammar.specs.answers.Answer.{Reading, unread, read, lexed, reading, answer, fitted, recordsIn, recordsRead}
 use Rattle.grammar.specs.answers.Laws.{space-enough}
 use Rattle.lines.specs.Lines.{lines}
 use Rattle.grammar.specs.answers.Lines.{listed, listing}
@@ -26,8 +25,8 @@ few-tokens at m [] h b = omega arith
 few-tokens at m (u ∷ ts) h b = let n = few-tokens (u .end) m ts (b .2) (b .3) in omega (arith, n, b .0, b .1)
 
 -- What the lexer answers where there is room for every token.
-abbrev roomy : Lexemes → Lexed
-roomy (refusedAt c p) = Refused c p
+abbrev roomy : Lexemes → Answer
+roomy (refusedAt c p) = refused c p
 roomy (tokens ts) = deep (tooDeep 0 0 ts) (length ts)
 
 module _ (draft : List ℕ) (k : ℕ) (short : length draft ≤ k) where
@@ -35,13 +34,13 @@ module _ (draft : List ℕ) (k : ℕ) (short : length draft ≤ k) where
   judged-roomy l tw h (refusedAt c p) e = refl
   judged-roomy l tw h (tokens ts) e =
       let n = few-tokens 0 (length draft) ts (omega arith) (tokens-between draft ts e) in
-      ap (λ (b : Bool). cond b (Refused refusal.TooMany (getD ts (room l tw) noToken .start)) (deep (tooDeep 0 0 ts) (length ts))) (le-ltb (room l tw) (length ts) (omega (arith, n, short, h)))
+      ap (λ (b : Bool). cond b (refused refusal.TooMany (getD ts (room l tw) noToken .start)) (deep (tooDeep 0 0 ts) (length ts))) (le-ltb (room l tw) (length ts) (omega (arith, n, short, h)))
 
   reading-roomy : (en : Entry) (bytes count tw : ℕ) → k ≤ room (limitsOf bytes count) tw
-      → reading en (limitsOf bytes count) draft tw ≡ lexed en (cond (ltb bytes (length draft)) (Refused refusal.TooLong bytes) (roomy (lexemes draft))) draft (tokensOf (lexemes draft))
+      → reading en (limitsOf bytes count) draft tw ≡ lexed en (cond (ltb bytes (length draft)) (refused refusal.TooLong bytes) (roomy (lexemes draft))) draft (tokensOf (lexemes draft))
   unfolding reading lexedOf
   reading-roomy en bytes count tw h =
-      ap (λ (x : Lexed). lexed en (cond (ltb bytes (length draft)) (Refused refusal.TooLong bytes) x) draft (tokensOf (lexemes draft))) (judged-roomy (limitsOf bytes count) tw h (lexemes draft) refl)
+      ap (λ (x : Answer). lexed en (cond (ltb bytes (length draft)) (refused refusal.TooLong bytes) x) draft (tokensOf (lexemes draft))) (judged-roomy (limitsOf bytes count) tw h (lexemes draft) refl)
 
   -- the reading is the same with any limit of tokens and any buffer that have room for k tokens,
   same-reading : (en : Entry) (bytes count tw count' tw' : ℕ) → k ≤ room (limitsOf bytes count) tw → k ≤ room (limitsOf bytes count') tw'

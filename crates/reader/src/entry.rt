@@ -1,14 +1,16 @@
 // The entry for C: the listing of a draft into a buffer of bytes.
 ghost use mathlib.Core.Path.{_≡_};
 ghost use mathlib.Core.List.{[]};
+ghost use mathlib.Core.Logic.{_↔_};
+ghost use Prim.Native.Nat.{_<_};
 ghost use lib.ListN.{length};
 ghost use Rattle.lexer.specs.Limits.{draftLimits};
 ghost use Rattle.lines.specs.Lines.{lines};
 ghost use Rattle.lines.specs.Written.{used, padded};
 ghost use Rattle.grammar.specs.Entry.{oneFunction};
-ghost use Rattle.grammar.specs.answers.Answer.{refused};
+ghost use Rattle.text.specs.Answers.{refused};
 ghost use Rattle.grammar.specs.answers.Lines as spec;
-ghost use Rattle.reader.specs.Listed.{usedOf, bytesOf};
+ghost use Rattle.reader.specs.Listed.{listingOf, usedOf, bytesOf};
 use crate::Reading;
 
 // Room for the lines of every draft, which has no more records than tokens.
@@ -49,6 +51,7 @@ fn list_by(draft: &[u8], out: &mut [u8], tokens: &mut [u32], tree: &mut [u32]) -
 pub extern "C" fn togmelic_list(draft: &[u8], out: &mut [u8]) -> usize
     ensures used { λ r. ⌜ r ≡ usedOf (now (draft .entry)) (length (now (out .entry))) ⌝ }
     ensures bytes { λ _. ⌜ now (out .exit) ≡ bytesOf (now (draft .entry)) (length (now (out .entry))) ⌝ }
+    ensures nothing { λ r. ⌜ (r ≡ 0) ↔ (length (now (out .entry)) < length (listingOf (now (draft .entry)))) ⌝ }
 {
     if draft.len() <= SHORT_BYTES {
         let mut tokens = [0u32; text::TOKEN_WORDS * SHORT_BYTES];

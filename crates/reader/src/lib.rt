@@ -2,12 +2,12 @@
 ghost use mathlib.Core.Path.{_≡_};
 ghost use lib.ListN.{length};
 ghost use Rattle.lexer.specs.Limits.{draftLimits, lexedOf, bufferOf};
-ghost use Rattle.lexer.specs.declared.Lexed.the-variants.{Tokens};
 ghost use Rattle.grammar.specs.Entry.{oneFunction};
+ghost use Rattle.text.specs.Answers.{accepted, values};
 ghost use Rattle.grammar.specs.answers.Answer.{answer, tokenBuffer, treeBuffer};
-ghost use Rattle.reader.specs.Read.{handed, Promised};
+ghost use Rattle.grammar.specs.answers.Promised.{Promised};
+ghost use Rattle.reader.specs.Read.{meant, returned};
 use lexer::Lexed;
-use text::refusal;
 
 pub mod entry;
 
@@ -19,10 +19,10 @@ pub enum Reading {
 
 // Reads a draft: three words a token, six words a record, zeros behind them; on a refusal every word of both buffers is 0.
 pub fn read(draft: &[u8], tokens: &mut [u32], tree: &mut [u32]) -> Reading
-    ensures answer { λ r. ⌜ r ≡ handed (answer oneFunction draftLimits (now (draft .entry)) (length (now (tokens .entry))) (length (now (tree .entry)))) ⌝ }
+    ensures answer { λ r. ⌜ returned r ≡ values (answer oneFunction draftLimits (now (draft .entry)) (length (now (tokens .entry))) (length (now (tree .entry)))) ⌝ }
     ensures tokens { λ _. ⌜ now (tokens .exit) ≡ tokenBuffer oneFunction draftLimits (now (draft .entry)) (length (now (tokens .entry))) (length (now (tree .entry))) ⌝ }
     ensures tree { λ _. ⌜ now (tree .exit) ≡ treeBuffer oneFunction draftLimits (now (draft .entry)) (length (now (tokens .entry))) (length (now (tree .entry))) ⌝ }
-    ensures laws { λ r. ⌜ Promised oneFunction draftLimits (now (draft .entry)) (length (now (tokens .entry))) (length (now (tree .entry))) r (now (tokens .exit)) (now (tree .exit)) ⌝ }
+    ensures laws { λ r. ⌜ Promised oneFunction draftLimits (now (draft .entry)) (length (now (tokens .entry))) (length (now (tree .entry))) (meant r) (now (tokens .exit)) (now (tree .exit)) ⌝ }
 {
     let lexed = lexer::lex(draft, tokens);
     match lexed {
@@ -36,9 +36,9 @@ pub fn read(draft: &[u8], tokens: &mut [u32], tree: &mut [u32]) -> Reading
 
 // The answer of the parser over the tokens that were lexed; on a refusal the tokens are cleared too.
 fn parsed(draft: &[u8], tokens: &mut [u32], count: usize, tree: &mut [u32]) -> Reading
-    requires { ⌜ lexedOf draftLimits (now draft) (length (now tokens)) ≡ Tokens count ⌝ }
+    requires { ⌜ lexedOf draftLimits (now draft) (length (now tokens)) ≡ accepted count 0 ⌝ }
     requires { ⌜ now tokens ≡ bufferOf draftLimits (now draft) (length (now tokens)) ⌝ }
-    ensures answer { λ r. ⌜ r ≡ handed (answer oneFunction draftLimits (now (draft .entry)) (length (now (tokens .entry))) (length (now (tree .entry)))) ⌝ }
+    ensures answer { λ r. ⌜ meant r ≡ answer oneFunction draftLimits (now (draft .entry)) (length (now (tokens .entry))) (length (now (tree .entry))) ⌝ }
     ensures tokens { λ _. ⌜ now (tokens .exit) ≡ tokenBuffer oneFunction draftLimits (now (draft .entry)) (length (now (tokens .entry))) (length (now (tree .entry))) ⌝ }
     ensures tree { λ _. ⌜ now (tree .exit) ≡ treeBuffer oneFunction draftLimits (now (draft .entry)) (length (now (tokens .entry))) (length (now (tree .entry))) ⌝ }
 {
@@ -51,13 +51,6 @@ fn parsed(draft: &[u8], tokens: &mut [u32], count: usize, tree: &mut [u32]) -> R
         parse::Answer::Refused { number, place } => {
             text::clear(tokens);
             Reading::Refused { number, place }
-        }
-        parse::Answer::TooMany => {
-            text::clear(tokens);
-            Reading::Refused {
-                number: refusal::TOO_MANY,
-                place: 0,
-            }
         }
     }
 }

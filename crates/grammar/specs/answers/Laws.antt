@@ -37,6 +37,7 @@ use Rattle.grammar.specs.spelled.RecordLaws.{is-right}
 use Rattle.grammar.specs.answers.Answer.{toksOf, startOf, treesOf, recordsFor, read, reading, answer, content, tokensRead, recordsIn, tokenBuffer, recordsRead, treeBuffer}
 use Rattle.grammar.specs.answers.Outcome.{Shaped, Misshapen, Refusal, too-long, bad-bytes, too-many, too-deep, misshapen, faulted, no-room, Accepted, Written}
 use Rattle.grammar.specs.answers.OutcomeLaws.{refused-exactly, accepted-exactly, lexed-within, read-faultless}
+use Rattle.grammar.specs.answers.Promised.{Promised}
 use Rattle.grammar.specs.answers.TokensInOrder.{tokens-in-order, toks-length, classes-length, token-words-length, record-words-length, tokens-read-back}
 
 -- Right trees are owned as each entry promises, and then there are no more records than it says.
@@ -208,3 +209,16 @@ module _ (en : Entry) (l : Limits) (draft : List ℕ) (tw rw : ℕ) where
       row-no-room (misshapen w) y = omega arith
       row-no-room (faulted {ts = ts} {r = r} {f = f} s e) y = subst (λ n. T (oneOf refusal.ofShapes n)) y (fault-numbers draft (toksOf draft ts) r f e)
       row-no-room (no-room {ts = ts} {r = r} s e x) y = let z = few-records ts r s e in let w = s .within .few in omega arith
+
+-- All laws at once, of any answer and words that are the definition's.
+pub promised : {en : Entry} {l : Limits} {draft : List ℕ} {tw rw : ℕ} {a : Answer} {ts rs : List ℕ} → a ≡ answer en l draft tw rw → ts ≡ tokenBuffer en l draft tw rw → rs ≡ treeBuffer en l draft tw rw
+    → Promised en l draft tw rw a ts rs
+promised {en} {l} {draft} {tw} {rw} {a} {ts} {rs} e f g =
+    record {
+      accepts = λ n m. ((λ h. law-1 en l draft tw rw n m .0 (sym e ∙ h)), λ h. e ∙ law-1 en l draft tw rw n m .1 h);
+      written = λ n m d. let w = law-1-words en l draft tw rw n m d in record { token-words = f ∙ w .token-words; record-words = g ∙ w .record-words };
+      refuses = λ c p. ((λ h. refusals-in-order en l draft tw rw c p .0 (sym e ∙ h)), λ h. e ∙ refusals-in-order en l draft tw rw c p .1 h);
+      misshapen = λ p. ((λ h. law-2 en l draft tw rw p .0 (sym e ∙ h)), λ h. e ∙ law-2 en l draft tw rw p .1 h);
+      zeros = λ c p h. let z = law-4-refused en l draft tw rw c p (sym e ∙ h) in (f ∙ z .0, g ∙ z .1);
+      owned = λ n m h. subst (λ u. Owned en (length draft) (toks (classOf draft) n u) (recs m rs)) (sym f) (subst (λ u. Owned en (length draft) (toks (classOf draft) n (tokenBuffer en l draft tw rw)) (recs m u)) (sym g) (law-3 en l draft tw rw n m (sym e ∙ h)));
+    }

@@ -1,0 +1,124 @@
+#!/usr/bin/env python3
+"""Writes the table of docs/BELIEF.md: which definitions say what `read` promises, file by file in an order of reading, with line counts.
+
+    tools/believed.py          writes it
+    tools/believed.py --check  writes nothing; exits with 1 where the table is another, or where the lines are more than MOST
+    tools/believed.py --names  prints the definitions of each file with their lines
+
+It starts at the definitions that the contract of `read` cites for the whole of its promise (ROOTS), and follows names over `use` lines. A definition is an
+`abbrev`, an `unfoldable`, a `data` or a `record`; its lines are its comment, its signature and its clauses. Theorems and their proofs are checked by
+antt and need no belief, and neither do the definitions that only they use.
+"""
+import os
+import re
+import sys
+
+ROOT = os.path.dirname(os.path.dirname(os.path.abspath(__file__)))
+PAGE = os.path.join(ROOT, "docs", "BELIEF.md")
+BEGIN, END = "<!-- made by tools/believed.py -->\n", "<!-- end -->\n"
+MOST = 1700
+ROOTS = [("crates/grammar/specs/answers/Promised.antt", "Promised"), ("crates/reader/specs/Read.antt", "meant"), ("crates/reader/specs/Read.antt", "returned"),
+         ("crates/grammar/specs/Entry.antt", "oneFunction"), ("crates/lexer/specs/Limits.antt", "draftLimits")]
+DEFINITION = re.compile(r"\s*(?:infix[lr]? .*|(?:abbrev|unfoldable) .*|(?:pub )?(?:data|record) .*)$")
+DECLARED = re.compile(r"\s*(?:abbrev |unfoldable )?(?:pub )?(?:data |record )?(«?[^\s:({=]+»?)\s*(?:[({].*)?:")
+
+
+def path(module):
+    found = re.match(r"Rattle·(\w+)(?:·\w+)?\.specs\.(.*)", module)
+    return found and f"crates/{found[1]}/specs/{found[2].replace('.', '/')}.antt"
+
+
+class File:
+    """A file's definitions, each a list of lines; the names that they declare; what it uses from where."""
+
+    def __init__(self, name):
+        self.name, self.blocks, self.names, self.uses, self.aliases = name, [], {}, {}, {}
+        text = open(os.path.join(ROOT, name)).read()
+        self.head = re.sub(r"\s*\n-- ", " ", text.split("\n-- Assumes")[0])[3:].strip()
+        for line in re.findall(r"^use .*$", text, re.M):
+            several, renamed = re.match(r"use (\S+?)\.\{(.*)\}$", line), re.match(r"use (\S+) as (\S+)$", line)
+            if several:
+                self.uses.update((n.strip().split(" as ")[-1], (several[1], n.strip().split(" as ")[0])) for n in several[2].split(","))
+            elif renamed:
+                self.aliases[renamed[2]] = renamed[1]
+        body = re.sub(r"^use .*\n", "", text, flags=re.M)
+        for block in re.split(r"\n\s*\n", body):
+            lines = block.strip("\n").split("\n")
+            code = [l for l in lines if l.strip() and not l.strip().startswith("--")]
+            while code and re.match(r"\s*module .* where$", code[0]):
+                lines, code = lines[lines.index(code[0]) + 1:], code[1:]
+            if code and DEFINITION.match(code[0]):
+                self.blocks.append(lines)
+                for line in code:
+                    name = DECLARED.match(line)
+                    if name:
+                        for n in {name[1], name[1].strip("_")}:
+                            self.names.setdefault(n, len(self.blocks) - 1)
+
+
+class Believed:
+    def __init__(self):
+        self.files, self.seen, self.order = {}, {}, []
+        for name, definition in ROOTS:
+            self.visit(name, definition)
+
+    def visit(self, name, definition):
+        if not os.path.exists(os.path.join(ROOT, name)):
+            return  # a type of the code
+        file = self.files.setdefault(name, None) or File(name)
+        self.files[name] = file
+        if definition not in file.names:
+            return
+        seen = self.seen.setdefault(name, set())
+        if file.names[definition] in seen:
+            return
+        seen.add(file.names[definition])
+        text = "\n".join(re.sub(r"(^|\s)--.*$", "", line) for line in file.blocks[file.names[definition]])
+        for word in re.findall(r"[^\s(){}\[\],;|]+", re.sub(r'"[^"]*"', " ", text)):
+            self.resolve(file, word)
+        if name not in self.order:
+            self.order.append(name)
+
+    def resolve(self, file, word):
+        word = word.lstrip(".")
+        if word in file.names:
+            return self.visit(file.name, word)
+        for form in (word, f"_{word}_"):
+            if form in file.uses and path(file.uses[form][0]):
+                return self.visit(path(file.uses[form][0]), file.uses[form][1])
+        alias, _, rest = word.partition(".")
+        if rest and alias in file.aliases and path(file.aliases[alias]):
+            self.visit(path(file.aliases[alias]), rest)
+
+    def lines(self, name):
+        return sum(len(self.files[name].blocks[i]) for i in self.seen[name])
+
+
+def main():
+    believed = Believed()
+    total = sum(map(believed.lines, believed.order))
+    if "--names" in sys.argv:
+        for name in believed.order:
+            file = believed.files[name]
+            first = {i: n for n, i in reversed(file.names.items())}
+            print(name, believed.lines(name), "  ".join(f"{first[i]} {len(file.blocks[i])}" for i in sorted(believed.seen[name])))
+        print(total, "lines in", len(believed.order), "files")
+        return
+    table = [f"{total:,} lines in {len(believed.order)} files.\n", "| | File | Lines | What it says |", "|---|---|---|---|"]
+    for number, name in enumerate(believed.order, 1):
+        head = believed.files[name].head
+        table.append(f"| {number} | {name.removeprefix('crates/').replace('/specs', '')} | {believed.lines(name)} | {head[0].upper() + head[1:]} |")
+    page = open(PAGE).read()
+    if page.count(BEGIN) != 1 or page.count(END) != 1:
+        sys.exit("docs/BELIEF.md has not each of the two marks once")
+    written = page[:page.index(BEGIN)] + BEGIN + "\n".join(table) + "\n" + page[page.index(END):]
+    if "--check" not in sys.argv:
+        open(PAGE, "w").write(written)
+    elif written != page:
+        sys.exit("docs/BELIEF.md is not what tools/believed.py writes")
+    if total > MOST:
+        sys.exit(f"{total} lines must be believed for `read`, more than {MOST}")
+
+
+if __name__ == "__main__":
+    main()
