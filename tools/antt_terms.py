@@ -1,8 +1,8 @@
 """Reads the definitions of antt files that hold only names for numbers, lists and expressions of a grammar, and computes them.
 
-It knows what specs/Classes of crate `lexer` and specs/ShapeKind, Notation and Shapes of crate `grammar` use: clauses by name,
-variable, [] and ( x ∷ l ); application; the operators below; numerals; one form of record. A file may be read under a short name, as
-`use .. as t` has it: then its names are t.NAME.
+It knows what specs/Classes of crate `lexer`, specs/Kinds of `own` and the definitions of specs/shapes of `grammar` use: clauses by name,
+variable, [] and ( x ∷ .. ); constructors of data; application; the operators below; numerals; one form of record. A file may be read under
+a short name, as `use .. as t` has it: then its names are t.NAME.
 """
 import os
 import re
@@ -39,6 +39,18 @@ def definitions(text):
     return out
 
 
+def constructors(text):
+    """name -> arity, of the data that a file declares."""
+    out, inside = {}, False
+    for line in text.split("\n"):
+        if line and line[0] != " ":
+            inside = line.startswith("pub data ")
+        elif inside and ":" in line and not line.strip().startswith("--"):
+            names, kind = line.split(":")
+            out.update({n: kind.count("→") for n in names.split()})
+    return out
+
+
 def under(short, defs):
     """The definitions of a file with its own names as others write them: short.NAME."""
     def full(w):
@@ -48,12 +60,13 @@ def under(short, defs):
 
 
 def patterns(words):
-    """x, [] or ( x ∷ l )"""
+    """x, [] or ( x ∷ y ∷ l )"""
     out, i = [], 0
     while i < len(words):
         if words[i] == "(":
-            out.append(("cons", words[i + 1], words[i + 3]))
-            i += 5
+            end = words.index(")", i)
+            out.append(("cons", words[i + 1:end:2]))
+            i = end + 1
         else:
             out.append(("nil",) if words[i] == "[]" else ("var", words[i]))
             i += 1
@@ -122,17 +135,19 @@ class Values:
 
     def __init__(self, sources):
         """sources: (file, short name or None); by the file's own name, sources[NAME] has its definitions."""
-        self.defs, self.done, self.sources = {}, {}, {}
+        self.defs, self.done, self.sources, self.built_ins = {}, {}, {}, dict(self.BUILT_IN)
         for path, short in sources:
-            found = definitions(open(path).read())
+            text = open(path).read()
+            found = definitions(text)
+            self.built_ins.update(constructors(text))
             source = os.path.splitext(os.path.basename(path))[0]
             self.sources[source] = found if short is None else under(short, found)
             self.defs.update(self.sources[source])
 
     def value(self, name):
         if name not in self.done:
-            if name in self.BUILT_IN:
-                self.done[name] = self.built_in(name, self.BUILT_IN[name], ())
+            if name in self.built_ins:
+                self.done[name] = self.built_in(name, self.built_ins[name], ())
             elif name == "[]":
                 self.done[name] = []
             elif name in self.LISTS:
@@ -158,8 +173,9 @@ class Values:
                     env[p[1]] = v
                 elif p[0] == "nil" and v == []:
                     pass
-                elif p[0] == "cons" and v != []:
-                    env[p[1]], env[p[2]] = v[0], v[1:]
+                elif p[0] == "cons" and (len(v) == len(p[1]) - 1 if p[1][-1] == "[]" else len(v) >= len(p[1]) - 1):
+                    n = len(p[1]) - 1
+                    env.update(zip(p[1], v[:n] + [v[n:]]))
                 else:
                     break
             else:

@@ -28,18 +28,19 @@ class Choice:
 
 def choices():
     grammar, shapes, table = tables.load()
-    kinds = {grammar.value(n): n for n in grammar.sources["ShapeKind"] if n.endswith("Shape")}
+    kinds = {grammar.value(n): n for n in grammar.sources["ShapeKind"]}
     classes = range(1 + max(v for v in map(grammar.value, grammar.sources["Classes"]) if isinstance(v, int)))
 
     def number(name):
-        return table.means.index(grammar.value(name))
+        e = grammar.value(name)
+        return table.means.index(("child", e) if isinstance(e, int) else e)
 
     def choose(name, c):
         A = number(name)
         return table.table[A].get(c, table.other[A])
 
     def shapes_of(name):
-        return [kinds[k].removesuffix("Shape") for k in shapes["kinds"][grammar.value(name)[1]]]
+        return [kinds[k].removesuffix("Shape") for k in shapes["kinds"][grammar.value(name)]]
 
     def sort(c):
         return 2 if c in grammar.value("t.functionNames") else 1 if c in grammar.value("t.identifiers") else 0

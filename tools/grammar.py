@@ -6,9 +6,9 @@ and specs/shapes/TablesIndex.antt, a name for each nonterminal.
     tools/grammar.py --check    write nothing; exit 1 if a file is not what would be written
     tools/grammar.py --list     print the nonterminals
 
-The grammar is read from the specs (Classes of crate lexer; ShapeKind, Notation and Shapes of specs/shapes) by tools/antt_terms.py. Nothing
-here needs trust: antt computes `good`, `sames` and `paid` on the result. A conflict of the table is named here, since the
-checks only say that there is one.
+The grammar is read from the specs (Classes of crate lexer; Categories, Notation, Row and Shapes of specs/shapes, with the names of ShapeKind)
+by tools/antt_terms.py; `shapes` is made here from `rows` and `parts`. Nothing here needs trust: antt computes `good`, `sames` and `paid` on
+the result. A conflict of the table is named here, since the checks only say that there is one.
 """
 import os
 import re
@@ -20,7 +20,9 @@ from antt_terms import Values  # noqa: E402
 ROOT = os.path.join(os.path.dirname(os.path.abspath(__file__)), "..")
 SPECS = os.path.join(ROOT, "crates", "grammar", "specs", "shapes")
 CLASSES = os.path.join(ROOT, "crates", "lexer", "specs", "Classes.antt")
-SOURCES = [(CLASSES, "t")] + [(os.path.join(SPECS, name + ".antt"), None) for name in ("ShapeKind", "Notation", "Shapes")]
+KINDS = os.path.join(ROOT, "crates", "own", "specs", "Kinds.antt")
+OWN = ("Categories", "Notation", "Row", "Shapes", "ShapeKind")
+SOURCES = [(CLASSES, "t"), (KINDS, "kind")] + [(os.path.join(SPECS, name + ".antt"), None) for name in OWN]
 PER_TOKEN = 64  # the fuel for each token, as in theory's Fuel.antt
 
 
@@ -176,9 +178,12 @@ class Printer:
         for n in grammar.sources["Classes"]:
             if isinstance(grammar.value(n), int):
                 self.classes[grammar.value(n)] = n
-        for source in ("ShapeKind", "Shapes"):
+        for n in grammar.sources["Categories"]:
+            if isinstance(grammar.value(n), int):
+                self.names[("child", grammar.value(n))] = n
+        for source in ("Categories", "Shapes"):
             for n, clauses in grammar.sources[source].items():
-                if not clauses[0][0] and isinstance(grammar.value(n), tuple):
+                if n != "shapes" and not clauses[0][0] and isinstance(grammar.value(n), tuple):
                     self.names.setdefault(grammar.value(n), n)
 
     def name(self, c):
@@ -214,11 +219,11 @@ class Printer:
     def term(self, e):
         """An expression as an antt term over the names of Shapes.antt."""
         if e in self.names:
-            return self.names[e]
-        if e[0] in ("eps",):
+            return f"(child {self.names[e]})" if e[0] == "child" else self.names[e]
+        if e[0] == "eps":
             return "eps"
-        if e[0] in ("mark", "child", "part"):
-            return f"({e[0]} {self.name(e[1]) if e[0] == 'mark' else e[1]})"
+        if e[0] == "mark":
+            return f"(mark {self.name(e[1])})"
         if e[0] in ("seq", "or"):
             return f"({e[0]} {self.term(e[1])} {self.term(e[2])})"
         return f"({e[0]} {self.term(e[1])}" + (f" {self.name(e[2])})" if len(e) > 2 else ")")
@@ -227,18 +232,11 @@ class Printer:
 def index(grammar, shapes, table, printer):
     """A name for each nonterminal: that of its expression; or the form and the item; or where it first occurs, its form, its first mark."""
     names, owners = [], {}
-    bodies = {}
-    for source in ("ShapeKind", "Shapes"):
-        for n, clauses in grammar.sources[source].items():
-            if not clauses[0][0] and isinstance(grammar.value(n), tuple):
-                bodies.setdefault(grammar.value(n), []).append(n)
-
-    def short(n):
-        return re.sub("(Body|Part)$", "", n)
+    shape_names = {grammar.value(n): n[0].lower() + n.removesuffix("Shape")[1:] for n in grammar.sources["ShapeKind"]}
 
     for A, e in enumerate(table.means):
         if e in printer.names:
-            name = short(printer.names[e])
+            name = printer.names[e]
         elif e[0] in ("list", "tail", "many") and e[1] in printer.names:
             name = f"{e[0]}-{printer.names[e[1]]}"
         else:
@@ -250,8 +248,7 @@ def index(grammar, shapes, table, printer):
             raise SystemExit(f"two nonterminals have the name {name}")
         names.append(name)
         if e[0] == "child":
-            inner = [shapes["bodies"][k] for k in shapes["kinds"][e[1]]]
-            own = [short(next((n for n in bodies[b] if n not in names), bodies[b][0])) for b in inner]
+            own = [shape_names[k] for k in shapes["kinds"][e[1]]]
         else:
             own = [name] * len(table.rules[A])
         for o, alternative in zip(own, table.rules[A]):
@@ -295,7 +292,7 @@ def written(grammar, shapes, table, printer):
     means = [printer.term(e) for e in table.means]
     for m in means:
         names_in(m)
-    shapes_used = {m: [n for n in printer.names.values() if n in used and n in grammar.sources[m]] for m in ("ShapeKind", "Shapes")}
+    shapes_used = {m: [n for n in printer.names.values() if n in used and n in grammar.sources[m]] for m in ("Categories", "Shapes")}
     ebnf = [n for n in ("eps", "mark", "child", "part", "seq", "or", "many", "list", "tail") if n in used]
     out = [
         "-- Made by tools/grammar.py from Shapes.antt: do not edit; `tools/grammar.py --check` says whether it is up to date.",
@@ -307,7 +304,7 @@ def written(grammar, shapes, table, printer):
         "use Rattle.theory.specs.Grammar.{tok, nt, on, Row}",
         f"use Rattle.theory.specs.Ebnf.{{Ex, {', '.join(ebnf)}}}",
         "use Rattle.lexer.specs.Classes as t",
-        f"use Rattle.grammar.specs.shapes.ShapeKind.{{{', '.join(shapes_used['ShapeKind'])}}}",
+        f"use Rattle.grammar.specs.shapes.Categories.{{{', '.join(shapes_used['Categories'])}}}",
         f"use Rattle.grammar.specs.shapes.Shapes.{{{', '.join(shapes_used['Shapes'])}}}",
         "",
     ]
@@ -321,8 +318,10 @@ def written(grammar, shapes, table, printer):
 
 def load():
     grammar = Values(SOURCES)
-    shapes = grammar.value("shapes")
-    means, rules = productions(shapes, grammar.value("function"))
+    rows = grammar.value("rows")
+    kinds = [[k for k, row in enumerate(rows) if row["category"] == C] for C in range(1 + grammar.value("arm"))]
+    shapes = {"kinds": kinds, "bodies": [row["body"] for row in rows], "parts": grammar.value("parts")}
+    means, rules = productions(shapes, ("child", grammar.value("function")))
     return grammar, shapes, Table(means, rules)
 
 

@@ -3,11 +3,11 @@
 -- Assumes nothing.
 use mathlib.Core.List.{List}
 use Prim.Native.Nat.{ℕ}
-use Rattle.theory.specs.Ebnf.{Ex}
+use Rattle.theory.specs.Ebnf.{Ex, child}
 use Rattle.own.specs.Tree.{Tok, Node, Rec, records}
 use Rattle.own.specs.Law.{Ownership}
 use Rattle.kinds.specs.Spelled.{Spelled}
-use Rattle.grammar.specs.shapes.ShapeKind.{function}
+use Rattle.grammar.specs.shapes.Categories.{function}
 use Rattle.grammar.specs.shapes.TablesIndex.{n-function}
 
 -- One function and then the end: "`Function::parser()` followed by the end".
@@ -16,7 +16,7 @@ pub data Entry : Type 0 where
 
 -- Where the grammar starts: the expression that a whole draft is (Shapes.antt), and the nonterminal that stands for it (Tables.antt).
 abbrev pub startEx : Entry → Ex
-startEx oneFunction = function
+startEx oneFunction = child function
 
 abbrev pub startNt : Entry → ℕ
 startNt oneFunction = n-function

@@ -12,14 +12,10 @@ use lib.ListN.{length, take, getD, getElem?}
 -- what may stand after an item of such a list (`tail`).
 pub data Ex : Type 0 where
   eps : Ex
-  mark : ℕ → Ex
-  child : ℕ → Ex
-  part : ℕ → Ex
-  seq : Ex → Ex → Ex
-  or : Ex → Ex → Ex
+  mark child part : ℕ → Ex
+  seq or : Ex → Ex → Ex
   many : Ex → Ex
-  list : Ex → ℕ → Ex
-  tail : Ex → ℕ → Ex
+  list tail : Ex → ℕ → Ex
   deriving Discrete as Ex-discrete
 
 -- A grammar: the kinds of nodes that each category has, each kind's expression, and the expressions of the named parts.
@@ -27,10 +23,6 @@ pub record Ebnf : Type 0 where
   pub kinds : List (List ℕ)
   pub bodies : List Ex
   pub parts : List Ex
-
--- The kinds of a category.
-unfoldable pub kindsOf : Ebnf → ℕ → List ℕ
-kindsOf t C = getD (t .kinds) C []
 
 -- An expression as a row of expressions, none of which is a sequence.
 unfoldable pub items : Ex → List Ex
@@ -68,7 +60,10 @@ choices t (many e) = [] ∷ (items e ++ (many e ∷ [])) ∷ []
 choices t (list e c) = [] ∷ (items e ++ (tail e c ∷ [])) ∷ []
 choices t (tail e c) = [] ∷ (mark c ∷ list e c ∷ []) ∷ []
 
--- The expressions of a node of this kind.
+-- The kinds of a category, and the expressions of a node of a kind.
+unfoldable pub kindsOf : Ebnf → ℕ → List ℕ
+kindsOf t C = getD (t .kinds) C []
+
 unfoldable pub bodyOf : Ebnf → ℕ → List Ex
 bodyOf t k = items (getD (t .bodies) k eps)
 

@@ -1,6 +1,6 @@
 -- The place of every refusal lies in the draft, or is its length.
 -- Assumes nothing.
-use mathlib.Core.Bool.{Bool, true, false, cond, _||_, not}
+use mathlib.Core.Bool.{Bool, true, false, cond, _||_}
 use mathlib.Core.List.{List, [], _∷_}
 use mathlib.Core.Option.{some}
 use mathlib.Core.Path.{_≡_, refl}
@@ -11,7 +11,6 @@ use lib.Dec.{eqb, ltb}
 use lib.ListN.{length, getD, drop}
 use Rattle.text.specs.Answers.{refused}
 use Rattle.text.specs.Refusals as refusal
-use Rattle.num.specs.Bound.{boundOk, sizeOk}
 use Rattle.theory.specs.Ebnf as shape
 use Rattle.lexer.specs.Lexemes.{Token}
 use Rattle.lexer.specs.Limits.{Limits, noToken, depthAfter, rowAfter, tooDeep, room}
@@ -20,12 +19,10 @@ use Rattle.lexer.specs.Tokens.{Between, tokens-between, lexeme-refused}
 use Rattle.own.specs.Tree.{Tok, Items, marks}
 use Rattle.own.specs.Lists.{All, nil, _&_}
 use Rattle.own.specs.Rules.{sorts}
-use Rattle.own.specs.Kinds as kind
 use Rattle.lexer.specs.Classes as t
-use Rattle.kinds.specs.Fields.{counted}
-use Rattle.grammar.specs.shapes.ShapeKind.{ListTypeShape, MatchShape, FoldingShape}
-use Rattle.grammar.specs.records.Records.{sees, opening, firstTok, firstOf, decimal, recorded, recordItems}
-use Rattle.grammar.specs.records.Faults.{Fault, unless, armLows, armsFault, faultsAt, faults, faultOf}
+use Rattle.grammar.specs.shapes.Row.{Refused, never, byBound, byFold, byArms}
+use Rattle.grammar.specs.records.Records.{opening, firstTok, firstOf, recorded, recordItems}
+use Rattle.grammar.specs.records.Faults.{Fault, unless, faultsBy, refusedOf, faultsAt, faults, faultOf}
 use Rattle.grammar.specs.records.FaultNumbers.{both, chosen, of-answered}
 use Rattle.grammar.specs.Entry.{Entry}
 use Rattle.grammar.specs.answers.Answer.{toksOf, startOf, answer}
@@ -90,19 +87,17 @@ unfolding unless
 unless-start m true n u h = nil
 unless-start m false n u h = h & nil
 
+by-start : (r : Refused) (draft : List ℕ) (m : ℕ) (is : Items) → Starts m (marks is) → All (λ f. f .place ≤ m) (faultsBy r draft is)
+by-start never draft m is s = nil
+by-start byBound draft m is s = unless-start m _ refusal.Bound _ (first-of-starts m t.DecLiteral (marks is) s)
+by-start byFold draft m is s =
+    let a = first-of-starts m t.DecLiteral (marks is) s in
+    chosen (λ g. g .place ≤ m) (eqb (opening (sorts is)) t.array-fold) (unless-start m _ refusal.Size _ a) (unless-start m _ refusal.Bound _ a)
+by-start byArms draft m is s = unless-start m _ _ _ (first-starts m (marks is) s)
+
 at-start : (draft : List ℕ) (m k : ℕ) (is : Items) → Starts m (marks is) → All (λ f. f .place ≤ m) (faultsAt draft k is)
 unfolding faultsAt
-at-start draft m k is s =
-    let w = sorts is in
-    let number = firstOf t.DecLiteral (marks is) in
-    let a : number .start ≤ m = first-of-starts m t.DecLiteral (marks is) s in
-    let f = armsFault (counted (kind.EnumArm ∷ []) w) (armLows w) in
-    let bound = unless-start m (not (sees t.LAngle w) || boundOk (decimal draft is)) refusal.Bound number a in
-    let size = unless-start m (not (sees t.LAngle w) || sizeOk (decimal draft is)) refusal.Size number a in
-    let arms = unless-start m (eqb f 0) f (firstTok (marks is)) (first-starts m (marks is) s) in
-    chosen (λ g. g .place ≤ m) (eqb k ListTypeShape) bound
-    (chosen (λ g. g .place ≤ m) (eqb k FoldingShape) (chosen (λ g. g .place ≤ m) (eqb (opening w) t.array-fold) size bound)
-    (chosen (λ g. g .place ≤ m) (eqb k MatchShape) arms nil))
+at-start draft m k is s = by-start (refusedOf k) draft m is s
 
 faults-start : (draft : List ℕ) (m : ℕ) (r : shape.Items) (ts : List Tok) → Starts m ts → All (λ f. f .place ≤ m) (faults draft r ts)
 unfolding faults

@@ -33,7 +33,7 @@ use Rattle.grammar.specs.shapes.Tables.{table, means}
 use Rattle.grammar.specs.Entry.{Entry, oneFunction}
 use Rattle.grammar.specs.shapes.WellShaped.{shapeOf}
 use Rattle.grammar.specs.records.Records.{lowHalf, highHalf, reads, sees, opening, nameCount, partCount, lone, unended, placeIn, builtinType, unsignedType, boolType, typeName, patternName}
-use Rattle.grammar.specs.records.Records.{literalHead, functionHead, callHead, wrapperHead, calledHead, aloneHead, nameHead, armHead, headOf, forms, formOf, roleOf, placed, arranged}
+use Rattle.grammar.specs.records.Records.{literalHead, functionHead, callHead, wrapperHead, calledHead, aloneHead, nameHead, armHead, headOf, formOf, roleOf, placed, arranged}
 use Rattle.grammar.specs.records.Records.{textOf, firstTok, firstOf, decimal, headFor, recorded, recordItems, recordTrees}
 use Rattle.grammar.specs.records.Faults.{unless, armLows, mates, armsFault, faultsAt, faults, earlier, earliest, faultOf}
 use Rattle.grammar.specs.spelled.TreeTokens.{classesOf}
@@ -81,7 +81,7 @@ unfolding ascii asciiFrom partOf same FUNCTION_RESERVED KEYWORDS MACROS MODULE_R
     class.classOf depthAfter rowAfter tooDeep room lexedOf look row alt pick choose kindsOf sortOf ex thenWord thenRest thenSub exec saves need
     judge parse BOOL UINT_TYPES BUILTIN_ALIASES digits.plain decimalFrom fitted numberOf powerUpTo boundOk sizeOk yield partner canonical turned has
     count span counted classOf shapes table means shapeOf lowHalf highHalf reads sees opening nameCount partCount lone unended placeIn builtinType
-    unsignedType boolType typeName patternName literalHead functionHead callHead wrapperHead calledHead aloneHead nameHead armHead headOf forms
+    unsignedType boolType typeName patternName literalHead functionHead callHead wrapperHead calledHead aloneHead nameHead armHead headOf
     formOf roleOf placed arranged textOf firstTok firstOf decimal headFor recorded recordItems recordTrees unless armLows mates armsFault
     faultsAt faults earlier earliest faultOf classesOf toksOf startOf reading answer recordsRead upperHex hex lineOf refusalRec linesOf listing
     tokenWords tokenBuffer treeBuffer

@@ -1,6 +1,6 @@
 -- The numbers of the refusals of a shape tree are of the family of the shapes (document 01, "What the reader hands over").
 -- Assumes nothing.
-use mathlib.Core.Bool.{Bool, true, false, cond, _||_, not}
+use mathlib.Core.Bool.{Bool, true, false, cond}
 use mathlib.Core.List.{List, [], _∷_, _++_}
 use mathlib.Core.Option.{some}
 use mathlib.Core.Path.{_≡_, refl, sym, subst}
@@ -10,7 +10,6 @@ use lib.Dec.{T, eqb}
 use lib.ListN.{length, drop}
 use Rattle.text.specs.Refusals.{oneOf}
 use Rattle.text.specs.Refusals as refusal
-use Rattle.num.specs.Bound.{boundOk, sizeOk}
 use Rattle.theory.specs.Ebnf as shape
 use Rattle.own.specs.Tree.{Tok, Items, marks}
 use Rattle.own.specs.Lists.{All, nil, _&_}
@@ -19,9 +18,9 @@ use Rattle.own.specs.Kinds as kind
 use Rattle.kinds.specs.Lists.{Some, here, there}
 use Rattle.lexer.specs.Classes as t
 use Rattle.kinds.specs.Fields.{counted}
-use Rattle.grammar.specs.shapes.ShapeKind.{ListTypeShape, MatchShape, FoldingShape}
-use Rattle.grammar.specs.records.Records.{sees, opening, firstTok, firstOf, decimal, recordItems}
-use Rattle.grammar.specs.records.Faults.{Fault, unless, armLows, mates, armsFault, faultsAt, faults, faultOf}
+use Rattle.grammar.specs.shapes.Row.{Refused, never, byBound, byFold, byArms}
+use Rattle.grammar.specs.records.Records.{opening, firstTok, recordItems}
+use Rattle.grammar.specs.records.Faults.{Fault, unless, armLows, mates, armsFault, faultsBy, refusedOf, faultsAt, faults, faultOf}
 use Rattle.grammar.specs.records.FaultLaws.{earliest-first}
 
 module _ (P : Fault → Type 0) where
@@ -73,21 +72,17 @@ unfolding unless
 unless-numbered true n u h = nil
 unless-numbered false n u h = h refl & nil
 
+by-numbered : (r : Refused) (draft : List ℕ) (is : Items) → All Numbered (faultsBy r draft is)
+by-numbered never draft is = nil
+by-numbered byBound draft is = unless-numbered _ refusal.Bound _ (λ e. tt)
+by-numbered byFold draft is = chosen Numbered (eqb (opening (sorts is)) t.array-fold) (unless-numbered _ refusal.Size _ (λ e. tt)) (unless-numbered _ refusal.Bound _ (λ e. tt))
+by-numbered byArms draft is =
+    let f = armsFault (counted (kind.EnumArm ∷ []) (sorts is)) (armLows (sorts is)) in
+    unless-numbered (eqb f 0) f (firstTok (marks is)) (λ e. arms-number (counted (kind.EnumArm ∷ []) (sorts is)) (armLows (sorts is)) (eqb-false f 0 e))
+
 at-numbered : (draft : List ℕ) (k : ℕ) (is : Items) → All Numbered (faultsAt draft k is)
 unfolding faultsAt
-at-numbered draft k is =
-    let w = sorts is in
-    let number = firstOf t.DecLiteral (marks is) in
-    let bound = not (sees t.LAngle w) || boundOk (decimal draft is) in
-    let size = not (sees t.LAngle w) || sizeOk (decimal draft is) in
-    let f = armsFault (counted (kind.EnumArm ∷ []) w) (armLows w) in
-    let a = arms-number (counted (kind.EnumArm ∷ []) w) (armLows w) in
-    let bounds : All Numbered (unless bound refusal.Bound number) = unless-numbered bound refusal.Bound number (λ e. tt) in
-    let sizes : All Numbered (unless size refusal.Size number) = unless-numbered size refusal.Size number (λ e. tt) in
-    let arms : All Numbered (unless (eqb f 0) f (firstTok (marks is))) = unless-numbered (eqb f 0) f (firstTok (marks is)) (λ e. a (eqb-false f 0 e)) in
-    chosen Numbered (eqb k ListTypeShape) bounds
-    (chosen Numbered (eqb k FoldingShape) (chosen Numbered (eqb (opening w) t.array-fold) sizes bounds)
-    (chosen Numbered (eqb k MatchShape) arms nil))
+at-numbered draft k is = by-numbered (refusedOf k) draft is
 
 all-numbered : (draft : List ℕ) (r : shape.Items) (ts : List Tok) → All Numbered (faults draft r ts)
 unfolding faults

@@ -1,11 +1,11 @@
 -- The refusals of the shapes, each with its place, and the earliest of a shape tree (document 01, "What the reader hands over").
 -- Assumes nothing.
 use mathlib.Core.Bool.{Bool, true, false, _&&_, _||_, not, cond}
-use mathlib.Core.List.{List, [], _∷_, _++_}
+use mathlib.Core.List.{List, [], _∷_, _++_, map}
 use mathlib.Core.Option.{Option, none, some}
 use Prim.Native.Nat.{ℕ}
 use lib.Dec.{eqb, ltb}
-use lib.ListN.{length, drop}
+use lib.ListN.{length, drop, getD}
 use Rattle.text.specs.Refusals as refusal
 use Rattle.num.specs.declared.Value.{Value}
 use Rattle.num.specs.Bound.{boundOk, sizeOk}
@@ -16,7 +16,8 @@ use Rattle.own.specs.Rules.{sorts}
 use Rattle.own.specs.Kinds as kind
 use Rattle.kinds.specs.Fields.{counted}
 use Rattle.lexer.specs.Classes as t
-use Rattle.grammar.specs.shapes.ShapeKind.{ListTypeShape, MatchShape, FoldingShape}
+use Rattle.grammar.specs.shapes.Row.{Refused, never, byBound, byFold, byArms}
+use Rattle.grammar.specs.shapes.Shapes.{rows}
 use Rattle.grammar.specs.records.Records.{sees, opening, firstTok, firstOf, decimal, recordItems}
 
 -- A refusal: its number and its place.
@@ -48,18 +49,23 @@ armsFault e lows =
     cond (eqb e 0) (cond (eqb (length lows) 0) refusal.NoArms (cond (eqb (length lows) 2) (cond (mates lows) 0 refusal.NoPartners) refusal.ArmCount))
     (cond (eqb (length lows) 0) 0 refusal.MixedArms)
 
--- The refusals of one shape of kind k, made of these items: 9 "`List` or `fold` bound not a power of two from 2 to
--- 9,223,372,036,854,775,808" and 10 "`array_fold` size 0 or over 18,446,744,073,709,551,615", at the number; 11 to 14 at `match`.
--- Without `<` a List is an alias name, and `fold` a variable or a path.
+-- The refusals of a shape made of these items: 9 "`List` or `fold` bound not a power of two from 2 to 9,223,372,036,854,775,808" and
+-- 10 "`array_fold` size 0 or over 18,446,744,073,709,551,615", at the number; 11 to 14 at `match`. Without `<` a List is an alias name,
+-- and `fold` a variable or a path. Which of them a shape of kind k may have is in its row.
+abbrev pub numberFault : (Value → Bool) → ℕ → List ℕ → Items → List Fault
+numberFault ok n draft is = unless (not (sees t.LAngle (sorts is)) || ok (decimal draft is)) n (firstOf t.DecLiteral (marks is))
+
+abbrev pub faultsBy : Refused → List ℕ → Items → List Fault
+faultsBy never draft is = []
+faultsBy byBound draft is = numberFault boundOk refusal.Bound draft is
+faultsBy byFold draft is = cond (eqb (opening (sorts is)) t.array-fold) (numberFault sizeOk refusal.Size draft is) (numberFault boundOk refusal.Bound draft is)
+faultsBy byArms draft is = let f = armsFault (counted (kind.EnumArm ∷ []) (sorts is)) (armLows (sorts is)) in unless (eqb f 0) f (firstTok (marks is))
+
+abbrev pub refusedOf : ℕ → Refused
+refusedOf k = getD (map (λ r. r .refused) rows) k never
+
 unfoldable pub faultsAt : List ℕ → ℕ → Items → List Fault
-faultsAt draft k is =
-    let w = sorts is in
-    let number = firstOf t.DecLiteral (marks is) in
-    cond (eqb k ListTypeShape) (unless (not (sees t.LAngle w) || boundOk (decimal draft is)) refusal.Bound number)
-    (cond (eqb k FoldingShape)
-    (cond (eqb (opening w) t.array-fold) (unless (not (sees t.LAngle w) || sizeOk (decimal draft is)) refusal.Size number)
-    (unless (not (sees t.LAngle w) || boundOk (decimal draft is)) refusal.Bound number))
-    (cond (eqb k MatchShape) (let f = armsFault (counted (kind.EnumArm ∷ []) w) (armLows w) in unless (eqb f 0) f (firstTok (marks is))) []))
+faultsAt draft k is = faultsBy (refusedOf k) draft is
 
 -- The refusals of all shapes side by side, whose tokens are those that the list begins with.
 unfoldable pub faults : List ℕ → shape.Items → List Tok → List Fault

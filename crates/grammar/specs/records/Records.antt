@@ -2,7 +2,7 @@
 -- low and high are decided by what it is made of; some of its tokens become records of their own. All stays in the order of the text.
 -- Assumes nothing.
 use mathlib.Core.Bool.{Bool, true, false, _&&_, _||_, not, cond}
-use mathlib.Core.List.{List, [], _∷_, _++_}
+use mathlib.Core.List.{List, [], _∷_, map}
 use Prim.Native.Nat.{ℕ, suc, _+_, _^_, _/_, _%_}
 use lib.Dec.{eqb, ltb}
 use lib.ListN.{length, drop, getD}
@@ -28,6 +28,8 @@ use Rattle.kinds.specs.Families as family
 use Rattle.kinds.specs.Fields.{counted}
 use Rattle.kinds.specs.Rules.{wrappers}
 use Rattle.lexer.specs.Classes as t
+use Rattle.grammar.specs.shapes.Row.{Form, always, numbered, angled, lonely, aFunction, aTypeName, aPatternName, aBlock, aLiteral, aMatch, aName, anArm}
+use Rattle.grammar.specs.shapes.Shapes.{rows}
 
 -- The fields of a record that its shape decides.
 pub record Head : Type 0 where
@@ -172,24 +174,8 @@ armHead w =
     cond (sees t.DoubleColon w) (head kind.EnumArm (nameCount w) (counted family.patterns w))
     (head kind.BuiltinArm (placeIn 0 arm.Left armWords (opening w)) 0)
 
--- How a shape decides the head of its record.
-pub data Form : Type 0 where
-  -- it is always of this kind
-  always : ℕ → Form
-  -- of this kind, and holds the number of its decimal
-  numbered : ℕ → Form
-  -- so if `<` is among its tokens; "`Either`, `Option` or `List` without `<` is a plain alias name"
-  angled : ℕ → Form
-  -- the first kind if it has one part and no comma, otherwise the second: "`(e)` is parenthesised, `(e,)` and `()` tuples"
-  lonely : ℕ → ℕ → Form
-  -- the rest as above
-  aFunction aTypeName aPatternName aLiteral aName anArm : Form
-  -- "18 block | low 1 with a last expression"
-  aBlock : Form
-  -- "35 match, 36 enum match", by its arms
-  aMatch : Form
-
--- The head of a form, from the text of its first token, the number of its decimal, and what it is made of.
+-- The head of a form, from the text of its first token, the number of its decimal, and what it is made of: "18 block | low 1 with a last
+-- expression"; "35 match, 36 enum match", by its arms; the others as above. The form of a shape of kind k is in its row.
 unfoldable pub headOf : Form → List ℕ → ℕ → List Sort → Head
 headOf (always k) text n w = plain k
 headOf (numbered k) text n w = wide k n
@@ -204,32 +190,12 @@ headOf anArm text n w = armHead w
 headOf aBlock text n w = head kind.Block (cond (unended false w) 1 0) 0
 headOf aMatch text n w = cond (ltb 0 (counted (kind.EnumArm ∷ []) w)) (plain kind.EnumMatch) (plain kind.Match)
 
--- The form of each kind of shape, in the order of `shapes` (ShapeKind.antt).
-unfoldable pub forms : List Form
-forms =
-    -- a function, a parameter
-    aFunction ∷ always kind.Parameter
-    -- types: Either, Option, List, a name, a tuple, an array
-    ∷ angled kind.EitherType ∷ angled kind.OptionType ∷ angled kind.ListType ∷ aTypeName ∷ always kind.TupleType ∷ numbered kind.ArrayType
-    -- patterns: a name, a tuple, an array
-    ∷ aPatternName ∷ always kind.TuplePattern ∷ always kind.ArrayPattern
-    -- a block, a `let`
-    ∷ aBlock ∷ always kind.Let
-    -- expressions: a literal, in parentheses, an array, a list, a match
-    ∷ aLiteral ∷ lonely kind.Parenthesised kind.Tuple ∷ always kind.Array ∷ always kind.List ∷ aMatch
-    -- a simple call, a cast, and the five that begin with a name
-    ∷ aName ∷ aName ∷ aName ∷ aName ∷ aName ∷ aName ∷ aName
-    -- an arm
-    ∷ anArm ∷ []
-
 unfoldable pub formOf : ℕ → Form
-formOf k = getD forms k (always 0)
+formOf k = getD (map (λ r. r .form) rows) k (always 0)
 
 -- What a token of a record is: a mark of its own, or a record of its own, a name or a number.
 pub data Role : Type 0 where
-  aMark : Role
-  asName : Role
-  asNumber : Role
+  aMark asName asNumber : Role
 
 -- "In a call a jet's token or a function name is a kind 2 child", and its decimal a kind 40; in a function, a parameter, an enum
 -- construction and an enum arm every name is a kind 2 child; in any other record no token is a child. By kind and the token's class.
@@ -256,8 +222,7 @@ textOf draft t = partOf draft (t .start) (t .stop)
 
 -- The first of a list of tokens, and the first of a class.
 unfoldable pub firstTok : List Tok → Tok
-firstTok [] = no-token
-firstTok (t ∷ ts) = t
+firstTok ts = getD ts 0 no-token
 
 unfoldable pub firstOf : ℕ → List Tok → Tok
 firstOf c [] = no-token

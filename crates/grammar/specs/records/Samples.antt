@@ -38,7 +38,7 @@ use Rattle.grammar.specs.shapes.Tables.{table, means}
 use Rattle.grammar.specs.Entry.{oneFunction}
 use Rattle.grammar.specs.shapes.WellShaped.{shapeOf}
 use Rattle.grammar.specs.records.Records.{lowHalf, highHalf, reads, sees, opening, nameCount, partCount, lone, unended, placeIn, builtinType, unsignedType, boolType, typeName, patternName}
-use Rattle.grammar.specs.records.Records.{literalHead, functionHead, callHead, wrapperHead, calledHead, aloneHead, nameHead, armHead, headOf, forms, formOf, roleOf, placed, arranged}
+use Rattle.grammar.specs.records.Records.{literalHead, functionHead, callHead, wrapperHead, calledHead, aloneHead, nameHead, armHead, headOf, formOf, roleOf, placed, arranged}
 use Rattle.grammar.specs.records.Records.{textOf, firstTok, firstOf, decimal, headFor, recorded, recordItems, recordTrees}
 use Rattle.grammar.specs.records.Faults.{Fault, unless, armLows, mates, armsFault, faultsAt, faults, earlier, earliest, faultOf}
 
@@ -80,7 +80,7 @@ unfolding classed toksOf classes judged handed ascii asciiFrom partOf same KEYWO
     lex.mark lex.noLexeme lex.lexeme lex.lexemesFrom lexemes classOf look row alt pick choose shape.kindsOf shape.sortOf shape.yield ex thenWord
     thenRest thenSub exec saves need judge parse partner canonical turned has count span counted shapes table means shapeOf lowHalf highHalf reads
     sees opening nameCount partCount lone unended placeIn builtinType unsignedType boolType typeName patternName literalHead functionHead callHead
-    wrapperHead calledHead aloneHead nameHead armHead headOf forms formOf roleOf placed arranged textOf firstTok firstOf decimal headFor recorded
+    wrapperHead calledHead aloneHead nameHead armHead headOf formOf roleOf placed arranged textOf firstTok firstOf decimal headFor recorded
     recordItems recordTrees unless armLows mates armsFault faultsAt faults earlier earliest faultOf
 recordsOf show text =
     let draft = ascii text in

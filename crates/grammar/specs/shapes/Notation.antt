@@ -7,7 +7,7 @@ use Rattle.theory.specs.Check.{mem}
 use Rattle.theory.specs.Ebnf.{Ex, eps, mark, seq, or, list, tail}
 use Rattle.lexer.specs.Classes as t
 
--- How expressions are written: `e ⨾ f` is e and then f, `e ¦ f` is e or f.
+-- How expressions are written: `e ⨾ f` is e and then f, `e ¦ f` is e or f, `optional e` is e or nothing.
 infixr 42 _⨾_
 infixr 41 _¦_
 abbrev pub _⨾_ : Ex → Ex → Ex
@@ -16,19 +16,14 @@ e ⨾ f = seq e f
 abbrev pub _¦_ : Ex → Ex → Ex
 e ¦ f = or e f
 
--- e or nothing
 abbrev pub optional : Ex → Ex
 optional e = eps ¦ e
-
--- a token of the class c or of one of the list
-abbrev pub eitherOf : ℕ → List ℕ → Ex
-eitherOf c [] = mark c
-eitherOf c (d ∷ l) = mark c ¦ eitherOf d l
 
 -- a token of one of the classes, of which there is at least one
 abbrev pub oneOf : List ℕ → Ex
 oneOf [] = eps
-oneOf (c ∷ l) = eitherOf c l
+oneOf (c ∷ []) = mark c
+oneOf (c ∷ d ∷ l) = mark c ¦ oneOf (d ∷ l)
 
 -- the classes of the first list that are not in the second
 infixl 61 _but_
@@ -36,11 +31,10 @@ abbrev pub _but_ : List ℕ → List ℕ → List ℕ
 [] but l = []
 (a ∷ k) but l = cond (mem a l) (k but l) (a ∷ (k but l))
 
--- "Lists may be empty and may end in a comma, save where said."
+-- "Lists may be empty and may end in a comma, save where said"; `commas1` is a list of at least one.
 abbrev pub commas : Ex → Ex
 commas e = list e t.Comma
 
--- a list of at least one
 abbrev pub commas1 : Ex → Ex
 commas1 e = e ⨾ tail e t.Comma
 

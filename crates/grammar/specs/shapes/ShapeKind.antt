@@ -1,51 +1,7 @@
--- Names for what `shapes` (Shapes.antt) lists: its categories, its named parts, and its kinds of shapes by their numbers.
+-- The shapes by name: the number of each is the place of its row in `rows` (Shapes.antt), as Named.antt checks. Only proofs need these.
 -- Assumes nothing.
 use Prim.Native.Nat.{ℕ}
-use Rattle.theory.specs.Ebnf.{Ex, child, part}
 
--- The categories: a function, a parameter, a type, a pattern, a block, a `let`, any other expression, an arm.
-abbrev pub function : Ex
-function = child 0
-
-abbrev pub parameter : Ex
-parameter = child 1
-
-abbrev pub type : Ex
-type = child 2
-
-abbrev pub pattern : Ex
-pattern = child 3
-
-abbrev pub block : Ex
-block = child 4
-
-abbrev pub assignment : Ex
-assignment = child 5
-
-abbrev pub single : Ex
-single = child 6
-
-abbrev pub arm : Ex
-arm = child 7
-
--- The parts that have a name, and are no shapes of their own: what stands between the braces of a block; an argument list; what
--- follows the first `::` of a path; that `::` and a path in an arm's head; a pattern with its type.
-abbrev pub elements : Ex
-elements = part 0
-
-abbrev pub arguments : Ex
-arguments = part 1
-
-abbrev pub path : Ex
-path = part 2
-
-abbrev pub headPath : Ex
-headPath = part 3
-
-abbrev pub pair : Ex
-pair = part 4
-
--- The kinds: the place of each in the list of expressions.
 abbrev pub FunctionShape : ℕ
 FunctionShape = 0
 

@@ -5,10 +5,10 @@
 use mathlib.Core.Bool.{true, false}
 use mathlib.Core.List.{List, [], _∷_}
 use Rattle.theory.specs.Grammar.{tok, nt, on, Row}
-use Rattle.theory.specs.Ebnf.{Ex, eps, mark, seq, or, many, list, tail}
+use Rattle.theory.specs.Ebnf.{Ex, eps, mark, child, seq, or, many, list, tail}
 use Rattle.lexer.specs.Classes as t
-use Rattle.grammar.specs.shapes.ShapeKind.{function, parameter, type, pattern, block, assignment, single, arm, elements, arguments, path, headPath, pair}
-use Rattle.grammar.specs.shapes.Shapes.{expression, identifier, functionName, namedType, literal, otherName, head}
+use Rattle.grammar.specs.shapes.Categories.{function, parameter, type, pattern, block, assignment, single, arm, elements, arguments, path, headPath, pair}
+use Rattle.grammar.specs.shapes.Shapes.{identifier, functionName, namedType, literal, otherName, expression, head}
 
 -- 0: function
 abbrev r0 : Row
@@ -248,4 +248,4 @@ table = r0 ∷ r1 ∷ r2 ∷ r3 ∷ r4 ∷ r5 ∷ r6 ∷ r7 ∷ r8 ∷ r9 ∷ r1
 
 -- The expression that each nonterminal stands for.
 unfoldable pub means : List Ex
-means = function ∷ (or eps (mark t.Pub)) ∷ functionName ∷ (list parameter t.Comma) ∷ (or eps (seq (mark t.Arrow) type)) ∷ block ∷ parameter ∷ (tail parameter t.Comma) ∷ type ∷ elements ∷ identifier ∷ (or eps (seq (mark t.LAngle) (seq (seq type (seq (mark t.Comma) type)) (mark t.RAngle)))) ∷ (or eps (seq (mark t.LAngle) (seq type (mark t.RAngle)))) ∷ (or eps (seq (mark t.LAngle) (seq (seq type (seq (mark t.Comma) (mark t.DecLiteral))) (mark t.RAngle)))) ∷ namedType ∷ (list type t.Comma) ∷ assignment ∷ expression ∷ (or eps (seq (mark t.Semi) elements)) ∷ (tail type t.Comma) ∷ pattern ∷ single ∷ (list pattern t.Comma) ∷ literal ∷ (list expression t.Comma) ∷ (many arm) ∷ (or (mark t.assert!) (or (mark t.panic!) (or (mark t.dbg!) (mark t.Jet)))) ∷ arguments ∷ (or (mark t.unwrap) (or (mark t.Ident) (or (mark t.Left) (or (mark t.Right) (or (mark t.Some) (or (mark t.Either) (or (mark t.Option) (mark t.List)))))))) ∷ (or eps (or arguments (seq (mark t.DoubleColon) path))) ∷ (or (mark t.None) (or (mark t.into) (or (mark t.assert) (or (mark t.panic) (mark t.dbg))))) ∷ (or eps (seq (mark t.DoubleColon) path)) ∷ (or (mark t.unwrap-left) (or (mark t.unwrap-right) (or (mark t.is-none) (mark t.raw-hash)))) ∷ (or eps (seq (mark t.DoubleColon) (or (seq (seq (mark t.LAngle) (seq type (mark t.RAngle))) arguments) path))) ∷ (or (mark t.fold) (mark t.array-fold)) ∷ (or eps (seq (mark t.DoubleColon) (or (seq (seq (mark t.LAngle) (seq (seq functionName (seq (mark t.Comma) (mark t.DecLiteral))) (mark t.RAngle))) arguments) path))) ∷ (or eps (seq (mark t.DoubleColon) (or (seq (seq (mark t.LAngle) (seq functionName (mark t.RAngle))) arguments) path))) ∷ (tail pattern t.Comma) ∷ (tail expression t.Comma) ∷ arm ∷ path ∷ (or (seq (seq (mark t.LAngle) (seq type (mark t.RAngle))) arguments) path) ∷ (or (seq (seq (mark t.LAngle) (seq (seq functionName (seq (mark t.Comma) (mark t.DecLiteral))) (mark t.RAngle))) arguments) path) ∷ (or (seq (seq (mark t.LAngle) (seq functionName (mark t.RAngle))) arguments) path) ∷ head ∷ (or (seq block (or eps (mark t.Comma))) (seq single (mark t.Comma))) ∷ (many (seq (mark t.DoubleColon) identifier)) ∷ (or eps arguments) ∷ (or eps headPath) ∷ (or (mark t.Left) (or (mark t.Right) (mark t.Some))) ∷ (or (seq (mark t.LParen) (seq pair (mark t.RParen))) headPath) ∷ otherName ∷ headPath ∷ (or eps (mark t.Comma)) ∷ pair ∷ (or eps (seq (mark t.LParen) (seq (seq pair (tail pair t.Comma)) (mark t.RParen)))) ∷ (tail pair t.Comma) ∷ (list pair t.Comma) ∷ []
+means = (child function) ∷ (or eps (mark t.Pub)) ∷ functionName ∷ (list (child parameter) t.Comma) ∷ (or eps (seq (mark t.Arrow) (child type))) ∷ (child block) ∷ (child parameter) ∷ (tail (child parameter) t.Comma) ∷ (child type) ∷ elements ∷ identifier ∷ (or eps (seq (mark t.LAngle) (seq (seq (child type) (seq (mark t.Comma) (child type))) (mark t.RAngle)))) ∷ (or eps (seq (mark t.LAngle) (seq (child type) (mark t.RAngle)))) ∷ (or eps (seq (mark t.LAngle) (seq (seq (child type) (seq (mark t.Comma) (mark t.DecLiteral))) (mark t.RAngle)))) ∷ namedType ∷ (list (child type) t.Comma) ∷ (child assignment) ∷ expression ∷ (or eps (seq (mark t.Semi) elements)) ∷ (tail (child type) t.Comma) ∷ (child pattern) ∷ (child single) ∷ (list (child pattern) t.Comma) ∷ literal ∷ (list expression t.Comma) ∷ (many (child arm)) ∷ (or (mark t.assert!) (or (mark t.panic!) (or (mark t.dbg!) (mark t.Jet)))) ∷ arguments ∷ (or (mark t.unwrap) (or (mark t.Ident) (or (mark t.Left) (or (mark t.Right) (or (mark t.Some) (or (mark t.Either) (or (mark t.Option) (mark t.List)))))))) ∷ (or eps (or arguments (seq (mark t.DoubleColon) path))) ∷ (or (mark t.None) (or (mark t.into) (or (mark t.assert) (or (mark t.panic) (mark t.dbg))))) ∷ (or eps (seq (mark t.DoubleColon) path)) ∷ (or (mark t.unwrap-left) (or (mark t.unwrap-right) (or (mark t.is-none) (mark t.raw-hash)))) ∷ (or eps (seq (mark t.DoubleColon) (or (seq (seq (mark t.LAngle) (seq (child type) (mark t.RAngle))) arguments) path))) ∷ (or (mark t.fold) (mark t.array-fold)) ∷ (or eps (seq (mark t.DoubleColon) (or (seq (seq (mark t.LAngle) (seq (seq functionName (seq (mark t.Comma) (mark t.DecLiteral))) (mark t.RAngle))) arguments) path))) ∷ (or eps (seq (mark t.DoubleColon) (or (seq (seq (mark t.LAngle) (seq functionName (mark t.RAngle))) arguments) path))) ∷ (tail (child pattern) t.Comma) ∷ (tail expression t.Comma) ∷ (child arm) ∷ path ∷ (or (seq (seq (mark t.LAngle) (seq (child type) (mark t.RAngle))) arguments) path) ∷ (or (seq (seq (mark t.LAngle) (seq (seq functionName (seq (mark t.Comma) (mark t.DecLiteral))) (mark t.RAngle))) arguments) path) ∷ (or (seq (seq (mark t.LAngle) (seq functionName (mark t.RAngle))) arguments) path) ∷ head ∷ (or (seq (child block) (or eps (mark t.Comma))) (seq (child single) (mark t.Comma))) ∷ (many (seq (mark t.DoubleColon) identifier)) ∷ (or eps arguments) ∷ (or eps headPath) ∷ (or (mark t.Left) (or (mark t.Right) (mark t.Some))) ∷ (or (seq (mark t.LParen) (seq pair (mark t.RParen))) headPath) ∷ otherName ∷ headPath ∷ (or eps (mark t.Comma)) ∷ pair ∷ (or eps (seq (mark t.LParen) (seq (seq pair (tail pair t.Comma)) (mark t.RParen)))) ∷ (tail pair t.Comma) ∷ (list pair t.Comma) ∷ []

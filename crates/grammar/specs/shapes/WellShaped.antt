@@ -21,6 +21,7 @@ use Rattle.theory.specs.Walk.{Reads, Sticks}
 use Rattle.theory.specs.Fuel.{saves, need, paidRow, paid}
 use Rattle.theory.specs.Parse.{Found, found, stuck, parse, Checked}
 use Rattle.theory.specs.Theorems.{found-exactly, unique, stuck-exactly, no-tree, reads-found, reads-stuck, sticks-stuck}
+use Rattle.grammar.specs.shapes.Categories.{function}
 use Rattle.grammar.specs.shapes.ShapeKind.{FunctionShape}
 use Rattle.grammar.specs.shapes.Shapes.{shapes}
 use Rattle.grammar.specs.shapes.Tables.{table, means}
@@ -44,7 +45,7 @@ pub data Nodes : Items → Type 0 where
   a-node : (k : ℕ) (js : Items) {r : Items} → Nodes r → Nodes (sub k js r)
 
 -- the category of a function has one kind
-only-kind : (i k : ℕ) → getElem? (kindsOf shapes 0) i ≡ some k → k ≡ FunctionShape
+only-kind : (i k : ℕ) → getElem? (kindsOf shapes function) i ≡ some k → k ≡ FunctionShape
 unfolding kindsOf shapes
 only-kind zero k e = cc
 only-kind (suc i) k e = let z : _≡_ {A = ℕ} 0 1 = cc in absurd (omega arith)
@@ -52,7 +53,7 @@ only-kind (suc i) k e = let z : _≡_ {A = ℕ} 0 1 = cc in absurd (omega arith)
 -- The shape tree of one function is one node, that of a function.
 pub shape-function : {r : Items} → Shape oneFunction r → (js : Items) × (r ≡ sub FunctionShape js nil) × Match shapes (bodyOf shapes FunctionShape) js
 shape-function m =
-    let n = one-node shapes 0 m in
+    let n = one-node shapes function m in
     let e = only-kind (n .place) (n .kind) (n .listed) in
     (n .within, n .whole ∙ ap (λ (k : ℕ). sub k (n .within) nil) e, subst (λ (k : ℕ). Match shapes (bodyOf shapes k) (n .within)) e (n .body))
 

@@ -4,7 +4,7 @@ use mathlib.Core.Bool.{Bool, true, false, _&&_, _||_, not, cond}
 use mathlib.Core.List.{List, [], _∷_}
 use mathlib.Core.Option.{some}
 use mathlib.Core.Path.{_≡_, refl, sym, ap, _∙_, subst}
-use Prim.Native.Nat.{ℕ, zero, suc, _≤_, _<_}
+use Prim.Native.Nat.{ℕ, zero, suc, _+_, _≤_, _<_}
 use native.Mathlib.Omega.{arith}
 use borrow.Author.Tests.{eq-eqb, ltb-true, ltb-false, lt-ltb}
 use lib.Dec.{T, eqb, eqb→eq, ltb}
@@ -31,9 +31,9 @@ use Rattle.grammar.specs.shapes.ShapeKind.{FunctionShape, ParameterShape
 use Rattle.grammar.specs.shapes.ShapeKind.{TupleTypeShape, ArrayTypeShape, NamePatternShape, TuplePatternShape, ArrayPatternShape, BlockShape}
 use Rattle.grammar.specs.shapes.ShapeKind.{AssignmentShape, LiteralShape, ParensShape, ArrayShape, ListShape, MatchShape, SimpleCallShape}
 use Rattle.grammar.specs.shapes.ShapeKind.{CastCallShape, NamedShape, BareShape, TypedShape, FoldingShape, ForWhileShape, ArmShape}
-use Rattle.grammar.specs.shapes.Shapes.{shapes}
+use Rattle.grammar.specs.shapes.Categories as category
+use Rattle.grammar.specs.shapes.Shapes.{rows, shapes}
 use Rattle.grammar.specs.spelled.Rules.{kindsIn, both, seen, partShapes, has-within, nth-none}
-use Rattle.grammar.specs.spelled.Rows.{Row}
 use Rattle.grammar.specs.spelled.Inclusion.{all-has}
 use Rattle.grammar.specs.spelled.Decisions.{freeOf, free-sound}
 use Rattle.grammar.specs.spelled.FormTests.{SpelledAs, Numbers, noNumber, no-numbers, good-bound, good-size, number-of, allBelow, below-all}
@@ -44,17 +44,17 @@ use Rattle.grammar.specs.spelled.BlockLaws.{block-law}
 use Rattle.grammar.specs.spelled.MatchLaws.{match-law}
 use Rattle.grammar.specs.spelled.ShapeTests.{bodyShape, boundPart, sizePart, foldNumber, tests}
 use Rattle.grammar.specs.records.Records.{Head, head, wide, lowHalf, highHalf, reads, sees, opening, lone, placeIn, typeName, boolType, unsignedType, builtinType, patternName, literalHead, largest}
-use Rattle.grammar.specs.records.Records.{functionHead, callHead, wrapperHead, calledHead, aloneHead, nameHead, armHead, headOf, Form, always, numbered, angled, lonely, aFunction, aTypeName}
-use Rattle.grammar.specs.records.Records.{aPatternName, aLiteral, aName, anArm, aBlock, aMatch, forms, formOf}
+use Rattle.grammar.specs.shapes.Row.{Row, Form, always, numbered, angled, lonely, aFunction, aTypeName, aPatternName, aLiteral, aName, anArm, aBlock, aMatch}
+use Rattle.grammar.specs.records.Records.{functionHead, callHead, wrapperHead, calledHead, aloneHead, nameHead, armHead, headOf, formOf}
 use Rattle.grammar.specs.records.Records as rec
 use Rattle.grammar.specs.records.Faults.{armLows, armsFault}
 
 -- How many categories and how many kinds of shapes there are.
 abbrev pub categoryCount : ℕ
-categoryCount = 8
+categoryCount = suc category.arm
 
 abbrev pub shapeCount : ℕ
-shapeCount = suc ArmShape
+shapeCount = length rows
 
 -- What is given of a shape of kind k with the number v and these pieces: the number fits, is 0 if there is no decimal, and no refusal
 -- of 9 to 14 is the shape's.
@@ -135,115 +135,54 @@ module _ (text : List ℕ) (v : Value) (w : List Sort) where
   unfolding bodyShape shapes seen partShapes both kindsIn
   kept-match g p = match-law n (g .armed refl) p
 
--- The laws of the first n kinds.
-abbrev Below : (ℕ → Type 0) → ℕ → Type 0
-Below P zero = Unit {0}
-Below P (suc n) = Below P n × P n
+-- A law of the number of each row, where the first has the number n.
+infixr 5 _&_
+data Each (P : ℕ → Type 0) : ℕ → List Row → Type 0 where
+  end : {n : ℕ} → Each P n []
+  _&_ : {n : ℕ} {r : Row} {l : List Row} → P n → Each P (suc n) l → Each P n (r ∷ l)
 
-below-at : (P : ℕ → Type 0) (n : ℕ) → Below P n → (i : ℕ) → i < n → P i
-below-at P zero b i h = absurd (omega arith)
-below-at P (suc n) b i h = go (ltb i n) refl (below-at P n (b .0) i)
-  where
-    go : (t : Bool) → ltb i n ≡ t → (i < n → P i) → P i
-    go true e f = f (ltb-true i n e)
-    go false e f =
-        let l = ltb-false i n e in
-        let q : n ≡ i = omega arith in
-        subst P q (b .1)
+each-at : {P : ℕ → Type 0} {n : ℕ} {l : List Row} → Each P n l → (i : ℕ) → i < length l → (k : ℕ) → k ≡ n + i → P k
+each-at end i h k e = absurd (omega arith)
+each-at {P} {n} (p & b) zero h k e =
+    let q : n ≡ k = omega arith in
+    subst P q p
+each-at (p & b) (suc i) h k e = each-at b i (omega arith) k (omega arith)
 
-types-kept : Below Kept NamePatternShape
-unfolding headOf forms formOf
-types-kept = (
-  (
-    (
-      (
-        (
-          (
-            (
-              (
-                tt,
-                λ text v w g p. kept-function text v w g p,
-              ),
-              λ text v w g p. always-law (reads v) kind.Parameter (bodyShape ParameterShape) (tests (reads v) .parameter) p,
-            ),
-            λ text v w g p. kept-either text v w g p,
-          ),
-          λ text v w g p. kept-option text v w g p,
-        ),
-        λ text v w g p. kept-list text v w g p,
-      ),
-      λ text v w g p. type-law (reads v) text (bodyShape NamedTypeShape) (tests (reads v) .type-name) p,
-    ),
-    λ text v w g p. always-law (reads v) kind.TupleType (bodyShape TupleTypeShape) (tests (reads v) .tuple-type) p,
-  ),
-  λ text v w g p. number-law (reads v) kind.ArrayType (bodyShape ArrayTypeShape) (g .small) (tests (reads v) .array-type) p,
-)
-
-patterns-kept : Below Kept MatchShape
-unfolding headOf forms formOf
-patterns-kept = (
-  (
-    (
-      (
-        (
-          (
-            (
-              (
-                (
-                  types-kept,
-                  λ text v w g p. pattern-law (reads v) text (bodyShape NamePatternShape) (tests (reads v) .pattern-name) p,
-                ),
-                λ text v w g p. always-law (reads v) kind.TuplePattern (bodyShape TuplePatternShape) (tests (reads v) .tuple-pattern) p,
-              ),
-              λ text v w g p. always-law (reads v) kind.ArrayPattern (bodyShape ArrayPatternShape) (tests (reads v) .array-pattern) p,
-            ),
-            λ text v w g p. kept-block text v w p,
-          ),
-          λ text v w g p. always-law (reads v) kind.Let (bodyShape AssignmentShape) (tests (reads v) .assignment) p,
-        ),
-        λ text v w g p. literal-law (reads v) (bodyShape LiteralShape) (tests (reads v) .literal) p,
-      ),
-      λ text v w g p. lonely-law (reads v) kind.Parenthesised kind.Tuple (bodyShape ParensShape) (tests (reads v) .parens) p,
-    ),
-    λ text v w g p. always-law (reads v) kind.Array (bodyShape ArrayShape) (tests (reads v) .array) p,
-  ),
-  λ text v w g p. always-law (reads v) kind.List (bodyShape ListShape) (tests (reads v) .list) p,
-)
-
-all-kept : Below Kept shapeCount
-unfolding headOf forms formOf
-all-kept = (
-  (
-    (
-      (
-        (
-          (
-            (
-              (
-                (
-                  patterns-kept,
-                  λ text v w g p. kept-match text v w g p,
-                ),
-                λ text v w g p. name-law (reads v) (λ c. noNumber) (bodyShape SimpleCallShape) (λ c e s. no-numbers (reads v)) (tests (reads v) .simple-call) p,
-              ),
-              λ text v w g p. name-law (reads v) (λ c. noNumber) (bodyShape CastCallShape) (λ c e s. no-numbers (reads v)) (tests (reads v) .cast-call) p,
-            ),
-            λ text v w g p. name-law (reads v) (λ c. noNumber) (bodyShape NamedShape) (λ c e s. no-numbers (reads v)) (tests (reads v) .named) p,
-          ),
-          λ text v w g p. name-law (reads v) (λ c. noNumber) (bodyShape BareShape) (λ c e s. no-numbers (reads v)) (tests (reads v) .bare) p,
-        ),
-        λ text v w g p. name-law (reads v) (λ c. noNumber) (bodyShape TypedShape) (λ c e s. no-numbers (reads v)) (tests (reads v) .typed) p,
-      ),
-      λ text v w g p. name-law (reads v) foldNumber (bodyShape FoldingShape) (fold-numbers v w g) (tests (reads v) .folding) p,
-    ),
-    λ text v w g p. name-law (reads v) (λ c. noNumber) (bodyShape ForWhileShape) (λ c e s. no-numbers (reads v)) (tests (reads v) .for-while) p,
-  ),
-  λ text v w g p. arm-law (reads v) (bodyShape ArmShape) (tests (reads v) .arm) p,
-)
+-- One law a row.
+all-kept : Each Kept 0 rows
+unfolding headOf formOf
+all-kept =
+    (λ text v w g p. kept-function text v w g p)
+    & (λ text v w g p. always-law (reads v) kind.Parameter (bodyShape ParameterShape) (tests (reads v) .parameter) p)
+    & (λ text v w g p. kept-either text v w g p)
+    & (λ text v w g p. kept-option text v w g p)
+    & (λ text v w g p. kept-list text v w g p)
+    & (λ text v w g p. type-law (reads v) text (bodyShape NamedTypeShape) (tests (reads v) .type-name) p)
+    & (λ text v w g p. always-law (reads v) kind.TupleType (bodyShape TupleTypeShape) (tests (reads v) .tuple-type) p)
+    & (λ text v w g p. number-law (reads v) kind.ArrayType (bodyShape ArrayTypeShape) (g .small) (tests (reads v) .array-type) p)
+    & (λ text v w g p. pattern-law (reads v) text (bodyShape NamePatternShape) (tests (reads v) .pattern-name) p)
+    & (λ text v w g p. always-law (reads v) kind.TuplePattern (bodyShape TuplePatternShape) (tests (reads v) .tuple-pattern) p)
+    & (λ text v w g p. always-law (reads v) kind.ArrayPattern (bodyShape ArrayPatternShape) (tests (reads v) .array-pattern) p)
+    & (λ text v w g p. kept-block text v w p)
+    & (λ text v w g p. always-law (reads v) kind.Let (bodyShape AssignmentShape) (tests (reads v) .assignment) p)
+    & (λ text v w g p. literal-law (reads v) (bodyShape LiteralShape) (tests (reads v) .literal) p)
+    & (λ text v w g p. lonely-law (reads v) kind.Parenthesised kind.Tuple (bodyShape ParensShape) (tests (reads v) .parens) p)
+    & (λ text v w g p. always-law (reads v) kind.Array (bodyShape ArrayShape) (tests (reads v) .array) p)
+    & (λ text v w g p. always-law (reads v) kind.List (bodyShape ListShape) (tests (reads v) .list) p)
+    & (λ text v w g p. kept-match text v w g p)
+    & (λ text v w g p. name-law (reads v) (λ c. noNumber) (bodyShape SimpleCallShape) (λ c e s. no-numbers (reads v)) (tests (reads v) .simple-call) p)
+    & (λ text v w g p. name-law (reads v) (λ c. noNumber) (bodyShape CastCallShape) (λ c e s. no-numbers (reads v)) (tests (reads v) .cast-call) p)
+    & (λ text v w g p. name-law (reads v) (λ c. noNumber) (bodyShape NamedShape) (λ c e s. no-numbers (reads v)) (tests (reads v) .named) p)
+    & (λ text v w g p. name-law (reads v) (λ c. noNumber) (bodyShape BareShape) (λ c e s. no-numbers (reads v)) (tests (reads v) .bare) p)
+    & (λ text v w g p. name-law (reads v) (λ c. noNumber) (bodyShape TypedShape) (λ c e s. no-numbers (reads v)) (tests (reads v) .typed) p)
+    & (λ text v w g p. name-law (reads v) foldNumber (bodyShape FoldingShape) (fold-numbers v w g) (tests (reads v) .folding) p)
+    & (λ text v w g p. name-law (reads v) (λ c. noNumber) (bodyShape ForWhileShape) (λ c e s. no-numbers (reads v)) (tests (reads v) .for-while) p)
+    & (λ text v w g p. arm-law (reads v) (bodyShape ArmShape) (tests (reads v) .arm) p)
+    & end
 
 -- The law of every kind of shapes.
 pub kept : (k : ℕ) → k < shapeCount → Kept k
-kept k h = below-at Kept shapeCount all-kept k h
+kept k h = each-at all-kept k h k (omega arith)
 
 -- ---- the kind of a record is one of its category
 
@@ -341,7 +280,7 @@ unfoldable pub sound-kind : ℕ → ℕ → Bool
 sound-kind C k = ltb k shapeCount && all (has (kindsIn C)) (possible (formOf k))
 
 sound-kinds : T (allBelow (λ C. all (sound-kind C) (shape.kindsOf shapes C)) categoryCount)
-unfolding allBelow all sound-kind shape.kindsOf shapes kindsIn possible formOf forms has span count
+unfolding allBelow all sound-kind shape.kindsOf shapes kindsIn possible formOf has span count
 sound-kinds = tt
 
 nth-all : {A : Type 0} (f : A → Bool) (l : List A) (i : ℕ) {a : A} → T (all f l) → getElem? l i ≡ some a → T (f a)

@@ -13,7 +13,7 @@ use Rattle.own.specs.Kinds as kind
 use Rattle.grammar.specs.shapes.ShapeKind.{FunctionShape}
 use Rattle.grammar.specs.Entry.{Entry, oneFunction}
 use Rattle.grammar.specs.shapes.WellShaped.{Shape, Nodes, no-more, a-node, shape-function, shape-nodes, shapeOf, shape-exactly}
-use Rattle.grammar.specs.records.Records.{Role, aMark, asName, asNumber, roleOf, placed, arranged, firstTok, reads, decimal, functionHead, headOf, forms, formOf, Head, headFor, recorded, recordItems, recordTrees}
+use Rattle.grammar.specs.records.Records.{Role, aMark, asName, asNumber, roleOf, placed, arranged, firstTok, reads, decimal, functionHead, headOf, formOf, Head, headFor, recorded, recordItems, recordTrees}
 
 -- The classes of tokens.
 unfoldable pub classesOf : List Tok → List ℕ
@@ -97,7 +97,7 @@ module _ (draft : List ℕ) (ts : List Tok) where
   Top ns = (n : Node) × (ns ≡ n ∷ []) × (n .kind ≡ kind.Function)
 
   of-node : (js : shape.Items) → Top (recordTrees draft ts (shape.sub FunctionShape js shape.nil))
-  unfolding recordTrees recordItems recorded headFor headOf formOf forms functionHead
+  unfolding recordTrees recordItems recorded headFor headOf formOf functionHead
   of-node js = (_, refl, refl)
 
   -- "1 function": the trees of one function are one, and the record above all is a function.

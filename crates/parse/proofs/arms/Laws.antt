@@ -19,7 +19,8 @@ use Rattle.kinds.specs.Shape.{has}
 use Rattle.kinds.specs.Fields.{counted}
 use Rattle.lexer.specs.Classes as t
 use Rattle.grammar.specs.spelled.Decisions.{counted-append}
-use Rattle.grammar.specs.records.Records.{plain, aMatch, headOf, firstTok}
+use Rattle.grammar.specs.shapes.Row.{aMatch}
+use Rattle.grammar.specs.records.Records.{plain, headOf, firstTok}
 use Rattle.grammar.specs.records.Faults.{unless, armLows, mates, armsFault, faultsAt, earlier, earliest}
 use Rattle.grammar.specs.shapes.ShapeKind.{MatchShape}
 use Rattle.text.specs.Refusals as refusal

@@ -34,7 +34,7 @@ use Rattle.own.specs.Arms as arm
 use Rattle.own.specs.Kinds as kind
 use Rattle.grammar.specs.shapes.Shapes.{shapes}
 use Rattle.grammar.specs.shapes.Tables.{means, table}
-use Rattle.grammar.specs.records.Records.{Head, head, sees, nameCount, lone, headOf, forms, formOf, armHead, arranged, Role, aMark, roleOf}
+use Rattle.grammar.specs.records.Records.{Head, head, sees, nameCount, lone, headOf, formOf, armHead, arranged, Role, aMark, roleOf}
 use Rattle.grammar.specs.records.Faults.{Fault, earliest}
 use Rattle.grammar.specs.shapes.ShapeKind.{ArmShape}
 use Rattle.grammar.specs.shapes.TablesIndex.{n-arguments, n-arm, n-arm-choice, n-arm-choice-optional-Comma, n-block, n-head, n-headPath, n-list-expression, n-otherName, n-single}
@@ -288,7 +288,7 @@ arm-kinds a b h = go (eqb a 0) refl
 
 arm-decides : (x : Text) (a b : ℕ) (W U : List Sort) (ms : List Tok) → ((v : List Sort) → Quiet v → armHead (W ++ v) ≡ head (armKind a) (armLow a b) (armHigh a b)) → Quiet U
     → decided x ArmShape (W ++ (word t.FatArrow ∷ U)) ms ≡ head (armKind a) (armLow a b) (armHigh a b)
-unfolding headOf formOf forms
+unfolding headOf formOf
 arm-decides x a b W U ms h q = h (word t.FatArrow ∷ U) (arrow-quiet U q)
 
 -- The record of an arm.

@@ -31,7 +31,8 @@ use Rattle.own.specs.Calls as call
 use Rattle.own.specs.Kinds as kind
 use Rattle.grammar.specs.shapes.Shapes.{shapes}
 use Rattle.grammar.specs.shapes.Tables.{means, table}
-use Rattle.grammar.specs.records.Records.{Head, head, plain, Form, aName, forms, formOf, headOf, sees, opening, nameCount, partCount, lone, placeIn, callHead, wrapperHead, calledHead, aloneHead, nameHead, textOf, firstTok, firstOf, decimal, aMark, asName, asNumber, roleOf}
+use Rattle.grammar.specs.shapes.Row.{Form, aName}
+use Rattle.grammar.specs.records.Records.{Head, head, plain, formOf, headOf, sees, opening, nameCount, partCount, lone, placeIn, callHead, wrapperHead, calledHead, aloneHead, nameHead, textOf, firstTok, firstOf, decimal, aMark, asName, asNumber, roleOf}
 use Rattle.grammar.specs.records.Faults.{Fault, unless, faultsAt, earliest, earlier}
 use Rattle.grammar.specs.shapes.ShapeKind.{BareShape, CastCallShape, FoldingShape, ForWhileShape, NamedShape, SimpleCallShape, TypedShape}
 use Rattle.parse.specs.declared.State.{State}
@@ -244,31 +245,31 @@ module _ {x : Text} {K : ℕ} {N : ℕ → Type 0} {full left : List Sym} {st : 
   by-form k e d = ap (λ (f : Form). headOf f (textOf (x .draft) (firstTok ms)) (numberIn x ms) w) e
 
   pub form-simple : Amid x K N full left st l w ms m st₁ l₁ → decided x SimpleCallShape w ms ≡ nameHead w
-  unfolding formOf forms
+  unfolding formOf
   form-simple = by-form SimpleCallShape refl
 
   pub form-cast : Amid x K N full left st l w ms m st₁ l₁ → decided x CastCallShape w ms ≡ nameHead w
-  unfolding formOf forms
+  unfolding formOf
   form-cast = by-form CastCallShape refl
 
   pub form-named : Amid x K N full left st l w ms m st₁ l₁ → decided x NamedShape w ms ≡ nameHead w
-  unfolding formOf forms
+  unfolding formOf
   form-named = by-form NamedShape refl
 
   pub form-bare : Amid x K N full left st l w ms m st₁ l₁ → decided x BareShape w ms ≡ nameHead w
-  unfolding formOf forms
+  unfolding formOf
   form-bare = by-form BareShape refl
 
   pub form-typed : Amid x K N full left st l w ms m st₁ l₁ → decided x TypedShape w ms ≡ nameHead w
-  unfolding formOf forms
+  unfolding formOf
   form-typed = by-form TypedShape refl
 
   pub form-folding : Amid x K N full left st l w ms m st₁ l₁ → decided x FoldingShape w ms ≡ nameHead w
-  unfolding formOf forms
+  unfolding formOf
   form-folding = by-form FoldingShape refl
 
   pub form-whiles : Amid x K N full left st l w ms m st₁ l₁ → decided x ForWhileShape w ms ≡ nameHead w
-  unfolding formOf forms
+  unfolding formOf
   form-whiles = by-form ForWhileShape refl
 
 -- The heads of calls with `< >`.

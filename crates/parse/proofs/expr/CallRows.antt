@@ -31,7 +31,8 @@ use Rattle.own.specs.Law.{Sort, word, child}
 use Rattle.own.specs.Kinds as kind
 use Rattle.grammar.specs.shapes.Shapes.{shapes}
 use Rattle.grammar.specs.shapes.Tables.{means, table}
-use Rattle.grammar.specs.records.Records.{Head, head, plain, Form, aName, forms, formOf, headOf, sees, opening, nameCount, partCount, lone, placeIn, callHead, wrapperHead, calledHead, aloneHead, nameHead, textOf, firstTok, firstOf, decimal, aMark, asName, asNumber, roleOf}
+use Rattle.grammar.specs.shapes.Row.{Form, aName}
+use Rattle.grammar.specs.records.Records.{Head, head, plain, formOf, headOf, sees, opening, nameCount, partCount, lone, placeIn, callHead, wrapperHead, calledHead, aloneHead, nameHead, textOf, firstTok, firstOf, decimal, aMark, asName, asNumber, roleOf}
 use Rattle.grammar.specs.records.Faults.{Fault, unless, faultsAt, earliest, earlier}
 use Rattle.grammar.specs.shapes.ShapeKind.{BareShape, CastCallShape, FoldingShape, ForWhileShape, NamedShape, SimpleCallShape, TypedShape}
 use Rattle.grammar.specs.shapes.TablesIndex.{

@@ -36,7 +36,7 @@ use Rattle.own.specs.Law.{Sort, word, child}
 use Rattle.own.specs.Kinds as kind
 use Rattle.grammar.specs.shapes.Shapes.{shapes}
 use Rattle.grammar.specs.shapes.Tables.{means, table}
-use Rattle.grammar.specs.records.Records.{Head, head, wide, plain, sees, headOf, forms, formOf, lowHalf, highHalf, typeName, patternName, textOf, firstTok, firstOf, opening, reads, decimal, literalHead, lone, partCount, unended, builtinType, unsignedType, boolType, Role, aMark, roleOf}
+use Rattle.grammar.specs.records.Records.{Head, head, wide, plain, sees, headOf, formOf, lowHalf, highHalf, typeName, patternName, textOf, firstTok, firstOf, opening, reads, decimal, literalHead, lone, partCount, unended, builtinType, unsignedType, boolType, Role, aMark, roleOf}
 use Rattle.grammar.specs.records.Faults.{unless, faultsAt, earliest, earlier}
 use Rattle.grammar.specs.shapes.ShapeKind.{ArrayShape, AssignmentShape, BlockShape, ListShape, LiteralShape, ParensShape}
 use Rattle.grammar.specs.shapes.TablesIndex.{n-assignment, n-block, n-elements, n-expression, n-list-expression, n-literal, n-pattern, n-single, n-tail-expression, n-type}
@@ -218,25 +218,25 @@ kind-of false = refl
 module _ {x : Text} {K : ℕ} {N : ℕ → Type 0} {full left : List Sym} {st : State} {l : List ℕ} {ms : List Tok} {m : ℕ} {st₁ : State} {l₁ : List ℕ} where
   pub parens-head : (W : List Sort) (a : ℕ) {k : ℕ} → Amid x K N full left st l (word t.LParen ∷ (W ++ (word t.RParen ∷ []))) ms m st₁ l₁ → lone W ≡ eqb a 1 → k ≡ cond (eqb a 1) kind.Parenthesised kind.Tuple
       → decided x ParensShape (word t.LParen ∷ (W ++ (word t.RParen ∷ []))) ms ≡ head k 0 0
-  unfolding headOf formOf forms
+  unfolding headOf formOf
   parens-head W a d e f = ap (λ (b : Bool). cond b (plain kind.Parenthesised) (plain kind.Tuple)) (lone-in t.LParen t.RParen W refl refl ∙ e) ∙ kind-of (eqb a 1) ∙ ap plain (sym f)
 
   pub block-head : (W : List Sort) {a : ℕ} → Amid x K N full left st l (word t.LBrace ∷ (W ++ (word t.RBrace ∷ []))) ms m st₁ l₁ → a ≡ cond (unended false W) 1 0
       → decided x BlockShape (word t.LBrace ∷ (W ++ (word t.RBrace ∷ []))) ms ≡ head kind.Block a 0
-  unfolding headOf formOf forms unended
+  unfolding headOf formOf unended
   block-head W d e = ap (λ (b : Bool). head kind.Block (cond b 1 0) 0) (unended-in false W) ∙ ap (λ (n : ℕ). head kind.Block n 0) (sym e)
 
   module _ {w : List Sort} where
     pub array-head : Amid x K N full left st l w ms m st₁ l₁ → decided x ArrayShape w ms ≡ head kind.Array 0 0
-    unfolding headOf formOf forms
+    unfolding headOf formOf
     array-head d = refl
 
     pub listed-head : Amid x K N full left st l w ms m st₁ l₁ → decided x ListShape w ms ≡ head kind.List 0 0
-    unfolding headOf formOf forms
+    unfolding headOf formOf
     listed-head d = refl
 
     pub assign-head : Amid x K N full left st l w ms m st₁ l₁ → decided x AssignmentShape w ms ≡ head kind.Let 0 0
-    unfolding headOf formOf forms
+    unfolding headOf formOf
     assign-head d = refl
 
 -- The kinds of parentheses.
@@ -278,5 +278,5 @@ module _ {k low : ℕ} (c : ℕ) (e : k ≡ literalHead c .kind) (f : low ≡ li
   literal-kind = let h = literal-heads c in (omega (arith, h .0), omega (arith, h .1))
 
   pub literal-head : (x : Text) (t : Tok) → decided x LiteralShape (word c ∷ []) (t ∷ []) ≡ head k low 0
-  unfolding headOf formOf forms opening
+  unfolding headOf formOf opening
   literal-head x t = λ i. head (sym e i) (sym f i) (literal-heads c .2 i)

@@ -22,7 +22,7 @@ use Rattle.own.specs.Words.{sizes, wordGroups}
 use Rattle.own.specs.Kinds as kind
 use Rattle.grammar.specs.shapes.Shapes.{shapes}
 use Rattle.grammar.specs.shapes.Tables.{means, table}
-use Rattle.grammar.specs.records.Records.{head, plain, Role, placed, arranged, forms, formOf}
+use Rattle.grammar.specs.records.Records.{head, plain, Role, placed, arranged, formOf}
 use Rattle.grammar.specs.records.Faults.{faultsAt, earliest}
 use Rattle.grammar.specs.shapes.ShapeKind.{MatchShape}
 use Rattle.grammar.specs.shapes.TablesIndex.{n-expression, n-many-arm, n-single}
@@ -174,7 +174,7 @@ module _ {x : Text} {st r a b d f : State} {l l₁ l₂ : List ℕ} {s₁ s₂ s
         record { amid = z .amid; is = z .is ∙ ap (λ (u : Items). joined u (mark (tokAt x (f .at)) own.none)) (match₄ .is) ∙ joined-assoc (third .L) (q .L) (mark (tokAt x (f .at)) own.none) }
 
     pub match-decides : decided x MatchShape pieces (tokAt x (r .at) ∷ tokAt x (b .at) ∷ tokAt x (f .at) ∷ []) ≡ head K 0 0
-    unfolding formOf forms
+    unfolding formOf
     match-decides =
         match-kind _ _ (inner .kind) (inner .low) (inner .high) (inner .first) (sorts J) (inner .its-kind .3) (q .info .armed)
         ∙ ap (λ (u : ℕ). plain (orderKind u)) (sym (q .info .order-is))

@@ -24,7 +24,8 @@ use Rattle.kinds.specs.Shape.{has}
 use Rattle.grammar.specs.shapes.ShapeKind.{NamedShape, BareShape, TypedShape, FoldingShape, ForWhileShape}
 use Rattle.grammar.specs.shapes.Tables.{means, table}
 use Rattle.grammar.specs.shapes.TablesIndex.{n-single, n-path, n-typed-optional-DoubleColon-choice, n-folding-optional-DoubleColon-choice, n-forWhile-optional-DoubleColon-choice}
-use Rattle.grammar.specs.records.Records.{head, aName, forms, formOf, sees, nameHead}
+use Rattle.grammar.specs.shapes.Row.{aName}
+use Rattle.grammar.specs.records.Records.{head, formOf, sees, nameHead}
 use Rattle.grammar.specs.records.Faults.{Fault, faultsAt, earliest}
 use Rattle.parse.specs.declared.State.{State}
 use Rattle.parse.specs.Choice as choice
@@ -82,15 +83,15 @@ module _ {c : ℕ} where
       record { i = i; k = k; s = s; B = B; rule = r; chosen = e; one-token = z; name = n; form = f; flat = g; quiet = q }
 
   named-rule : choose table n-single c ≡ choice.Named → NameRule c
-  unfolding formOf forms
+  unfolding formOf
   named-rule e = by-rule call.named-rule e (call.for-named c e) (call.named-name c e) refl call.flat-named (never NamedShape tt)
 
   bare-rule : choose table n-single c ≡ choice.Bare → NameRule c
-  unfolding formOf forms
+  unfolding formOf
   bare-rule e = by-rule call.bare-rule e (call.for-bare c e) (call.bare-name c e) refl call.flat-bare (never BareShape tt)
 
   typed-rule : choose table n-single c ≡ choice.Typed → GenericRule c
-  unfolding formOf forms
+  unfolding formOf
   typed-rule e =
       record {
         by = by-rule call.typed-rule e (call.for-typed c e) (call.typed-name c e) refl call.flat-typed (never TypedShape tt);
@@ -103,7 +104,7 @@ module _ {c : ℕ} where
       }
 
   folding-rule : choose table n-single c ≡ choice.Folding → GenericRule c
-  unfolding formOf forms
+  unfolding formOf
   folding-rule e =
       record {
         by = by-rule call.folding-rule e (call.for-folding c e) (call.folding-name c e) refl call.flat-folding no-bound;
@@ -116,7 +117,7 @@ module _ {c : ℕ} where
       }
 
   while-rule : choose table n-single c ≡ choice.ForWhile → GenericRule c
-  unfolding formOf forms
+  unfolding formOf
   while-rule e =
       record {
         by = by-rule call.whiles-rule e (call.for-whiles c e) (call.whiles-name c e) refl call.flat-whiles (never ForWhileShape tt);

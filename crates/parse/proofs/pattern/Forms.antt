@@ -35,7 +35,7 @@ use Rattle.own.specs.Law.{Sort, word, child}
 use Rattle.own.specs.Kinds as kind
 use Rattle.grammar.specs.shapes.Shapes.{shapes}
 use Rattle.grammar.specs.shapes.Tables.{means, table}
-use Rattle.grammar.specs.records.Records.{Head, head, wide, plain, sees, headOf, forms, formOf, lowHalf, highHalf, typeName, patternName, textOf, firstTok, firstOf, opening, reads, decimal, builtinType, unsignedType, boolType, Role, aMark, roleOf}
+use Rattle.grammar.specs.records.Records.{Head, head, wide, plain, sees, headOf, formOf, lowHalf, highHalf, typeName, patternName, textOf, firstTok, firstOf, opening, reads, decimal, builtinType, unsignedType, boolType, Role, aMark, roleOf}
 use Rattle.grammar.specs.records.Faults.{unless, faultsAt, earliest, earlier}
 use Rattle.grammar.specs.shapes.ShapeKind.{ArrayPatternShape, NamePatternShape, TuplePatternShape}
 use Rattle.grammar.specs.shapes.TablesIndex.{n-identifier, n-list-pattern, n-pattern, n-tail-pattern}
@@ -161,11 +161,11 @@ pattern-rows = record {
 -- The heads of patterns.
 module _ {x : Text} {K : ℕ} {N : ℕ → Type 0} {full left : List Sym} {st : State} {l : List ℕ} {w : List Sort} {ms : List Tok} {m : ℕ} {st₁ : State} {l₁ : List ℕ} where
   pub tuple-head : Amid x K N full left st l w ms m st₁ l₁ → decided x TuplePatternShape w ms ≡ head kind.TuplePattern 0 0
-  unfolding headOf formOf forms
+  unfolding headOf formOf
   tuple-head d = refl
 
   pub array-head : Amid x K N full left st l w ms m st₁ l₁ → decided x ArrayPatternShape w ms ≡ head kind.ArrayPattern 0 0
-  unfolding headOf formOf forms
+  unfolding headOf formOf
   array-head d = refl
 
 name-kind : (p : List ℕ) (c : ℕ) → (patternName p c .kind ≡ kind.IgnorePattern) ⊎ (patternName p c .kind ≡ kind.IdentifierPattern)
@@ -201,7 +201,7 @@ module _ {k : ℕ} (p : List ℕ) (c : ℕ) (e : plain k ≡ patternName p c) wh
 
 pub named-head : (d w : List ℕ) (n : ℕ) {st : State} (r : State) {k : ℕ} → Stands (text d w n) st → r .at ≡ st .at → plain k ≡ patternName (partOf d (st .start) (st .stop)) (st .class)
     → decided (text d w n) NamePatternShape (word (st .class) ∷ []) (tokAt (text d w n) (r .at) ∷ []) ≡ head k 0 0
-unfolding headOf formOf forms opening textOf firstTok text
+unfolding headOf formOf opening textOf firstTok text
 named-head d w n {st} r s a e =
     ap (λ (i : ℕ). patternName (partOf d (tokAt (text d w n) i .start) (tokAt (text d w n) i .stop)) (st .class)) a
     ∙ ap₂ (λ (i j : ℕ). patternName (partOf d i j) (st .class)) (sym (s .start-is)) (sym (s .stop-is)) ∙ sym e

@@ -29,7 +29,7 @@ use Rattle.kinds.specs.Families as family
 use Rattle.lexer.specs.Classes as t
 use Rattle.grammar.specs.shapes.Shapes.{shapes}
 use Rattle.grammar.specs.shapes.Tables.{means, table}
-use Rattle.grammar.specs.records.Records.{head, sees, headOf, forms, formOf, functionHead}
+use Rattle.grammar.specs.records.Records.{head, sees, headOf, formOf, functionHead}
 use Rattle.grammar.specs.records.Faults.{Fault}
 use Rattle.grammar.specs.shapes.ShapeKind.{FunctionShape, ParameterShape}
 use Rattle.grammar.specs.shapes.TablesIndex.{n-block, n-function, n-function-optional-Arrow, n-function-optional-Pub, n-functionName, n-identifier, n-list-parameter, n-parameter, n-tail-parameter, n-type}
@@ -177,7 +177,7 @@ opened-near y o = record { stands = o .stands; short = y .short; few = omega (ar
 -- The head of a parameter.
 pub parameter-head : {x : Text} {K : ℕ} {N : ℕ → Type 0} {full left : List Sym} {st : State} {l : List ℕ} {w : List Sort} {ms : List Tok} {m : ℕ} {st₁ : State} {l₁ : List ℕ}
     → Amid x K N full left st l w ms m st₁ l₁ → decided x ParameterShape w ms ≡ head kind.Parameter 0 0
-unfolding headOf formOf forms
+unfolding headOf formOf
 parameter-head d = refl
 
 pub named-parameter : has family.namesKept kind.Parameter ≡ true
@@ -456,7 +456,7 @@ module _ (W₁ W₃ W₄ : List Sort) (c k l h d : ℕ) {low more number : ℕ} 
       uncounted (w₆ ++ W₄) (child k l h d ∷ []) (uncounted w₆ W₄ (uncounted (w₄ ++ W₃) (word t.RParen ∷ []) b (counted-word t.RParen)) none₄) (counted-none k l h d body)
 
   pub function-head : (x : Text) (ms : List Tok) → decided x FunctionShape w₈ ms ≡ head kind.Function (low + more) number
-  unfolding headOf formOf forms functionHead
+  unfolding headOf formOf functionHead
   function-head x ms =
       (λ i. head kind.Function (cond (sees-pub i) 1 0 + cond (sees-arrow i) 2 0) (counts i)) ∙ ap₂ (λ (a b : ℕ). head kind.Function (a + b) number) (sym there₁) (sym there₄)
 

@@ -1,6 +1,6 @@
 -- The heads that the forms of the shapes decide, and what a record needs to be closed.
 -- Assumes nothing.
-use mathlib.Core.Bool.{Bool, true, false, cond, _&&_, not}
+use mathlib.Core.Bool.{Bool, true, false, cond, not}
 use mathlib.Core.List.{List, [], _∷_, _++_}
 use mathlib.Core.Option.{Option, none, some}
 use mathlib.Core.Path.{_≡_, refl, sym, ap, ap₂, _∙_, subst}
@@ -9,7 +9,6 @@ use native.Mathlib.Omega.{arith}
 use lib.Dec.{T, eqb}
 use lib.ListN.{length, getD}
 use lib.Seq.{sets}
-use Rattle.text.specs.Table.{first-of, second-of}
 use Rattle.text.specs.Part.{partOf}
 use Rattle.num.specs.Value.{numberOf}
 use Rattle.num.specs.declared.Value.{Value}
@@ -25,8 +24,8 @@ use Rattle.own.specs.Rules.{sorts}
 use Rattle.own.specs.Kinds as kind
 use Rattle.lexer.specs.Classes as t
 use Rattle.grammar.specs.records.Records.{Head, head, firstOf, textOf, reads}
-use Rattle.grammar.specs.records.Faults.{faultsAt, earliest}
-use Rattle.grammar.specs.shapes.ShapeKind.{ListTypeShape, MatchShape, FoldingShape}
+use Rattle.grammar.specs.records.Faults.{faultsBy, refusedOf, faultsAt, earliest}
+use Rattle.grammar.specs.shapes.Row.{Refused, never, byBound, byFold, byArms}
 use Rattle.parse.specs.Contract.{Text, text, classes, tokAt, raw, faultIn, sooner, fault, Judged, kept, Stands, Ready, Put, asNode, Went, Node, valueAt}
 use Rattle.parse.specs.declared.State.{State}
 use Rattle.parse.proofs.rule.Amid.{Amid}
@@ -39,18 +38,24 @@ is-false true t = absurd t
 is-false false t = refl
 
 -- Shapes that are never refused by themselves.
+abbrev pub spared : Refused → Bool
+spared never = true
+spared byBound = false
+spared byFold = false
+spared byArms = false
+
 abbrev pub faultless : ℕ → Bool
-faultless k = not (eqb k ListTypeShape) && (not (eqb k FoldingShape) && not (eqb k MatchShape))
+faultless k = spared (refusedOf k)
 
 pub no-fault : (draft : List ℕ) (k : ℕ) (is : Items) → T (faultless k) → faultsAt draft k is ≡ []
 unfolding faultsAt
-no-fault draft k is h =
-    let g = second-of (not (eqb k ListTypeShape)) (not (eqb k FoldingShape) && not (eqb k MatchShape)) h in
-    rw (
-      is-false (eqb k ListTypeShape) (first-of (not (eqb k ListTypeShape)) (not (eqb k FoldingShape) && not (eqb k MatchShape)) h),
-      is-false (eqb k FoldingShape) (first-of (not (eqb k FoldingShape)) (not (eqb k MatchShape)) g),
-      is-false (eqb k MatchShape) (second-of (not (eqb k FoldingShape)) (not (eqb k MatchShape)) g),
-    ) refl
+no-fault draft k is h = go (refusedOf k) h
+  where
+    go : (r : Refused) → T (spared r) → faultsBy r draft is ≡ []
+    go never t = refl
+    go byBound t = absurd t
+    go byFold t = absurd t
+    go byArms t = absurd t
 
 pub unturned : (K : ℕ) (L : Items) → T (not (eqb K kind.Match)) → turned K L ≡ false
 unfolding turned

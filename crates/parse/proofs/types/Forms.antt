@@ -33,7 +33,7 @@ use Rattle.own.specs.Law.{Sort, word, child}
 use Rattle.own.specs.Kinds as kind
 use Rattle.grammar.specs.shapes.Shapes.{shapes}
 use Rattle.grammar.specs.shapes.Tables.{means, table}
-use Rattle.grammar.specs.records.Records.{Head, head, wide, plain, sees, headOf, forms, formOf, lowHalf, highHalf, typeName, patternName, textOf, firstTok, firstOf, opening, reads, decimal, builtinType, unsignedType, boolType, Role, aMark, roleOf}
+use Rattle.grammar.specs.records.Records.{Head, head, wide, plain, sees, headOf, formOf, lowHalf, highHalf, typeName, patternName, textOf, firstTok, firstOf, opening, reads, decimal, builtinType, unsignedType, boolType, Role, aMark, roleOf}
 use Rattle.grammar.specs.records.Faults.{unless, faultsAt, earliest, earlier}
 use Rattle.grammar.specs.shapes.ShapeKind.{ArrayTypeShape, EitherTypeShape, ListTypeShape, NamedTypeShape, OptionTypeShape, TupleTypeShape}
 use Rattle.grammar.specs.shapes.TablesIndex.{n-eitherType-optional-LAngle, n-list-type, n-listType-optional-LAngle, n-namedType, n-optionType-optional-LAngle, n-tail-type, n-type}
@@ -189,36 +189,36 @@ type-rows = record {
 -- The heads of types.
 module _ {x : Text} {K : ℕ} {N : ℕ → Type 0} {full left : List Sym} {st : State} {l : List ℕ} {ms : List Tok} {m : ℕ} {st₁ : State} {l₁ : List ℕ} where
   pub either-alone-head : Amid x K N full left st l (word t.Either ∷ []) ms m st₁ l₁ → decided x EitherTypeShape (word t.Either ∷ []) ms ≡ head kind.Alias 0 0
-  unfolding headOf formOf forms sees
+  unfolding headOf formOf sees
   either-alone-head d = refl
 
   pub option-alone-head : Amid x K N full left st l (word t.Option ∷ []) ms m st₁ l₁ → decided x OptionTypeShape (word t.Option ∷ []) ms ≡ head kind.Alias 0 0
-  unfolding headOf formOf forms sees
+  unfolding headOf formOf sees
   option-alone-head d = refl
 
   pub list-alone-head : Amid x K N full left st l (word t.List ∷ []) ms m st₁ l₁ → decided x ListTypeShape (word t.List ∷ []) ms ≡ head kind.Alias 0 0
-  unfolding headOf formOf forms sees
+  unfolding headOf formOf sees
   list-alone-head d = refl
 
   module _ {w : List Sort} where
     pub either-head : Amid x K N full left st l (word t.Either ∷ word t.LAngle ∷ w) ms m st₁ l₁ → decided x EitherTypeShape (word t.Either ∷ word t.LAngle ∷ w) ms ≡ wide kind.EitherType (numberIn x ms)
-    unfolding headOf formOf forms sees
+    unfolding headOf formOf sees
     either-head d = refl
 
     pub option-head : Amid x K N full left st l (word t.Option ∷ word t.LAngle ∷ w) ms m st₁ l₁ → decided x OptionTypeShape (word t.Option ∷ word t.LAngle ∷ w) ms ≡ wide kind.OptionType (numberIn x ms)
-    unfolding headOf formOf forms sees
+    unfolding headOf formOf sees
     option-head d = refl
 
     pub list-head : Amid x K N full left st l (word t.List ∷ word t.LAngle ∷ w) ms m st₁ l₁ → decided x ListTypeShape (word t.List ∷ word t.LAngle ∷ w) ms ≡ wide kind.ListType (numberIn x ms)
-    unfolding headOf formOf forms sees
+    unfolding headOf formOf sees
     list-head d = refl
 
     pub tuple-head : Amid x K N full left st l w ms m st₁ l₁ → decided x TupleTypeShape w ms ≡ head kind.TupleType 0 0
-    unfolding headOf formOf forms
+    unfolding headOf formOf
     tuple-head d = refl
 
     pub array-head : Amid x K N full left st l w ms m st₁ l₁ → decided x ArrayTypeShape w ms ≡ wide kind.ArrayType (numberIn x ms)
-    unfolding headOf formOf forms
+    unfolding headOf formOf
     array-head d = refl
 
 -- Low and high are the two halves of the number.
@@ -304,7 +304,7 @@ module _ {k low : ℕ} (p : List ℕ) (c : ℕ) (e : head k low 0 ≡ typeName p
 
 pub named-head : (d w : List ℕ) (n : ℕ) {st : State} (r : State) {k low : ℕ} → Stands (text d w n) st → r .at ≡ st .at → head k low 0 ≡ typeName (partOf d (st .start) (st .stop)) (st .class)
     → decided (text d w n) NamedTypeShape (word (st .class) ∷ []) (tokAt (text d w n) (r .at) ∷ []) ≡ head k low 0
-unfolding headOf formOf forms opening textOf firstTok text
+unfolding headOf formOf opening textOf firstTok text
 named-head d w n {st} r s a e =
     ap (λ (i : ℕ). typeName (partOf d (tokAt (text d w n) i .start) (tokAt (text d w n) i .stop)) (st .class)) a
     ∙ ap₂ (λ (i j : ℕ). typeName (partOf d i j) (st .class)) (sym (s .start-is)) (sym (s .stop-is)) ∙ sym e

@@ -1,0 +1,46 @@
+-- The categories of shapes and the parts that have a name.
+-- Assumes nothing.
+use Prim.Native.Nat.{ℕ}
+use Rattle.theory.specs.Ebnf.{Ex, part}
+
+-- The categories: a function, a parameter, a type, a pattern, a block, a `let`, any other expression, an arm.
+abbrev pub function : ℕ
+function = 0
+
+abbrev pub parameter : ℕ
+parameter = 1
+
+abbrev pub type : ℕ
+type = 2
+
+abbrev pub pattern : ℕ
+pattern = 3
+
+abbrev pub block : ℕ
+block = 4
+
+abbrev pub assignment : ℕ
+assignment = 5
+
+abbrev pub single : ℕ
+single = 6
+
+abbrev pub arm : ℕ
+arm = 7
+
+-- The parts that have a name, and are no shapes of their own: what stands between the braces of a block; an argument list; what
+-- follows the first `::` of a path; that `::` and a path in an arm's head; a pattern with its type.
+abbrev pub elements : Ex
+elements = part 0
+
+abbrev pub arguments : Ex
+arguments = part 1
+
+abbrev pub path : Ex
+path = part 2
+
+abbrev pub headPath : Ex
+headPath = part 3
+
+abbrev pub pair : Ex
+pair = part 4
