@@ -73,8 +73,8 @@ module _ (en : Entry) (draft : List ℕ) (ts : List Token) (lexes : lexemes draf
       let n = length (take k (spelled draft ts)) in
       let cs = classes (c .draft) (c .its-tokens) in
       let e : take n cs ≡ take k (classes draft ts) =
-          ap (take n) (classes-spelled (c .draft) (c .its-tokens)) ∙ take-map class-of n (spelled (c .draft) (c .its-tokens)) ∙ ap (map class-of) (c .begins)
-          ∙ sym (ap (take k) (classes-spelled draft ts) ∙ take-map class-of k (spelled draft ts)) in
+      ap (take n) (classes-spelled (c .draft) (c .its-tokens)) ∙ take-map class-of n (spelled (c .draft) (c .its-tokens)) ∙ ap (map class-of) (c .begins)
+      ∙ sym (ap (take k) (classes-spelled draft ts) ∙ take-map class-of k (spelled draft ts)) in
       (drop n cs, subst (WellShaped en) (sym (take-drop n cs) ∙ ap (λ l. l ++ drop n cs) e) (c .well-shaped))
 
   -- and a draft is written for these tokens and any classes behind them

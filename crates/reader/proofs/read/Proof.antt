@@ -4,9 +4,13 @@ use mathlib.Core.Path.{_≡_, refl, sym, ap, _∙_}
 use borrow.Author.Needs.{needs}
 use lib.ListN.{length, replicate}
 use Rattle.lexer.specs.Limits.{draftLimits}
+use Rattle.lexer.specs.Limits as lexer
+use Rattle.parse.specs.Entry as parser
 use Rattle.grammar.specs.Entry.{oneFunction}
 use Rattle.grammar.specs.answers.Answer.{answer, tokenBuffer, treeBuffer}
-use Rattle.reader.specs.Read.{handed, promised}
+use Rattle.text.specs.Answers.{values}
+use Rattle.grammar.specs.answers.Laws.{promised}
+use Rattle.reader.specs.Read.{meant}
 use Rattle.reader.proofs.Laws as law
 use Rattle.reader.proofs.read.Statement.{statement}
 use Rattle.reader.proofs.read.Tie as tie
@@ -35,7 +39,7 @@ enum-known-lexed-2 c =
 parsed-requires : tie.Need-parsed-requires
 parsed-requires c κs =
     let d = c .before .before .before .before .before .before .before .before .before .before .before .before .args .draft .now in (
-      law.lexed-long d (c .before .before .before .before .before .before .before .lex .kept .1 .0) (sym (c .before .before .before .before .before .before .before .lex .ensures .0) ∙ c .before .before .before .lexed2 .given .1),
+      law.lexed-long d (c .before .before .before .before .before .before .before .lex .kept .1 .0) (sym (c .before .before .before .before .before .before .before .lex .ensures .0) ∙ ap lexer.meant (c .before .before .before .lexed2 .given .1)),
       law.buffer-long d (c .before .before .before .before .before .before .before .lex .kept .1 .0)
           (c .before .before .before .before .before .before .before .lex .ensures .1),
     )
@@ -53,12 +57,12 @@ returns c =
     let d = c .before .before .before .before .before .before .before .before .before .before .before .before .before .before .args .draft .now in
     let k = length (c .before .before .before .before .before .before .before .before .before .before .before .before .before .before .args .tokens .now) in
     let z = length (c .before .before .before .before .before .before .before .before .before .before .before .before .before .before .args .tree .now) in
-    let h = sym (c .before .before .before .before .before .before .before .before .before .lex .ensures .0) ∙ c .before .before .before .before .before .lexed .given .1 in
+    let h = sym (c .before .before .before .before .before .before .before .before .before .lex .ensures .0) ∙ ap lexer.meant (c .before .before .before .before .before .lexed .given .1) in
     let g = law.lexer-refused oneFunction d k z h in
-    let a1 = sym (ap handed g) in
+    let a1 = sym g in
     let a2 = c .before .before .before .before .before .before .before .before .before .lex .ensures .1 ∙ law.lexer-zeros d k h ∙ law.refused-tokens oneFunction d k z g in
     let a3 = c .before .before .clear .ensures ∙ law.refused-tree oneFunction d k z g in
-    (a1, (a2, (a3, promised a1 a2 a3)))
+    (ap values a1, (a2, (a3, promised a1 a2 a3)))
 
 same-length-3 : tie.Need-same-length-3
 same-length-3 c =
@@ -74,10 +78,10 @@ returns-2 c =
     let k = length (c .before .before .before .before .before .before .before .before .before .before .before .before .before .before .before .before .before .args .tokens .now) in
     let z = length (c .before .before .before .before .before .before .before .before .before .before .before .before .before .before .before .before .before .args .tree .now) in
     let l = c .before .before .before .before .before .before .before .before .before .before .before .before .lex .kept .1 .0 in
-    let b1 = c .before .before .before .before .parsed .ensures .0 ∙ ap (λ i. handed (answer oneFunction draftLimits d i z)) l in
+    let b1 = c .before .before .before .before .parsed .ensures .0 ∙ ap (λ i. answer oneFunction draftLimits d i z) l in
     let b2 = c .before .before .before .before .parsed .ensures .1 .0 ∙ ap (λ i. tokenBuffer oneFunction draftLimits d i z) l in
     let b3 = c .before .before .before .before .parsed .ensures .1 .1 ∙ ap (λ i. treeBuffer oneFunction draftLimits d i z) l in
-    (b1, (b2, (b3, promised b1 b2 b3)))
+    (ap values b1, (b2, (b3, promised b1 b2 b3)))
 
 pub read-spec : {M : Type 1} → statement M
 read-spec = tie.close (tie.spec lex-requires enum-known-lexed clear-requires enum-known-lexed-2 parsed-requires same-length same-length-2 returns

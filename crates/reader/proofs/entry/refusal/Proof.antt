@@ -1,10 +1,12 @@
 -- Made by tools/cycle.py from tools/parse_answers: the answers are what people read and edit.
 -- Assumes nothing.
-use mathlib.Core.Path.{refl}
+use mathlib.Core.Path.{refl, ap}
 use borrow.Author.Needs.{needs}
 use native.Mathlib.Omega.{arith}
 use lib.ListN.{length}
 use Rattle.reader.specs.Listed.{listingOf}
+use Rattle.reader.specs.Read.{meant}
+use Rattle.reader.specs.Fits.{nothing-only}
 use Rattle.reader.specs.Short.{short-listing}
 use Rattle.reader.proofs.LineLaws.{all-listed, refusal-listed}
 use Rattle.reader.proofs.EntryLaws as law

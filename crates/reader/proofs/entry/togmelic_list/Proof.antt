@@ -1,10 +1,12 @@
 -- Made by tools/cycle.py from tools/parse_answers: the answers are what people read and edit.
 -- Assumes nothing.
-use mathlib.Core.Path.{refl}
+use mathlib.Core.Path.{refl, ap}
 use borrow.Author.Needs.{needs}
 use native.Mathlib.Omega.{arith}
 use lib.ListN.{length}
 use Rattle.reader.specs.Listed.{listingOf}
+use Rattle.reader.specs.Read.{meant}
+use Rattle.reader.specs.Fits.{nothing-only}
 use Rattle.reader.specs.Short.{short-listing}
 use Rattle.reader.proofs.LineLaws.{all-listed, refusal-listed}
 use Rattle.reader.proofs.EntryLaws as law
@@ -34,7 +36,8 @@ returns : tie.Need-returns
 returns c =
     let d = c .before .before .before .before .before .before .before .before .before .before .before .args .draft .now in
     let z = length (c .before .before .before .before .before .before .before .before .before .before .before .args .out .now) in
-    law.whole-is d _ z z (short-listing d _ (c .before .before .before .before .before .before .before .before .if1 .taken) (omega arith)) refl (c .before .before .before .before .list-by .ensures .0) (c .before .before .before .before .list-by .ensures .1)
+    let s = law.whole-is d _ z z (short-listing d _ (c .before .before .before .before .before .before .before .before .if1 .taken) (omega arith)) refl (c .before .before .before .before .list-by .ensures .0) (c .before .before .before .before .list-by .ensures .1) in
+    (s .0, (s .1, nothing-only d z (s .0)))
 
 slice-aggregate-list-by-3 : tie.Need-slice-aggregate-list-by-3
 slice-aggregate-list-by-3 c =
@@ -56,7 +59,8 @@ returns-2 : tie.Need-returns-2
 returns-2 c =
     let d = c .before .before .before .before .before .before .before .before .before .before .before .args .draft .now in
     let z = length (c .before .before .before .before .before .before .before .before .before .before .before .args .out .now) in
-    law.whole-is d (listingOf d) z z refl refl (c .before .before .before .before .list-by2 .ensures .0) (c .before .before .before .before .list-by2 .ensures .1)
+    let w = law.whole-is d (listingOf d) z z refl refl (c .before .before .before .before .list-by2 .ensures .0) (c .before .before .before .before .list-by2 .ensures .1) in
+    (w .0, (w .1, nothing-only d z (w .0)))
 
 pub togmelic-list-spec : {M : Type 1} → statement M
 togmelic-list-spec = tie.close (tie.spec slice-aggregate-list-by slice-aggregate-list-by-2 list-by-requires same-length returns
