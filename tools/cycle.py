@@ -39,7 +39,14 @@ GROUPS = [
     ("listing", ["listing"]),
 ]
 MADE = "-- Made by tools/cycle.py from tools/parse_answers: the answers are what people read and edit.\n"
-FIRST = MADE + "-- Assumes nothing.\n"
+ASSUMED = {"listing": "-- Assumes the contracts of libc's `read` and `write` and of the two functions of `os` that tell an error.\n"}
+
+
+def first(crate):
+    """The first lines of a file."""
+    return MADE + ASSUMED.get(crate, "-- Assumes nothing.\n")
+
+
 NEEDS = "use borrow.Author.Needs.{needs}"
 WHOLE = {"break_long_words": False, "break_on_hyphens": False}
 ONLY = [m for m in os.environ.get("ONLY", "").split(",") if m]
@@ -179,7 +186,7 @@ def single(crate, proof, answers):
     spec = function.replace("_", "-") + "-spec"
     needs = " ".join(n for n, _ in proof.parts[""].needs)
     text += f"pub {spec} : {{M : Type 1}} → statement M\n" + "\n    ".join(textwrap.wrap(f"{spec} = tie.close (tie.spec{loops} {needs})", 150, **WHOLE)) + "\n"
-    return {f"crates/{crate}/proofs/{proof.path}/Proof.antt": FIRST + text}
+    return {f"crates/{crate}/proofs/{proof.path}/Proof.antt": first(crate) + text}
 
 
 def cycle(crate, proof, answers):
@@ -192,14 +199,14 @@ def cycle(crate, proof, answers):
         common += f"abbrev pub {m}-calls : ℕ → {m}-lts.Claims\n{m}-calls t = ({part.calls})\n\n"
     names = re.findall(r"abbrev pub (\S+) :", common)
     folder = f"crates/{crate}/proofs/{proof.path}/Proof"
-    files = {f"{folder}/Common.antt": FIRST + "\n".join(base) + "\n\n" + common.rstrip() + "\n"}
+    files = {f"{folder}/Common.antt": first(crate) + "\n".join(base) + "\n\n" + common.rstrip() + "\n"}
     for m, part in proof.parts.items():
         text = member(m, part, answers)
         used = [x for x in names if re.search(r"(?<![\w-])" + re.escape(x) + r"(?![\w-])", text)]
-        files[f"{folder}/Of-{short(m)}.antt"] = FIRST + "\n".join(base) + f"\nuse {library}.Common.{{{', '.join(used)}}}\n\n" + text.rstrip() + "\n"
+        files[f"{folder}/Of-{short(m)}.antt"] = first(crate) + "\n".join(base) + f"\nuse {library}.Common.{{{', '.join(used)}}}\n\n" + text.rstrip() + "\n"
     spec = closed(proof)
     modules = ["Of-" + short(m) for m in proof.parts]
-    files[folder + ".antt"] = (FIRST + "mod Common\n" + "".join(f"mod {x}\n" for x in modules) + "\n".join(uses)
+    files[folder + ".antt"] = (first(crate) + "mod Common\n" + "".join(f"mod {x}\n" for x in modules) + "\n".join(uses)
                                + f"\nuse {library}.Common.{{{', '.join(x for x in names if x in spec)}}}\n"
                                + "".join(f"use {library}.{x} as {x}\n" for x in modules) + "\n" + spec)
     return files

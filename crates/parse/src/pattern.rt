@@ -1,4 +1,4 @@
-// Patterns: `Pattern::parser` of src/parse/grammar/types.rs.
+// Patterns: `Pattern::parser` of src/parse/grammar/statement.rs.
 ghost use mathlib.Core.Path.{_≡_};
 ghost use Rattle.theory.specs.Machine.{choose};
 ghost use Rattle.grammar.specs.shapes.Tables.{table};

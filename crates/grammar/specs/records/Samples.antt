@@ -1,5 +1,5 @@
--- Drafts and their records, from the text to the six numbers of each record, by computation: the listing's example of document 01, the
--- drafts of "Drafts with known results" that refusals 9 to 14 or the kinds speak of, and one of each kind of type, call and match.
+-- Drafts and their records, from the text to the six numbers of each record, by computation: one of each kind of type, pattern, call, expression and
+-- match. The drafts that the paper marks ● stand in cases/Known.antt.
 -- Assumes nothing.
 use mathlib.Core.Bool.{_||_, cond}
 use mathlib.Core.List.{List, [], _∷_, _++_, map}
@@ -87,21 +87,6 @@ recordsOf show text =
     let ts = toksOf draft (lexemes draft) in
     handed show draft ts (shapeOf oneFunction (classes ts))
 
--- The listing's example: nine records.
-pub the-listing : recordsOf line "fn f(){match b{true=>1,false=>2,}}"
-    ≡ (kind.Function ∷ 0 ∷ 34 ∷ 0 ∷ 0 ∷ 9 ∷ [])
-    ∷ (kind.Name ∷ 3 ∷ 4 ∷ 0 ∷ 0 ∷ 1 ∷ [])
-    ∷ (kind.Block ∷ 6 ∷ 34 ∷ 1 ∷ 0 ∷ 7 ∷ [])
-    ∷ (kind.Match ∷ 7 ∷ 33 ∷ 0 ∷ 0 ∷ 6 ∷ [])
-    ∷ (kind.Variable ∷ 13 ∷ 14 ∷ 0 ∷ 0 ∷ 1 ∷ [])
-    ∷ (kind.BuiltinArm ∷ 23 ∷ 32 ∷ arm.False ∷ 0 ∷ 2 ∷ [])
-    ∷ (kind.Decimal ∷ 30 ∷ 31 ∷ 0 ∷ 0 ∷ 1 ∷ [])
-    ∷ (kind.BuiltinArm ∷ 15 ∷ 23 ∷ arm.True ∷ 0 ∷ 2 ∷ [])
-    ∷ (kind.Decimal ∷ 21 ∷ 22 ∷ 0 ∷ 0 ∷ 1 ∷ [])
-    ∷ []
-unfolding recordsOf
-the-listing = refl
-
 -- The same numbers of the drafts that follow, without places.
 abbrev pub made : String → List (List ℕ)
 made text = recordsOf short text
@@ -109,25 +94,6 @@ made text = recordsOf short text
 -- Those of a record that has nothing beneath it, low and high 0.
 abbrev pub leaf : ℕ → List ℕ
 leaf k = k ∷ 0 ∷ 0 ∷ 1 ∷ []
-
--- `Left(1)`: kind 19, 5 records. `Left(1,)`: call, 6 records. Empty B: 3 records.
-pub left-one : made "fn f(){Left(1)}"
-    ≡ (kind.Function ∷ 0 ∷ 0 ∷ 5 ∷ []) ∷ leaf kind.Name ∷ (kind.Block ∷ 1 ∷ 0 ∷ 3 ∷ []) ∷ (kind.Left ∷ 0 ∷ 0 ∷ 2 ∷ []) ∷ leaf kind.Decimal ∷ []
-unfolding recordsOf
-left-one = refl
-
-pub left-call : made "fn f(){Left(1,)}"
-    ≡ (kind.Function ∷ 0 ∷ 0 ∷ 6 ∷ []) ∷ leaf kind.Name ∷ (kind.Block ∷ 1 ∷ 0 ∷ 4 ∷ []) ∷ (kind.Call ∷ call.Custom ∷ 0 ∷ 3 ∷ []) ∷ leaf kind.Name ∷ leaf kind.Decimal ∷ []
-unfolding recordsOf
-left-call = refl
-
--- Refusals 9 to 14 of "Drafts with known results".
-pub refusals : map made ("fn f(){match x{}}" ∷ "fn f(){match x{true=>1,}}" ∷ "fn f(){match x{None=>1,true=>2,}}" ∷ "fn f(){match x{A::B=>1,None=>2,}}"
-    ∷ "fn f(){fold::<g,3>(x)}" ∷ "fn f(){array_fold::<g,0>(x)}" ∷ [])
-    ≡ ((refusal.NoArms ∷ 7 ∷ []) ∷ []) ∷ ((refusal.ArmCount ∷ 7 ∷ []) ∷ []) ∷ ((refusal.NoPartners ∷ 7 ∷ []) ∷ []) ∷ ((refusal.MixedArms ∷ 7 ∷ []) ∷ [])
-    ∷ ((refusal.Bound ∷ 16 ∷ []) ∷ []) ∷ ((refusal.Size ∷ 22 ∷ []) ∷ []) ∷ []
-unfolding recordsOf
-refusals = refl
 
 -- A function that is public, with two parameters and a result type: its eleven records with their places.
 pub a-function : recordsOf line "pub fn g(a:u8,b:Pubkey,)->bool{a}"

@@ -1,5 +1,5 @@
 -- Made by tools/cycle.py from tools/parse_answers: the answers are what people read and edit.
--- Assumes nothing.
+-- Assumes the contracts of libc's `read` and `write` and of the two functions of `os` that tell an error.
 use Prim.Native.Nat.{ℕ, _-_, _≤_, _<_}
 use mathlib.Core.Path.{_≡_, sym}
 use lib.ListN.{length}
