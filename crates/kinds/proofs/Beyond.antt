@@ -7,13 +7,12 @@ use Prim.Native.Nat.{ℕ, suc, _≤_}
 use native.Mathlib.Omega.{arith}
 use borrow.Author.Tests.{ne-eqb}
 use lib.Dec.{T, eqb, ltb, ltb→lt}
-use Rattle.text.specs.Table.{first-of, second-of}
-use Rattle.own.specs.Flat.{keep}
-use Rattle.own.specs.Places.{pair}
+use Rattle.text.specs.Table.{first-of, second-of, pair}
+use Rattle.text.specs.Lists.{keep, some, all, has, count, span}
+use Rattle.text.specs.ListLaws.{all-keep}
 use Rattle.own.specs.Kinds as kind
 use Rattle.lexer.specs.Classes as t
-use Rattle.kinds.specs.Lists.{some, all, all-keep}
-use Rattle.kinds.specs.Shape.{has, count, span, Shape}
+use Rattle.kinds.specs.Shape.{Shape}
 use Rattle.kinds.specs.Rules.{Form, forms}
 use Rattle.kinds.specs.Spelled.{formsOf}
 use Rattle.kinds.specs.Decide.{kindsOf, gather, classesIn, kindsIn, inForms, mayOwn, mayHold}

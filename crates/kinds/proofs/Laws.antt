@@ -11,8 +11,7 @@ use lib.Bits.{bitAnd, and-zero-l, and-zero-r}
 use lib.Dec.{T, eqb, eqb→eq, ltb, ltb→lt}
 use lib.ListN.{length, getD}
 use types.Run.{OneOf}
-use Rattle.text.specs.Table.{first-of, second-of, every, at, table-at}
-use Rattle.own.specs.Places.{or-cases}
+use Rattle.text.specs.Table.{first-of, second-of, every, at, table-at, or-cases}
 
 -- A function and its table: each entry is right, and past the table the function is 0.
 pub record Table (f : ℕ → ℕ) : Type 0 where

@@ -8,8 +8,7 @@ use Prim.Native.Nat.{ℕ}
 use lib.Bits.{bitAnd}
 use lib.Dec.{T, eqb}
 use Rattle.text.specs.Table.{every}
-use Rattle.kinds.specs.Lists.{some}
-use Rattle.kinds.specs.Shape.{has, count, span}
+use Rattle.text.specs.Lists.{some, has, count, span}
 use Rattle.kinds.specs.Rules.{forms}
 use Rattle.kinds.specs.Spelled.{formsOf}
 use Rattle.kinds.specs.Decide.{kindsOf, gather, inForms, mayOwn, mayHold}

@@ -5,9 +5,10 @@ use mathlib.Core.Path.{_≡_, refl, sym, ap, _∙_, subst}
 use Prim.Native.Nat.{ℕ}
 use borrow.Author.Tests.{eq-eqb}
 use lib.Dec.{T}
+use Rattle.text.specs.Lists.{has}
 use Rattle.own.specs.Law.{Sort, word}
 use Rattle.lexer.specs.Classes as t
-use Rattle.kinds.specs.Shape.{has, Shape, nothing, many, _▸_, _¦_, Spells, empty, one-mark, seq, left, right, stop, more}
+use Rattle.kinds.specs.Shape.{Shape, nothing, many, _▸_, _¦_, Spells, empty, one-mark, seq, left, right, stop, more}
 use Rattle.kinds.specs.Rules.{the, optional, some, list, commaList}
 
 -- One token of a class.

@@ -6,13 +6,15 @@ use Prim.Native.Nat.{ℕ, _<_}
 use lib.Dec.{T, eqb, eqb→eq, ltb}
 use lib.ListN.{length, getD}
 use Rattle.text.specs.Table.{first-of}
+use Rattle.text.specs.Lists.{Some, here, there, has}
+use Rattle.text.specs.ListLaws.{has-left, has-right}
+use Rattle.num.specs.Bound.{isBound}
 use Rattle.own.specs.Tree.{Node, tokens, records}
 use Rattle.own.specs.Flat.{blank}
 use Rattle.own.specs.Law.{Sort, word, child, made}
 use Rattle.own.specs.Lists.{All, nil, _&_, all-map, all-append}
 use Rattle.own.specs.Kinds as kind
-use Rattle.kinds.specs.Lists.{Some, here, there}
-use Rattle.kinds.specs.Shape.{has, has-left, has-right, Part, of, name, arm, bound, size, isBound, number, fits, Shape, nothing, never, mark, part, _▸_, _¦_, many, Spells, empty, one-mark, one-part, seq, left, right, stop, more}
+use Rattle.kinds.specs.Shape.{Part, of, name, arm, bound, size, number, fits, Shape, nothing, never, mark, part, _▸_, _¦_, many, Spells, empty, one-mark, one-part, seq, left, right, stop, more}
 use Rattle.kinds.specs.Rules.{Form}
 use Rattle.kinds.specs.Spelled.{formsOf, Written, Spelled}
 use Rattle.kinds.specs.Ownership.{Right, law-3}

@@ -8,10 +8,10 @@ use mathlib.Core.Path.{_≡_, refl, sym, subst}
 use Prim.Native.Nat.{ℕ}
 use native.Mathlib.Omega.{arith}
 use lib.Dec.{T}
-use Rattle.text.specs.Table.{first-of, second-of}
+use Rattle.text.specs.Table.{first-of, second-of, pair, or-left, or-right, or-cases}
+use Rattle.text.specs.Lists.{has}
 use Rattle.own.specs.Law.{Sort, word, child}
-use Rattle.own.specs.Places.{pair, or-left, or-right, or-cases}
-use Rattle.kinds.specs.Shape.{has, Part, fits, Shape, nothing, never, mark, part, _▸_, _¦_, many, Spells, empty, one-mark, one-part, seq, left, right, stop, more}
+use Rattle.kinds.specs.Shape.{Part, fits, Shape, nothing, never, mark, part, _▸_, _¦_, many, Spells, empty, one-mark, one-part, seq, left, right, stop, more}
 
 -- Whether a shape has the empty sequence.
 unfoldable pub blank : Shape → Bool

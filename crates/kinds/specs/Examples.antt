@@ -5,13 +5,12 @@ use mathlib.Core.List.{List, [], _∷_, _++_}
 use mathlib.Core.Path.{_≡_, refl}
 use Prim.Native.Nat.{ℕ, suc}
 use lib.Dec.{eqb}
+use Rattle.text.specs.Lists.{all, has, span}
 use Rattle.own.specs.Law.{Sort, word, child}
 use Rattle.own.specs.Kinds as kind
 use Rattle.own.specs.Arms as arm
 use Rattle.own.specs.Calls as call
 use Rattle.lexer.specs.Classes as t
-use Rattle.kinds.specs.Lists.{all}
-use Rattle.kinds.specs.Shape.{has, span}
 use Rattle.kinds.specs.Spelled.{spelled}
 
 -- A record by its kind, low, high and pieces.

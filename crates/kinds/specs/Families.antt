@@ -3,34 +3,28 @@
 -- Assumes nothing.
 use mathlib.Core.List.{List, [], _∷_}
 use Prim.Native.Nat.{ℕ}
+use Rattle.text.specs.Lists.{span}
 use Rattle.own.specs.Kinds as kind
-use Rattle.kinds.specs.Shape.{span}
 
--- Types.
+-- Types, patterns, blocks, expressions that are no block, expressions, elements of a block (a `let` or an expression), arms.
 abbrev pub types : List ℕ
 types = span kind.Alias kind.ListType
 
--- Patterns.
 abbrev pub patterns : List ℕ
 patterns = span kind.IdentifierPattern kind.ArrayPattern
 
--- Blocks.
 abbrev pub blocks : List ℕ
 blocks = kind.Block ∷ []
 
--- Expressions that are no block.
 abbrev pub singles : List ℕ
 singles = kind.Call ∷ span kind.Left kind.EnumMatch
 
--- Expressions.
 abbrev pub expressions : List ℕ
 expressions = kind.Call ∷ span kind.Block kind.EnumMatch
 
--- Elements of a block: a `let` or an expression.
 abbrev pub elements : List ℕ
 elements = kind.Let ∷ expressions
 
--- Arms.
 abbrev pub arms : List ℕ
 arms = kind.BuiltinArm ∷ kind.EnumArm ∷ []
 

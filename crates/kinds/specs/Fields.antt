@@ -5,31 +5,19 @@ use mathlib.Core.Bool.{Bool, cond, _&&_}
 use mathlib.Core.List.{List, [], _∷_}
 use Prim.Native.Nat.{ℕ, _+_}
 use lib.Dec.{eqb, ltb}
+use Rattle.text.specs.Lists.{has}
+use Rattle.num.specs.Bound.{isBound}
 use Rattle.own.specs.Law.{Sort, word, child}
 use Rattle.own.specs.Kinds as kind
-use Rattle.kinds.specs.Shape.{has, halfRange, number, isBound}
+use Rattle.kinds.specs.Shape.{halfRange, number}
 use Rattle.kinds.specs.Families as family
 
--- What low and high hold.
+-- What low and high hold: nothing; a low, this or one of these; a 64-bit number, any or a bound; this low and the number of parameters;
+-- the number of names; the numbers of names and of pairs.
 pub data Fields : Type 0 where
-  -- both are 0
-  plain : Fields
-  -- low is this number, and high is 0
-  low : ℕ → Fields
-  -- low is below this number, and high is 0
-  below : ℕ → Fields
-  -- low is one of these numbers, and high is 0
+  plain wide bounded names pairs : Fields
+  low parameters : ℕ → Fields
   among : List ℕ → Fields
-  -- any 64-bit number, low and high its two halves
-  wide : Fields
-  -- a 64-bit number that is a bound
-  bounded : Fields
-  -- low is this number, and high is how many of the children are parameters
-  parameters : ℕ → Fields
-  -- low is how many of the children are names, and high is 0
-  names : Fields
-  -- low is how many of the children are names, and high how many are patterns
-  pairs : Fields
 
 -- How many children are of one of these kinds.
 unfoldable pub counted : List ℕ → List Sort → ℕ
@@ -45,7 +33,6 @@ halves l h = ltb l halfRange && ltb h halfRange
 unfoldable pub holds : Fields → ℕ → ℕ → List Sort → Bool
 holds plain l h w = eqb l 0 && eqb h 0
 holds (low n) l h w = eqb l n && eqb h 0
-holds (below n) l h w = ltb l n && eqb h 0
 holds (among ns) l h w = has ns l && eqb h 0
 holds wide l h w = halves l h
 holds bounded l h w = halves l h && isBound (number l h)

@@ -3,10 +3,9 @@
 use mathlib.Core.Bool.{Bool, cond}
 use mathlib.Core.List.{List, [], _∷_}
 use Prim.Native.Nat.{ℕ, _+_, _*_}
+use Rattle.text.specs.Lists.{some, has}
 use Rattle.own.specs.Kinds as kind
 use Rattle.lexer.specs.Classes as t
-use Rattle.kinds.specs.Lists.{some}
-use Rattle.kinds.specs.Shape.{has}
 use Rattle.kinds.specs.Families as family
 use Rattle.kinds.specs.Decide.{mayOwn, mayHold}
 

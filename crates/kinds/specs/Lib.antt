@@ -1,4 +1,3 @@
-pub mod Lists
 pub mod Words
 pub mod Shape
 pub mod Families

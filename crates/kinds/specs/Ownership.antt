@@ -9,17 +9,17 @@ use Prim.Native.Nat.{ℕ, suc, _+_, _<_}
 use native.Mathlib.Omega.{arith}
 use lib.Dec.{T, eqb, eqb→eq}
 use lib.ListN.{length}
-use Rattle.text.specs.Table.{first-of, second-of}
+use Rattle.text.specs.Table.{first-of, second-of, or-left, or-right, or-cases}
+use Rattle.text.specs.Lists.{some, all, count, span}
+use Rattle.text.specs.ListLaws.{all-keep, all-some, from-some, only-one}
 use Rattle.own.specs.Tree.{Items, none, mark, sub, Node, node, roots, marks, kids, Each, InOrder, Owning, Paired, partner, canonical, paired, tokens, records, Fine}
-use Rattle.own.specs.Law.{Sort, word, child, Ownership}
-use Rattle.own.specs.Places.{or-left, or-right, or-cases}
-use Rattle.own.specs.Rules.{sorts, Keeps, each-map, ownership}
+use Rattle.own.specs.Law.{Sort, word, child, Ownership, sorts, Keeps}
+use Rattle.own.specs.Rules.{each-map, ownership}
 use Rattle.own.specs.Words.{toks, recs, handed}
 use Rattle.own.specs.Kinds as kind
 use Rattle.own.specs.Arms as arm
 use Rattle.kinds.specs.Words.{classOf}
-use Rattle.kinds.specs.Lists.{some, all, all-keep, all-some, from-some, only-one}
-use Rattle.kinds.specs.Shape.{count, span, arm, fits, Shape, nothing, never, part, _▸_, _¦_, many, Spells, empty, one-mark, one-part, seq, left, right, stop, more}
+use Rattle.kinds.specs.Shape.{arm, fits, Shape, nothing, never, part, _▸_, _¦_, many, Spells, empty, one-mark, one-part, seq, left, right, stop, more}
 use Rattle.kinds.specs.Shape as shape
 use Rattle.lexer.specs.Classes as t
 use Rattle.kinds.specs.Rules.{forms, the, expression, braces, arms, partners}
@@ -129,7 +129,7 @@ any-arms : {v : List Sort} → Spells partners v → Arms v
 unfolding partner
 any-arms (left p) = arms-are arm.Left arm.Right tt p
 any-arms (right (left p)) = arms-are arm.None arm.Some tt p
-any-arms (right (right p)) = arms-are arm.False arm.True tt p
+any-arms (right (right (left p))) = arms-are arm.False arm.True tt p
 
 -- the children that a rule sees, as nodes with nothing beneath
 kidsOf : List Sort → List Node

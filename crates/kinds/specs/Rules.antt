@@ -1,75 +1,59 @@
 -- The kinds table of document 01 as data: for each kind the forms that a record of it may have, with what low and high hold.
 -- Written from "Well-shaped drafts" and "Records and the marks they own"; the row of the table stands above each form.
 -- Assumes nothing.
-use mathlib.Core.List.{List, [], _∷_}
-use Prim.Native.Nat.{ℕ}
+use mathlib.Core.List.{List, [], _∷_, foldr, map}
+use Prim.Native.Nat.{ℕ, _^_}
+use Rattle.text.specs.Lists.{span}
 use Rattle.own.specs.Kinds as kind
 use Rattle.own.specs.Calls as call
 use Rattle.own.specs.Arms as arm
 use Rattle.lexer.specs.Classes as t
-use Rattle.kinds.specs.Fields.{Fields, plain, low, below, among, wide, bounded, parameters, names, pairs}
-use Rattle.kinds.specs.Shape.{doubled, of, name, arm, bound, size, Shape, nothing, mark, part, _▸_, _¦_, many}
+use Rattle.kinds.specs.Fields.{Fields, plain, low, among, wide, bounded, parameters, names, pairs}
+use Rattle.kinds.specs.Shape.{of, name, arm, bound, size, Shape, nothing, never, mark, part, _▸_, _¦_, many}
 use Rattle.kinds.specs.Families as family
-
--- Names that may be variables: "`None` is itself unless `::` follows".
-abbrev pub variables : List ℕ
-variables = t.Ident ∷ t.Left ∷ t.Right ∷ t.Some ∷ t.Either ∷ t.Option ∷ t.List ∷ t.reserved
 
 -- Function names that are wrappers with one expression in parentheses and no comma.
 abbrev pub wrappers : List ℕ
 wrappers = t.Left ∷ t.Right ∷ t.Some ∷ []
 
--- The other function names, which are called with any list (`None` is not called).
-abbrev pub callable : List ℕ
-callable = t.Ident ∷ t.Either ∷ t.Option ∷ t.List ∷ []
-
--- One token of this class.
+-- One token of this class; nothing or a.
 abbrev pub the : ℕ → Shape
 the c = mark (c ∷ [])
 
--- A child that is a type.
+abbrev pub optional : Shape → Shape
+optional a = nothing ¦ a
+
+-- A child: a type, a pattern, an expression, a block, an expression that is no block, an element of a block, a parameter, an enum arm; a
+-- name that is an identifier, a function name.
 abbrev pub type : Shape
 type = part (of family.types)
 
--- A child that is a pattern.
 abbrev pub pattern : Shape
 pattern = part (of family.patterns)
 
--- A child that is an expression.
 abbrev pub expression : Shape
 expression = part (of family.expressions)
 
--- A child that is a block.
 abbrev pub block : Shape
 block = part (of family.blocks)
 
--- A child that is an expression, but no block.
 abbrev pub single : Shape
 single = part (of family.singles)
 
--- An element of a block: a `let` or an expression.
 abbrev pub element : Shape
 element = part (of family.elements)
 
--- A parameter.
 abbrev pub parameter : Shape
 parameter = part (of (kind.Parameter ∷ []))
 
--- An enum arm.
 abbrev pub enumArm : Shape
 enumArm = part (of (kind.EnumArm ∷ []))
 
--- A name that is an identifier.
 abbrev pub identifier : Shape
 identifier = part (name t.identifiers)
 
--- A name that is a function name.
 abbrev pub functionName : Shape
 functionName = part (name t.functionNames)
-
--- Or nothing.
-abbrev pub optional : Shape → Shape
-optional a = nothing ¦ a
 
 -- At least one, with commas between; the list may end in a comma.
 abbrev pub some : Shape → Shape
@@ -83,27 +67,23 @@ list a = optional (some a)
 abbrev pub commaList : Shape → Shape
 commaList a = optional (a ▸ the t.Comma ▸ list a)
 
--- In `( )`.
+-- In `( )`, `[ ]`, `{ }`, `< >`.
 abbrev pub parens : Shape → Shape
 parens a = the t.LParen ▸ a ▸ the t.RParen
 
--- In `[ ]`.
 abbrev pub brackets : Shape → Shape
 brackets a = the t.LBracket ▸ a ▸ the t.RBracket
 
--- In `{ }`.
 abbrev pub braces : Shape → Shape
 braces a = the t.LBrace ▸ a ▸ the t.RBrace
 
--- In `< >`.
 abbrev pub angles : Shape → Shape
 angles a = the t.LAngle ▸ a ▸ the t.RAngle
 
--- Two or more names joined by `::`.
+-- Two or more names joined by `::`; a pattern with its type.
 abbrev pub path : Shape
 path = identifier ▸ the t.DoubleColon ▸ identifier ▸ many (the t.DoubleColon ▸ identifier)
 
--- A pattern with its type.
 abbrev pub typed : Shape
 typed = pattern ▸ the t.Colon ▸ type
 
@@ -111,28 +91,19 @@ typed = pattern ▸ the t.Colon ▸ type
 abbrev pub body : Shape
 body = the t.FatArrow ▸ (block ▸ optional (the t.Comma) ¦ single ▸ the t.Comma)
 
--- Two built-in arms, in the order written.
+-- Two built-in arms in either order; two that are partners.
 abbrev pub arms : ℕ → ℕ → Shape
 arms a b = part (arm a) ▸ part (arm b) ¦ part (arm b) ▸ part (arm a)
 
--- Two that are partners: Left with Right, None with Some, False with True.
 abbrev pub partners : Shape
-partners = arms arm.Left arm.Right ¦ arms arm.None arm.Some ¦ arms arm.False arm.True
+partners = foldr (λ p s. arms (p .0) (p .1) ¦ s) never arm.partners
 
--- How many builtin aliases and how many unsigned types there are: "low 0–23 in `BuiltinAlias` order", "`u1` to `u256`, powers of two only".
-abbrev pub builtinCount : ℕ
-builtinCount = 24
-
-abbrev pub unsignedCount : ℕ
-unsignedCount = 9
-
--- One form of a kind.
+-- One form of a kind, with what its fields hold and its shape.
 pub record Form : Type 0 where
   pub kind : ℕ
   pub fields : Fields
   pub shape : Shape
 
--- The form of a kind, fields and shape.
 abbrev pub form : ℕ → Fields → Shape → Form
 form k f s = record { kind = k; fields = f; shape = s }
 
@@ -140,11 +111,10 @@ form k f s = record { kind = k; fields = f; shape = s }
 abbrev pub function : ℕ → Shape → Shape → Form
 function n public result = form kind.Function (parameters n) (public ▸ the t.Fn ▸ functionName ▸ parens (list parameter) ▸ result ▸ block)
 
--- A built-in arm with `(p: T)` after its word.
+-- A built-in arm with `(p: T)` after its word, and one that is its word alone.
 abbrev pub armWith : ℕ → ℕ → Form
 armWith n c = form kind.BuiltinArm (low n) (the c ▸ parens typed ▸ body)
 
--- A built-in arm that is its word alone.
 abbrev pub armOf : ℕ → ℕ → Form
 armOf n c = form kind.BuiltinArm (low n) (the c ▸ body)
 
@@ -170,9 +140,9 @@ forms =
     ∷ form kind.Parameter plain (identifier ▸ the t.Colon ▸ type)
     -- 4 alias; 5 builtin (low 0-23 in `BuiltinAlias` order); 6 bool; 7 unsigned (`u1` to `u256`, powers of two only; low bits): token
     ∷ form kind.Alias plain (mark t.identifiers)
-    ∷ form kind.Builtin (below builtinCount) (the t.Ident)
+    ∷ form kind.Builtin (among (span 0 23)) (the t.Ident)
     ∷ form kind.BoolType plain (the t.Ident)
-    ∷ form kind.Unsigned (among (doubled unsignedCount 1)) (the t.Ident)
+    ∷ form kind.Unsigned (among (map (λ i. 2 ^ i) (span 0 8))) (the t.Ident)
     -- 8 Either, 9 Option: types; all other tokens
     ∷ form kind.EitherType plain (the t.Either ▸ angles (type ▸ the t.Comma ▸ type))
     ∷ form kind.OptionType plain (the t.Option ▸ angles type)
@@ -205,7 +175,8 @@ forms =
     ∷ form kind.Binary plain (the t.BinLiteral)
     ∷ form kind.Witness plain (the t.Witness)
     ∷ form kind.ParameterValue plain (the t.Param)
-    ∷ form kind.Variable plain (mark variables)
+    -- (a variable is no `None`: "`None` is itself unless `::` follows")
+    ∷ form kind.Variable plain (mark (t.Ident ∷ t.Left ∷ t.Right ∷ t.Some ∷ t.Either ∷ t.Option ∷ t.List ∷ t.reserved))
     -- 30 parenthesised, 31 tuple, 32 array, 33 list: expressions; brackets, `list!`
     ∷ form kind.Parenthesised plain (parens expression)
     ∷ form kind.Tuple plain (parens (commaList expression))
@@ -235,7 +206,8 @@ forms =
     ∷ callOf call.Panic (the t.panic!)
     ∷ callOf call.Debug (the t.dbg!)
     ∷ callOf call.TypeCast (angles type ▸ the t.DoubleColon ▸ the t.into)
-    ∷ callOf call.Custom (part (name callable))
+    -- a function name, called with any list; a wrapper's, with any that is not one expression without a comma; `None` is not called
+    ∷ callOf call.Custom (part (name (t.Ident ∷ t.Either ∷ t.Option ∷ t.List ∷ [])))
     ∷ form kind.Call (low call.Custom) (part (name wrappers) ▸ parens (commaList expression))
     ∷ callOf call.Fold (generic t.fold (functionName ▸ the t.Comma ▸ part bound))
     ∷ callOf call.ArrayFold (generic t.array-fold (functionName ▸ the t.Comma ▸ part size))

@@ -4,12 +4,12 @@ use mathlib.Core.Bool.{Bool, _&&_}
 use mathlib.Core.List.{List}
 use Prim.Native.Nat.{ℕ}
 use lib.Dec.{T, eqb}
-use Rattle.text.specs.Table.{first-of, second-of}
-use Rattle.own.specs.Flat.{keep}
+use Rattle.text.specs.Table.{first-of, second-of, pair}
+use Rattle.text.specs.Lists.{keep, Some, some, has, count, span}
+use Rattle.text.specs.ListLaws.{some-sound, some-complete}
+use Rattle.num.specs.Bound.{isBound}
 use Rattle.own.specs.Law.{Sort, Rule}
-use Rattle.own.specs.Places.{pair}
-use Rattle.kinds.specs.Lists.{Some, some, some-sound, some-complete}
-use Rattle.kinds.specs.Shape.{has, count, span, doubled, number, isBound, fits, Spells}
+use Rattle.kinds.specs.Shape.{number, fits, Spells}
 use Rattle.kinds.specs.Derive.{blank, dead, then, either, isMark, isPart, after, spells, spells-sound, spells-complete}
 use Rattle.kinds.specs.Fields.{counted, halves, holds}
 use Rattle.kinds.specs.Rules.{Form, forms}
@@ -33,7 +33,7 @@ written low high w f = holds (f .fields) low high w && spells (f .shape) w
 
 -- Whether a record of this kind, low and high spells the rule; it opens all that it computes with.
 unfoldable pub spelled : ℕ → ℕ → ℕ → List Sort → Bool
-unfolding has count span doubled number isBound fits blank dead then either isMark isPart after spells counted halves holds forms formsOf some written
+unfolding has count span number isBound fits blank dead then either isMark isPart after spells counted halves holds forms formsOf some written
 spelled kind low high w = some (written low high w) (formsOf kind)
 
 -- Where the test passes the rule holds.

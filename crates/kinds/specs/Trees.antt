@@ -8,8 +8,7 @@ use native.Mathlib.Omega.{arith}
 use lib.Dec.{T}
 use Rattle.text.specs.Table.{first-of, second-of}
 use Rattle.own.specs.Tree.{Tok, Items, none, mark, sub, Node, node, roots, Each, partner, canonical, turned, Rec, tokens, records}
-use Rattle.own.specs.Law.{Ownership}
-use Rattle.own.specs.Rules.{sorts, Keeps}
+use Rattle.own.specs.Law.{Ownership, sorts, Keeps}
 use Rattle.own.specs.Kinds as kind
 use Rattle.own.specs.Arms as arm
 use Rattle.lexer.specs.Classes as t

@@ -8,14 +8,14 @@ use lib.Dec.{T, eqb}
 use Rattle.text.specs.Ascii.{asciiFrom, ascii}
 use Rattle.text.specs.Part.{partOf}
 use Rattle.text.specs.Same.{same}
+use Rattle.text.specs.Lists.{some, all}
 use Rattle.words.specs.Words.{FUNCTION_RESERVED, MACROS, RULE_NAMES, BOOLEANS, RULE_WORDS, find, wordOf}
 use Rattle.lexer.specs.Class as lexer
 use Rattle.lexer.specs.Classes as t
-use Rattle.kinds.specs.Lists.{some, all}
 
 -- The class of the token of this kind, start and end in a draft: its kind, or the word or macro that its text is.
 unfoldable pub classOf : List ℕ → ℕ → ℕ → ℕ → ℕ
-classOf draft kind start stop = lexer.classOf kind (partOf draft start stop)
+classOf draft k start stop = lexer.classOf k (partOf draft start stop)
 
 -- A word with the kind of its token and its class.
 pub record Word : Type 0 where

@@ -12,9 +12,9 @@ use lib.Dec.{T, eqb, ltb, leb}
 use lib.ListN.{length, getD, take, drop, length-drop}
 use lib.Seq.{length-take-le, getD-drop}
 use Rattle.text.specs.Ascii.{ascii, asciiFrom}
-use Rattle.text.specs.Refusals.{oneOf}
 use Rattle.text.specs.Refusals as refusal
 use Rattle.text.specs.Same.{differ}
+use Rattle.text.specs.Lists.{has}
 use Rattle.words.specs.Words.{KEYWORDS, MACROS, MODULE_RESERVED, wordOf}
 use Rattle.words.specs.declared.Found.{Found}
 use Rattle.words.specs.declared.Found.the-variants.{Word, Plain}
@@ -27,7 +27,7 @@ use Rattle.lexer.specs.Trials.{Finds, nil, _&_, cond-if, try-if, both-le
 abbrev pub Moves : ℕ → Lexeme → Type 0
 Moves m (token k n) = (1 ≤ n) × (n ≤ m)
 Moves m (trivia n) = (1 ≤ n) × (n ≤ m)
-Moves m (refused c n) = T (oneOf refusal.ofBytes c) × (n < m)
+Moves m (refused c n) = T (has refusal.ofBytes c) × (n < m)
 
 -- ---- runs and beginnings
 
@@ -79,7 +79,7 @@ or-left false b e = differ e
 -- ---- trivia
 
 comment-moves : (n : ℕ) (r : List ℕ) → 1 ≤ n → n ≤ length r → Moves (length r) (comment n r)
-unfolding comment
+unfolding comment has
 comment-moves n r h k =
     let l = run-le (among plainBytes) (take n r) in
     let m = length-take-le n r k in
@@ -113,6 +113,7 @@ module _ (r : List ℕ) where
       comment-moves (2 + run (λ b. not (among lineEnds b)) (drop 2 r)) r (omega arith) (run-behind (λ b. not (among lineEnds b)) 2 r h))
 
   block-moves : (o : Option ℕ) → 2 ≤ length r → Ends (length (drop 2 r)) o → Moves (length r) (block o r)
+  unfolding has
   block-moves none h e = (tt, omega arith)
   block-moves (some n) h e = comment-moves (2 + n) r (omega arith) (omega (arith, length-drop 2 r))
 
@@ -151,6 +152,7 @@ module _ (r : List ℕ) where
       macro-found (wordOf MACROS (take n r)) n (omega arith) h)
 
   word-found : (f : Found) (n : ℕ) → 1 ≤ n → n ≤ length r → Moves (length r) (wordToken f n)
+  unfolding has
   word-found (Word k) n h l =
       cond-if (Moves (length r)) (eqb (t.Pub + k) t.Simc) (λ _. (tt, omega arith))
       (λ _. cond-if (Moves (length r)) (ltb t.Simc (t.Pub + k)) (λ _. (h, l)) (λ _. (h, l)))
@@ -192,7 +194,7 @@ module _ (r : List ℕ) where
   marks-full = refl
 
   none-moves : (b : ℕ) → 1 ≤ length r → Moves (length r) (noLexeme b)
-  unfolding noLexeme
+  unfolding noLexeme has
   none-moves b h = cond-if (Moves (length r)) (ltb 127 b) (λ _. (tt, h)) (λ _. (tt, h))
 
 -- ---- the trials that look at the first byte

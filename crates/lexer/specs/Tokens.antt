@@ -7,8 +7,8 @@ use Prim.Native.Nat.{ℕ, zero, suc, _+_, _-_, _≤_, _<_}
 use native.Mathlib.Omega.{arith}
 use lib.Dec.{T}
 use lib.ListN.{length}
-use Rattle.text.specs.Refusals.{oneOf}
 use Rattle.text.specs.Refusals as refusal
+use Rattle.text.specs.Lists.{has}
 use Rattle.lexer.specs.Lexemes.{Lexeme, token, trivia, refused, lexeme, Token, Lexemes, tokens, refusedAt, with-token, add, lexemesFrom, lexemes}
 use Rattle.lexer.specs.Moves.{Moves, lexeme-moves}
 
@@ -28,7 +28,7 @@ between-wider at m at′ m′ (t ∷ ts) h k b =
 -- What lexemes between two places are: tokens in order, or a refusal of the bytes' family at a byte before the second.
 abbrev pub Lexed-right : ℕ → ℕ → Lexemes → Type 0
 Lexed-right at m (tokens ts) = Between at m ts
-Lexed-right at m (refusedAt c p) = T (oneOf refusal.ofBytes c) × (p < m)
+Lexed-right at m (refusedAt c p) = T (has refusal.ofBytes c) × (p < m)
 
 wider : (at m at′ m′ : ℕ) (x : Lexemes) → at′ ≤ at → m ≤ m′ → Lexed-right at m x → Lexed-right at′ m′ x
 wider at m at′ m′ (tokens ts) h k b = between-wider at m at′ m′ ts h k b
@@ -67,5 +67,5 @@ pub tokens-between : (draft : List ℕ) (ts : List Token) → lexemes draft ≡ 
 tokens-between draft ts e = subst (Lexed-right 0 (length draft)) e (lexed-right draft)
 
 -- A draft that does not lex is refused with a number of the bytes' family, at one of its bytes.
-pub lexeme-refused : (draft : List ℕ) (c p : ℕ) → lexemes draft ≡ refusedAt c p → T (oneOf refusal.ofBytes c) × (p < length draft)
+pub lexeme-refused : (draft : List ℕ) (c p : ℕ) → lexemes draft ≡ refusedAt c p → T (has refusal.ofBytes c) × (p < length draft)
 lexeme-refused draft c p e = subst (Lexed-right 0 (length draft)) e (lexed-right draft)

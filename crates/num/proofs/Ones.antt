@@ -10,7 +10,8 @@ use lib.Count.{ones, onesIn, ones-step, ones-cat}
 use lib.Dec.{eqb}
 use lib.Pow.{pow-pos}
 use Rattle.text.specs.Same.{differ}
-use Rattle.num.specs.Bound.{powerUpTo, power-of, power-passes}
+use Rattle.num.specs.Bound.{isBound}
+use Rattle.num.specs.BoundLaws.{power-of, power-passes}
 
 none-set : (k n : ℕ) → n < 2 ^ k → ones n ≡ 0 → n ≡ 0
 none-set zero n h e = omega arith
@@ -64,11 +65,11 @@ alike true false f g = differ (f refl)
 alike false true f g = differ (g refl)
 alike false false f g = refl
 
-pub one-bit : (n : ℕ) → n < 2 ^ 64 → 2 ≤ n → eqb (ones n) 1 ≡ powerUpTo 63 n
+pub one-bit : (n : ℕ) → n < 2 ^ 64 → 2 ≤ n → eqb (ones n) 1 ≡ isBound n
 one-bit n h l =
     alike _ _
-    (λ e. let r = one-set 64 n h (eqb-true _ _ e) in power-passes 63 n (r .0) (positive n (r .0) l (r .2)) (omega arith) (r .2))
-    (λ e. let r = power-of 63 n e in eq-eqb _ _ (ap ones (r .3) ∙ power-ones (r .0)))
+    (λ e. let r = one-set 64 n h (eqb-true _ _ e) in power-passes n (r .0) (positive n (r .0) l (r .2)) (omega arith) (r .2))
+    (λ e. let r = power-of n e in eq-eqb _ _ (ap ones (r .3) ∙ power-ones (r .0)))
 
-pub below-two : (n : ℕ) → n < 2 → false ≡ powerUpTo 63 n
-below-two n h = alike _ _ (λ e. differ e) (λ e. let r = power-of 63 n e in absurd (omega (arith, power-two (r .0) (r .1))))
+pub below-two : (n : ℕ) → n < 2 → false ≡ isBound n
+below-two n h = alike _ _ (λ e. differ e) (λ e. let r = power-of n e in absurd (omega (arith, power-two (r .0) (r .1))))

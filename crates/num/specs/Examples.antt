@@ -4,10 +4,11 @@ use mathlib.Core.Bool.{true, false}
 use mathlib.Core.Path.{_≡_, refl}
 use Rattle.text.specs.Ascii.{ascii, asciiFrom}
 use Rattle.text.specs.Same.{same}
+use Rattle.text.specs.Lists.{some, count, span}
 use Rattle.num.specs.declared.Value.the-variants.{Number, TooLarge}
 use Rattle.num.specs.Digits.{plain, based, afterBase, digitsOf}
 use Rattle.num.specs.Value.{decimalFrom, fitted, numberOf}
-use Rattle.num.specs.Bound.{powerUpTo, boundOk, sizeOk}
+use Rattle.num.specs.Bound.{isBound, boundOk, sizeOk}
 
 pub numbers :
     (numberOf (ascii "001_000_") ≡ Number 1000)
@@ -29,7 +30,7 @@ pub bounds :
     × (boundOk (Number 3) ≡ false)
     × (boundOk (Number 9223372036854775808) ≡ true)
     × (boundOk TooLarge ≡ false)
-unfolding boundOk powerUpTo
+unfolding boundOk isBound some count span
 bounds = (refl, refl, refl, refl, refl)
 
 pub sizes : (sizeOk (Number 0) ≡ false) × (sizeOk (Number 1) ≡ true) × (sizeOk TooLarge ≡ false)

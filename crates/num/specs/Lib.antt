@@ -1,4 +1,5 @@
 pub mod Digits
 pub mod Value
 pub mod Bound
+pub mod BoundLaws
 pub mod Examples

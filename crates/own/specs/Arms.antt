@@ -1,5 +1,6 @@
 -- Built-in arms by the low of their record: "low 1–6: Left, Right, None, Some, False, True".
 -- Assumes nothing.
+use mathlib.Core.List.{List, [], _∷_}
 use Prim.Native.Nat.{ℕ}
 
 abbrev pub Left : ℕ
@@ -19,3 +20,7 @@ False = 5
 
 abbrev pub True : ℕ
 True = 6
+
+-- "Left with Right, None with Some, False with True", each pair in the canonical order.
+abbrev pub partners : List (ℕ × ℕ)
+partners = (Left, Right) ∷ (None, Some) ∷ (False, True) ∷ []

@@ -1,12 +1,13 @@
 -- What document 01 says of places, children and owners, on the flat lists of tokens and records that are handed over.
 -- Assumes nothing.
-use mathlib.Core.Bool.{Bool, false, _&&_, _||_, not, cond}
+use mathlib.Core.Bool.{Bool, _&&_, not, cond}
 use mathlib.Core.List.{List, [], _∷_, map}
 use mathlib.Core.Logic.{_≢_}
 use mathlib.Core.Path.{_≡_}
 use Prim.Native.Nat.{ℕ, zero, suc, _+_, _-_, _<_}
 use lib.Dec.{T, leb, ltb}
 use lib.ListN.{length, getD, take, drop}
+use Rattle.text.specs.Lists.{some, keep}
 use Rattle.own.specs.Tree.{Tok, Rec}
 
 -- "A place holds the tokens wholly inside it".
@@ -17,11 +18,10 @@ holds r t = leb (r .start) (t .start) && leb (t .stop) (r .stop)
 abbrev pub width : Rec → ℕ
 width r = r .stop - r .start
 
--- The token past the end of a list.
+-- The token and the record past the end of a list.
 abbrev pub no-token : Tok
 no-token = record { class = 0; start = 0; stop = 0 }
 
--- The record past the end of a list.
 abbrev pub blank : Rec
 blank = record { kind = 0; start = 0; stop = 0; low = 0; high = 0; size = 0 }
 
@@ -40,20 +40,9 @@ headChildren (r ∷ rs) = row (r .size) (take (r .size - 1) rs)
 abbrev pub children : List Rec → ℕ → List Rec
 children rs j = headChildren (drop j rs)
 
--- One of the records holds the token.
-abbrev pub any : List Rec → Tok → Bool
-any [] t = false
-any (c ∷ cs) t = holds c t || any cs t
-
 -- "A record owns what its place holds and no child's does": whether the record j owns the token.
 abbrev pub owns : List Rec → ℕ → Tok → Bool
-owns rs j t = holds (getD rs j blank) t && not (any (children rs j) t)
-
-module _ {A : Type 0} where
-  -- Those that pass the test, in their order.
-  abbrev pub keep : (A → Bool) → List A → List A
-  keep p [] = []
-  keep p (a ∷ l) = cond (p a) (a ∷ keep p l) (keep p l)
+owns rs j t = holds (getD rs j blank) t && not (some (λ c. holds c t) (children rs j))
 
 -- The tokens that the record j owns, in the order of the text.
 abbrev pub owned : List Tok → List Rec → ℕ → List Tok

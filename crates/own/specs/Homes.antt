@@ -8,15 +8,16 @@ use Prim.Native.Nat.{ℕ, _<_, _≤_}
 use lib.ListN.{length}
 use native.Mathlib.Omega.{arith}
 use lib.Dec.{T, T-not}
-use Rattle.text.specs.Table.{first-of, second-of}
+use Rattle.text.specs.Table.{first-of, second-of, pair, or-left, or-right}
+use Rattle.text.specs.Lists.{some}
 use Rattle.own.specs.Tree.{Tok, Items, none, mark, sub, Node, node, yield, kids, Marked, InOrder, end, turned, groups, nodes, recordOf, roots, marks, tokens, all, Fine}
-use Rattle.own.specs.Flat.{holds, width, any}
+use Rattle.own.specs.Flat.{holds, width}
 use Rattle.own.specs.Lists.{All, nil, _&_, Only, here, there, all-head, all-tail, all-map, all-both, all-append, all-arrange, all-concat, only-left, only-right, only-arrange, only-concat}
-use Rattle.own.specs.Places.{pair, or-left, or-right, order-left, order-right, order-all, node-holds, bounded, nodes-bounded, heads, narrower, any-none, misses}
+use Rattle.own.specs.Places.{order-left, order-right, order-all, node-holds, bounded, nodes-bounded, heads, narrower, any-none, misses}
 
 -- a node owns a token
 abbrev pub mine : Node → Tok → Bool
-mine n t = holds (recordOf n) t && not (any (map recordOf (kids (n .items))) t)
+mine n t = holds (recordOf n) t && not (some (λ c. holds c t) (map recordOf (kids (n .items))))
 
 -- The owner of the token, of width w.
 pub record Home (t : Tok) (w : ℕ) (n : Node) : Type 0 where
@@ -34,7 +35,7 @@ pub record Away (t : Tok) (n : Node) : Type 0 where
 
 apart : {t : Tok} (w : ℕ) (n : Node) → Away t n → Apart t w n
 apart {t} w n a =
-    record { wider = λ h. absurd (a .out h); other = λ h. a .out (first-of (holds (recordOf n) t) (not (any (map recordOf (kids (n .items))) t)) h) }
+    record { wider = λ h. absurd (a .out h); other = λ h. a .out (first-of (holds (recordOf n) t) (not (some (λ c. holds c t) (map recordOf (kids (n .items))))) h) }
 
 aparts : {t : Tok} {gs : List (List Node)} (w : ℕ) → All (All (Away t)) gs → All (All (Apart t w)) gs
 aparts w = all-map (λ g. all-map (apart w))
@@ -42,7 +43,7 @@ aparts w = all-map (λ g. all-map (apart w))
 -- where a token of a row of items is owned, with those right beneath and the groups of the row: in the row itself, or beneath
 data Spot (W : ℕ) (t : Tok) (ks : List Node) (gs : List (List Node)) : Type 0 where
   own : All (All (Away t)) gs → Spot W t ks gs
-  deep : (w : ℕ) → w < W → T (any (map recordOf ks) t) → Only (Only (Home t w) (Apart t w)) (All (Apart t w)) gs → Spot W t ks gs
+  deep : (w : ℕ) → w < W → T (some (λ c. holds c t) (map recordOf ks)) → Only (Only (Home t w) (Apart t w)) (All (Apart t w)) gs → Spot W t ks gs
 
 -- The owner is the node or one beneath it, and no wider.
 pub record Found (t : Tok) (n : Node) : Type 0 where
@@ -58,22 +59,23 @@ found : (k l h : ℕ) (js : Items) (t : Tok) → T (holds (recordOf (node k l h 
 found k l h js t held (own a) =
     let n = node k l h js in
     let home : Home t (width (recordOf n)) n = record {
-      owns = pair (holds (recordOf n) t) (not (any (map recordOf (kids js)) t)) held
+      owns = pair (holds (recordOf n) t) (not (some (λ c. holds c t) (map recordOf (kids js)))) held
           (not-any (any-none t (all-map (λ c x. x .out) (heads js a))));
       wide = refl;
     } in
     record { w = width (recordOf n); narrow = omega arith; only = here home (all-concat (all-arrange (turned k js) (aparts (width (recordOf n)) a))) }
-found k l h js t held (deep w lt some o) =
+found k l h js t held (deep w lt kid o) =
     let n = node k l h js in
     let others : Apart t w n = record {
       wider = λ x. lt;
-      other = λ x. T-not (any (map recordOf (kids js)) t)
-          (second-of (holds (recordOf n) t) (not (any (map recordOf (kids js)) t)) x) some;
+      other = λ x. T-not (some (λ c. holds c t) (map recordOf (kids js)))
+          (second-of (holds (recordOf n) t) (not (some (λ c. holds c t) (map recordOf (kids js)))) x) kid;
     } in
     record { w = w; narrow = omega arith; only = there others (only-concat (only-arrange (turned k js) o)) }
 
 spots : (is : Items) (at W : ℕ) → InOrder at (yield is) → Marked is → All (λ c. width (recordOf c) < W) (kids is)
     → All (λ t. Spot W t (kids is) (groups is)) (yield is)
+unfolding some
 spots none at W o m ws = nil
 spots (mark t r) at W o m ws =
     own (all-map (λ g. all-map (λ n b. record { out = misses t b (o .1) (inl (o .1)) })) (bounded r (t .stop) (o .2) m))
@@ -93,20 +95,20 @@ spots (sub k l h js r) at W o m ws =
   where
     within : (t : Tok) → width (recordOf (node k l h js)) < W → Found t (node k l h js) → T (holds (recordOf (node k l h js)) t) → All (All (Away t)) (groups r)
         → Spot W t (node k l h js ∷ kids r) (nodes (node k l h js) ∷ groups r)
-    within t lt f held a = deep (f .w) (omega arith) (or-left (holds (recordOf (node k l h js)) t) (any (map recordOf (kids r)) t) held)
+    within t lt f held a = deep (f .w) (omega arith) (or-left (holds (recordOf (node k l h js)) t) (some (λ c. holds c t) (map recordOf (kids r))) held)
         (here (f .only) (aparts (f .w) a))
 
     past : (t : Tok) → All (Away t) (nodes (node k l h js)) → Spot W t (kids r) (groups r)
         → Spot W t (node k l h js ∷ kids r) (nodes (node k l h js) ∷ groups r)
     past t a (own b) = own (a & b)
-    past t a (deep w lt some o) = deep w lt (or-right (holds (recordOf (node k l h js)) t) (any (map recordOf (kids r)) t) some) (there (all-map (apart w) a) o)
+    past t a (deep w lt kid o) = deep w lt (or-right (holds (recordOf (node k l h js)) t) (some (λ c. holds c t) (map recordOf (kids r))) kid) (there (all-map (apart w) a) o)
 
 -- in a tree whose tokens start at a place or later
 homes-in : (k l h : ℕ) (js : Items) (at : ℕ) → InOrder at (yield js) → Marked js → 0 < length (marks js)
     → All (λ t. Found t (node k l h js)) (yield js)
-homes-in k l h js at o m some =
-    let held = node-holds k l h js some at o in
-    let ws = narrower k l h js at o m some in
+homes-in k l h js at o m wordy =
+    let held = node-holds k l h js wordy at o in
+    let ws = narrower k l h js at o m wordy in
     all-map (λ t x. found k l h js t (x .0) (x .1)) (all-both held (spots js at (width (recordOf (node k l h js))) o m ws))
 
 -- the owner of a token among nodes, with its width

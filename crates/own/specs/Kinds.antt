@@ -1,4 +1,5 @@
--- The kinds of records by name: document 01, "Records and the marks they own", in the order of its table.
+-- The kinds of records by name: document 01, "Records and the marks they own", in the order of its table. Types are those from Alias on,
+-- patterns those from IdentifierPattern on (IgnorePattern is `_`); Number is the number in a call.
 -- Assumes nothing.
 use Prim.Native.Nat.{ℕ}
 
@@ -11,7 +12,6 @@ Name = 2
 abbrev pub Parameter : ℕ
 Parameter = 3
 
--- Types.
 abbrev pub Alias : ℕ
 Alias = 4
 
@@ -39,7 +39,6 @@ ArrayType = 11
 abbrev pub ListType : ℕ
 ListType = 12
 
--- Patterns; the second is `_`.
 abbrev pub IdentifierPattern : ℕ
 IdentifierPattern = 13
 
@@ -52,14 +51,12 @@ TuplePattern = 15
 abbrev pub ArrayPattern : ℕ
 ArrayPattern = 16
 
--- A `let`, and a block.
 abbrev pub Let : ℕ
 Let = 17
 
 abbrev pub Block : ℕ
 Block = 18
 
--- Expressions.
 abbrev pub Left : ℕ
 Left = 19
 
@@ -114,14 +111,12 @@ Match = 35
 abbrev pub EnumMatch : ℕ
 EnumMatch = 36
 
--- Arms.
 abbrev pub BuiltinArm : ℕ
 BuiltinArm = 37
 
 abbrev pub EnumArm : ℕ
 EnumArm = 38
 
--- A call, and a number in it.
 abbrev pub Call : ℕ
 Call = 39
 

@@ -6,12 +6,11 @@ use mathlib.Core.List.{List, [], _∷_, map}
 use mathlib.Core.Logic.{_≢_, _⊎_}
 use mathlib.Core.Path.{_≡_}
 use Prim.Native.Nat.{ℕ, _<_, _≤_}
-use lib.Dec.{eqb}
+use lib.Dec.{T, eqb}
 use lib.ListN.{length, getD}
-use Rattle.own.specs.Tree.{Tok, Rec}
+use Rattle.own.specs.Tree.{Tok, Items, none, mark, sub, Node, yield, partner, Rec}
 use Rattle.own.specs.Flat.{blank, no-token, children, owned, total, Piece, tok, part, merge, Owner}
 use Rattle.own.specs.Kinds as kind
-use Rattle.own.specs.Arms as arm
 
 -- A piece as a rule sees it: a token by its class; a child by its kind, low and high and the class of the token that it begins with.
 pub data Sort : Type 0 where
@@ -36,11 +35,20 @@ made ts rs j = map (sortOf ts) (merge (children rs j) (owned ts rs j))
 abbrev pub Rule : Type 1
 Rule = ℕ → ℕ → ℕ → List Sort → Type 0
 
--- Low of two arms in the canonical order: Left and Right, None and Some, False and True.
-pub data Partners : ℕ → ℕ → Type 0 where
-  left-right : Partners arm.Left arm.Right
-  none-some : Partners arm.None arm.Some
-  false-true : Partners arm.False arm.True
+-- The class of the first token.
+abbrev pub firstClass : List Tok → ℕ
+firstClass [] = 0
+firstClass (t ∷ ts) = t .class
+
+-- What a node is made of, as a rule sees it.
+abbrev pub sorts : Items → List Sort
+sorts none = []
+sorts (mark t r) = word (t .class) ∷ sorts r
+sorts (sub k l h js r) = child k l h (firstClass (yield js)) ∷ sorts r
+
+-- A node keeps the rule of its kind, low and high.
+abbrev pub Keeps : Rule → Node → Type 0
+Keeps R n = R (n .kind) (n .low) (n .high) (sorts (n .items))
 
 -- Children in order of place between two places: each starts where the one before ends, or later.
 abbrev pub Ordered : ℕ → ℕ → List Rec → Type 0
@@ -56,7 +64,7 @@ pub record Canonical (lo hi : ℕ) (cs : List Rec) : Type 0 where
   pub they-are : cs ≡ matched ∷ first ∷ second ∷ []
   pub first-arm : first .kind ≡ kind.BuiltinArm
   pub second-arm : second .kind ≡ kind.BuiltinArm
-  pub partners : Partners (first .low) (second .low)
+  pub partners : T (partner (first .low) (second .low))
   pub places : Ordered lo hi (matched ∷ first ∷ second ∷ []) ⊎ Ordered lo hi (matched ∷ second ∷ first ∷ [])
 
 -- Law 3, of the rule R, the tokens ts and the records rs.

@@ -8,6 +8,7 @@ pub mod Shape
 pub mod Merge
 pub mod Count
 pub mod Owners
+pub mod Partners
 pub mod Rules
 pub mod Words
 pub mod Laid

@@ -8,8 +8,8 @@ use Prim.Native.Nat.{ℕ, zero, suc, _<_}
 use native.Mathlib.Omega.{arith}
 use lib.Dec.{T}
 use lib.ListN.{length, getD}
+use Rattle.text.specs.Lists.{keep}
 use Rattle.own.specs.Tree.{exchange, arrange, concat}
-use Rattle.own.specs.Flat.{keep}
 
 infixr 60 _&_
 -- All of a list have P.

@@ -6,11 +6,12 @@ use mathlib.Core.List.{List, [], _∷_, map}
 use Prim.Native.Nat.{ℕ, _<_, _≤_}
 use native.Mathlib.Omega.{arith}
 use lib.Dec.{ltb, ltb→lt, lt→ltb}
+use Rattle.text.specs.Table.{is-true, is-false}
 use Rattle.own.specs.Tree.{Tok, Items, none, mark, sub, Node, node, yield, marks, kids, Marked, InOrder, end, exchange, arrange, Rec, recordOf}
 use Rattle.own.specs.Flat.{Piece, tok, part, from, put, merge}
 use Rattle.own.specs.Law.{Ordered}
 use Rattle.own.specs.Lists.{All, nil, _&_, all-map}
-use Rattle.own.specs.Places.{is-true, is-false, order-left, order-right, order-le, end-append, node-bounded, bounded, heads}
+use Rattle.own.specs.Places.{order-left, order-right, order-le, end-append, node-bounded, bounded, heads}
 
 less : (a b : ℕ) → a < b → ltb a b ≡ true
 less a b h = is-true (ltb a b) (lt→ltb a b h)

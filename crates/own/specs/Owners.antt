@@ -10,8 +10,9 @@ use native.Mathlib.Decide.{ℕ-discrete}
 use lib.Dec.{T}
 use lib.ListN.{length, getD, length-map}
 use Rattle.text.specs.Table.{first-of}
+use Rattle.text.specs.Lists.{some, keep}
 use Rattle.own.specs.Tree.{Tok, Items, none, mark, sub, Node, node, roots, yield, marks, kids, Marked, InOrder, begin, end, turned, groups, below, Rec, recordOf, tokens, all, records, Fine}
-use Rattle.own.specs.Flat.{holds, width, blank, no-token, headChildren, children, any, owns, keep, owned, total, merge, Owner}
+use Rattle.own.specs.Flat.{holds, width, blank, no-token, headChildren, children, owns, owned, total, merge, Owner}
 use Rattle.own.specs.Law.{Ordered}
 use Rattle.own.specs.Lists.{All, nil, _&_, all-map, all-arrange, all-concat, all-at, only-at, keep-and, keep-ext, arrange-map}
 use Rattle.own.specs.Places.{order-left, order-right, order-begin, end-any, marks-few, held, own-marks}
@@ -106,7 +107,7 @@ module _ (ns : List Node) (fine : Fine ns) where
     is-owned =
         let s = its-place in
         let m = at j in
-        let no-kid : Tok → Bool = λ t. not (any (map recordOf (kids (m .items))) t) in
+        let no-kid : Tok → Bool = λ t. not (some (λ c. holds c t) (map recordOf (kids (m .items)))) in
         keep-ext (owns (records ns) j) (mine m) is-owns (tokens ns)
         ∙ keep-and (holds (recordOf m)) no-kid (tokens ns)
         ∙ ap (keep no-kid) (ap (keep (holds (recordOf m))) (s .split) ∙ held m (s .before) (s .after) has-some (subst (InOrder 0) (s .split) (fine .ordered)))
@@ -140,7 +141,7 @@ module _ (ns : List Node) (fine : Fine ns) where
         at = j;
         there = lt′;
         its = its;
-        inside = first-of (holds (getD (records ns) j blank) t) (not (any (children (records ns) j) t)) its;
+        inside = first-of (holds (getD (records ns) j blank) t) (not (some (λ c. holds c t) (children (records ns) j))) its;
         only = λ i li o. alone j i (ℕ-discrete i j) (λ ne. others i (inside i li) ne .other (rw (is-owns i li t) at o));
         smallest = λ i li ne h. rw (is-record j lt′, is-record i li) (omega (arith, others i (inside i li) ne .wider (rw (is-record i li) at h), home .wide));
       }

@@ -8,40 +8,11 @@ use Prim.Native.Nat.{ℕ, _+_, _<_, _≤_}
 use native.Mathlib.Omega.{arith}
 use lib.Dec.{T, leb, leb→le, le→leb}
 use lib.ListN.{length, length-append}
-use Rattle.text.specs.Table.{first-of, second-of}
+use Rattle.text.specs.Table.{is-true, is-false, first-of, second-of, pair}
+use Rattle.text.specs.Lists.{keep, some}
 use Rattle.own.specs.Tree.{Tok, Items, none, mark, sub, Node, node, yield, marks, kids, Marked, InOrder, begin, end, turned, groups, nodes, Rec, recordOf}
-use Rattle.own.specs.Flat.{holds, width, keep, any}
+use Rattle.own.specs.Flat.{holds, width}
 use Rattle.own.specs.Lists.{All, nil, _&_, all-head, all-map, all-arrange, all-concat, keep-append, keep-all, keep-none, keep-same}
-
--- Both tests pass.
-pub pair : (a b : Bool) → T a → T b → T (a && b)
-pair true b s t = t
-pair false b s t = absurd s
-
--- A test that passes is true.
-pub is-true : (b : Bool) → T b → b ≡ true
-is-true true t = refl
-is-true false t = absurd t
-
--- A test that does not pass is false.
-pub is-false : (b : Bool) → ¬ T b → b ≡ false
-is-false true f = absurd (f tt)
-is-false false f = refl
-
--- One of two tests passes, the first.
-pub or-left : (a b : Bool) → T a → T (a || b)
-or-left true b t = tt
-or-left false b t = absurd t
-
--- One of two tests passes, the second.
-pub or-right : (a b : Bool) → T b → T (a || b)
-or-right true b t = tt
-or-right false b t = t
-
--- Which of two tests passes.
-pub or-cases : (a b : Bool) → T (a || b) → T a ⊎ T b
-or-cases true b t = inl tt
-or-cases false b t = inr t
 
 -- A place that holds a token starts no later and ends no earlier.
 pub holds-out : (r : Rec) (t : Tok) → T (holds r t) → (r .start ≤ t .start) × (t .stop ≤ r .stop)
@@ -222,7 +193,8 @@ held n a b w o =
     ) (append-nil y))
 
 -- what no node right beneath holds
-pub any-none : (t : Tok) {cs : List Node} → All (λ c. ¬ T (holds (recordOf c) t)) cs → any (map recordOf cs) t ≡ false
+pub any-none : (t : Tok) {cs : List Node} → All (λ c. ¬ T (holds (recordOf c) t)) cs → some (λ c. holds c t) (map recordOf cs) ≡ false
+unfolding some
 any-none t nil = refl
 any-none t (_&_ {a = c} {l = cs} h a) = rw (is-false (holds (recordOf c) t) h) (any-none t a)
 
@@ -232,21 +204,22 @@ misses {n = n} t b w (inl p) h = let q = holds-out (recordOf n) t h in omega ari
 misses {n = n} t b w (inr p) h = let q = holds-out (recordOf n) t h in omega arith
 
 -- Of its tokens, those that no node right beneath holds are its own.
-pub own-marks : (is : Items) (at : ℕ) → InOrder at (yield is) → Marked is → keep (λ t. not (any (map recordOf (kids is)) t)) (yield is) ≡ marks is
+pub own-marks : (is : Items) (at : ℕ) → InOrder at (yield is) → Marked is → keep (λ t. not (some (λ c. holds c t) (map recordOf (kids is)))) (yield is) ≡ marks is
+unfolding some
 own-marks none at o m = refl
 own-marks (mark t r) at o m =
-    let no-kid : any (map recordOf (kids r)) t ≡ false = any-none t
+    let no-kid : some (λ c. holds c t) (map recordOf (kids r)) ≡ false = any-none t
     (all-map (λ c b. misses t b (o .1) (inl (o .1))) (heads r (bounded r (t .stop) (o .2) m))) in
     rw no-kid (ap (λ (l : List Tok). t ∷ l) (own-marks r (t .stop) (o .2) m))
 own-marks (sub k l h js r) at o m =
     let n = node k l h js in
     let p = order-left at (yield js) (yield r) o in
     let q = order-right at (yield js) (yield r) o in
-    let test : Tok → Bool = λ t. not (holds (recordOf n) t || any (map recordOf (kids r)) t) in
+    let test : Tok → Bool = λ t. not (holds (recordOf n) t || some (λ c. holds c t) (map recordOf (kids r))) in
     let none-here : All (λ t. ¬ T (test t)) (yield js) =
     all-map (λ t i. rw (is-true (holds (recordOf n) t) i) (λ x. x)) (node-holds k l h js (m .0) at p) in
-    let same-after : All (λ t. test t ≡ not (any (map recordOf (kids r)) t)) (yield r) =
+    let same-after : All (λ t. test t ≡ not (some (λ c. holds c t) (map recordOf (kids r)))) (yield r) =
     all-map (λ t i. rw (is-false (holds (recordOf n) t) (misses t (node-bounded k l h js (m .0) at p) (i .some) (inr (omega arith)))))
     (order-all (end at (yield js)) (yield r) q) in
     keep-append test (yield js) (yield r)
-    ∙ (rw (keep-none test none-here) (keep-same test (λ t. not (any (map recordOf (kids r)) t)) same-after ∙ own-marks r (end at (yield js)) q (m .2)))
+    ∙ (rw (keep-none test none-here) (keep-same test (λ t. not (some (λ c. holds c t) (map recordOf (kids r)))) same-after ∙ own-marks r (end at (yield js)) q (m .2)))

@@ -9,31 +9,15 @@ use native.Mathlib.Omega.{arith}
 use borrow.Author.Tests.{eq-eqb, ne-eqb}
 use lib.Dec.{T, eqb, eqb→eq}
 use lib.ListN.{length, getD, length-map}
-use Rattle.text.specs.Table.{first-of, second-of}
+use Rattle.text.specs.Table.{first-of, second-of, or-cases}
 use Rattle.own.specs.Tree.{Tok, Items, none, mark, sub, Node, node, roots, yield, kids, Each, Marked, Paired, InOrder, begin, end, partner, canonical, paired, reversed, turned, arrange, groups, recordOf, tokens, all, records, Fine}
 use Rattle.own.specs.Flat.{blank, children}
-use Rattle.own.specs.Law.{Sort, word, child, classAt, sortOf, made, Rule, Partners, left-right, none-some, false-true, Ordered, Canonical, Ownership}
+use Rattle.own.specs.Law.{Sort, word, child, classAt, sortOf, made, Rule, firstClass, sorts, Keeps, Ordered, Canonical, Ownership}
 use Rattle.own.specs.Lists.{All, nil, _&_, all-arrange, all-concat, all-at}
-use Rattle.own.specs.Places.{order-left, order-right, order-le, begin-le, marks-few, or-cases}
+use Rattle.own.specs.Places.{order-left, order-right, order-le, begin-le, marks-few}
 use Rattle.own.specs.Merge.{pieces}
 use Rattle.own.specs.Owners.{no-node, kept}
 use Rattle.own.specs.Kinds as kind
-use Rattle.own.specs.Arms as arm
-
--- The class of the first token.
-abbrev pub firstClass : List Tok → ℕ
-firstClass [] = 0
-firstClass (t ∷ ts) = t .class
-
--- What a node is made of, as a rule sees it.
-abbrev pub sorts : Items → List Sort
-sorts none = []
-sorts (mark t r) = word (t .class) ∷ sorts r
-sorts (sub k l h js r) = child k l h (firstClass (yield js)) ∷ sorts r
-
--- A node keeps the rule of its kind, low and high.
-abbrev pub Keeps : Rule → Node → Type 0
-Keeps R n = R (n .kind) (n .low) (n .high) (sorts (n .items))
 
 -- what holds of every node beneath, by groups
 pub each-all : (P : Node → Type 0) (is : Items) → Each P is → All (All P) (groups is)
@@ -68,22 +52,6 @@ sorts-pieces ts o (sub k l h js r) a b e m =
     let rest = sorts-pieces ts o r (a ++ yield js) b g (m .2) in
     cc
 
--- two arms in the canonical order
-partners-of : (a b : ℕ) → T (partner a b) → Partners a b
-unfolding partner
-partners-of a b t = go (or-cases (eqb a arm.Left && eqb b arm.Right) ((eqb a arm.None && eqb b arm.Some) || (eqb a arm.False && eqb b arm.True)) t)
-  where
-    these : (x y : ℕ) → T (eqb a x && eqb b y) → Partners x y → Partners a b
-    these x y u p = rw (eqb→eq a x (first-of (eqb a x) (eqb b y) u), eqb→eq b y (second-of (eqb a x) (eqb b y) u)) p
-
-    more : T (eqb a arm.None && eqb b arm.Some) ⊎ T (eqb a arm.False && eqb b arm.True) → Partners a b
-    more (inl u) = these arm.None arm.Some u none-some
-    more (inr u) = these arm.False arm.True u false-true
-
-    go : T (eqb a arm.Left && eqb b arm.Right) ⊎ T ((eqb a arm.None && eqb b arm.Some) || (eqb a arm.False && eqb b arm.True)) → Partners a b
-    go (inl u) = these arm.Left arm.Right u left-right
-    go (inr u) = more (or-cases (eqb a arm.None && eqb b arm.Some) (eqb a arm.False && eqb b arm.True) u)
-
 module _ (lo hi : ℕ) (e a b : Node) where
   arms : T (canonical a b) → Ordered lo hi (recordOf e ∷ recordOf a ∷ recordOf b ∷ []) ⊎ Ordered lo hi (recordOf e ∷ recordOf b ∷ recordOf a ∷ [])
       → Canonical lo hi (recordOf e ∷ recordOf a ∷ recordOf b ∷ [])
@@ -100,7 +68,7 @@ module _ (lo hi : ℕ) (e a b : Node) where
         they-are = refl;
         first-arm = eqb→eq (a .kind) kind.BuiltinArm (first-of x (y && z) t);
         second-arm = eqb→eq (b .kind) kind.BuiltinArm (first-of y z u);
-        partners = partners-of (a .low) (b .low) (second-of y z u);
+        partners = second-of y z u;
         places = o;
       }
 

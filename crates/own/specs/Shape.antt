@@ -7,8 +7,9 @@ use Prim.Native.Nat.{ℕ, zero, suc, _-_, _<_, _≤_}
 use native.Mathlib.Omega.{arith}
 use lib.ListN.{length, getD, take, drop, length-append, length-map}
 use lib.Seq.{take-at, drop-at}
+use Rattle.text.specs.Lists.{some}
 use Rattle.own.specs.Tree.{Tok, Items, none, mark, sub, Node, node, kids, turned, exchange, arrange, concat, groups, nodes, below, roots, all, Rec, recordOf, records}
-use Rattle.own.specs.Flat.{holds, row, headChildren, any}
+use Rattle.own.specs.Flat.{holds, row, headChildren}
 use Rattle.own.specs.Lists.{All, nil, _&_, all-arrange, arrange-map}
 
 -- each node of the list is followed by all beneath it
@@ -111,7 +112,8 @@ tops ns =
     e = groups-kids (roots ns) ∙ ap (map nodes) (kids-roots ns)
 
 -- a token that one of them holds
-any-swap : (t : Tok) (l : List Rec) → any (exchange l) t ≡ any l t
+any-swap : (t : Tok) (l : List Rec) → some (λ c. holds c t) (exchange l) ≡ some (λ c. holds c t) l
+unfolding some
 any-swap t [] = refl
 any-swap t (a ∷ []) = refl
 any-swap t (a ∷ b ∷ []) = refl
@@ -125,7 +127,7 @@ any-swap t (e ∷ a ∷ b ∷ []) = ap (λ m. holds e t || m) (flip (holds a t) 
 any-swap t (e ∷ a ∷ b ∷ c ∷ l) = refl
 
 -- Whether one holds a token does not depend on the arrangement.
-pub any-arrange : (t : Tok) (b : Bool) (l : List Rec) → any (arrange b l) t ≡ any l t
+pub any-arrange : (t : Tok) (b : Bool) (l : List Rec) → some (λ c. holds c t) (arrange b l) ≡ some (λ c. holds c t) l
 any-arrange t true l = any-swap t l
 any-arrange t false l = refl
 

@@ -7,6 +7,7 @@ use mathlib.Core.Path.{_≡_}
 use Prim.Native.Nat.{ℕ, _<_, _≤_}
 use lib.Dec.{T, eqb}
 use lib.ListN.{length}
+use Rattle.text.specs.Lists.{some}
 use Rattle.own.specs.Kinds as kind
 use Rattle.own.specs.Arms as arm
 
@@ -15,6 +16,10 @@ pub record Tok : Type 0 where
   pub class : ℕ
   pub start : ℕ
   pub stop : ℕ
+
+-- The classes of tokens.
+unfoldable pub classesOf : List Tok → List ℕ
+classesOf = map (λ t. t .class)
 
 -- What a node is made of, in the order of the text: tokens of its own, and nodes (kind, low, high and what each is made of).
 pub data Items : Type 0 where
@@ -62,19 +67,19 @@ Each P none = Unit {0}
 Each P (mark t r) = Each P r
 Each P (sub k l h js r) = P (node k l h js) × Each P js × Each P r
 
--- Where tokens begin.
+-- Where tokens begin, and where they end; at, if there is none.
 abbrev pub begin : List Tok → ℕ
 begin [] = 0
 begin (t ∷ ts) = t .start
 
--- Where tokens end; at, if there is none.
 abbrev pub end : ℕ → List Tok → ℕ
 end at [] = at
 end at (t ∷ ts) = end (t .stop) ts
 
--- Low of a built-in arm and of its partner, in the canonical order: Left and Right, None and Some, False and True.
+-- Low of a built-in arm and of its partner, in the canonical order.
 unfoldable pub partner : ℕ → ℕ → Bool
-partner a b = (eqb a arm.Left && eqb b arm.Right) || ((eqb a arm.None && eqb b arm.Some) || (eqb a arm.False && eqb b arm.True))
+unfolding some
+partner a b = some (λ p. eqb a (p .0) && eqb b (p .1)) arm.partners
 
 -- Two built-in arms in the canonical order.
 unfoldable pub canonical : Node → Node → Bool

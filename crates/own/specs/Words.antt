@@ -11,10 +11,10 @@ use lib.Seq.{getD-drop}
 use Rattle.text.specs.Widths.{tokWide, recWide}
 use Rattle.own.specs.Tree.{Tok, Items, none, mark, sub, Node, node, roots, yield, begin, end, Each, turned, arrange, concat, groups, nodes, Rec, recordOf, tokens, all, records, Fine}
 use Rattle.own.specs.Flat.{blank, no-token}
-use Rattle.own.specs.Law.{Rule, Ownership}
+use Rattle.own.specs.Law.{Rule, Ownership, Keeps}
 use Rattle.own.specs.Lists.{All, nil, _&_, arrange-map}
 use Rattle.own.specs.Count.{weigh, weigh-arrange}
-use Rattle.own.specs.Rules.{Keeps, ownership}
+use Rattle.own.specs.Rules.{ownership}
 
 -- The words of a record, before other words.
 abbrev pub recThen : ℕ → ℕ → ℕ → ℕ → ℕ → ℕ → List ℕ → List ℕ

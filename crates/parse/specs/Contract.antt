@@ -17,16 +17,16 @@ use Rattle.theory.specs.Machine.{choose}
 use Rattle.theory.specs.Ebnf as shape
 use Rattle.theory.specs.Walk.{Reads, Sticks}
 use Rattle.own.specs.Tree as own
-use Rattle.own.specs.Tree.{Tok, Items, concat}
+use Rattle.own.specs.Tree.{Tok, Items, concat, classesOf}
 use Rattle.own.specs.Flat.{no-token}
-use Rattle.own.specs.Law.{Sort, word, child}
-use Rattle.own.specs.Rules.{sorts}
+use Rattle.own.specs.Law.{Sort, word, child, sorts}
 use Rattle.text.specs.Widths.{recWide, tokWide}
 use Rattle.text.specs.Refusals as refusal
+use Rattle.text.specs.Lists.{has}
 use Rattle.own.specs.Words.{recThen, toks, sizes, wordGroups}
 use Rattle.own.specs.Kinds as kind
 use Rattle.kinds.specs.Words.{classOf}
-use Rattle.kinds.specs.Shape.{has, halfRange}
+use Rattle.kinds.specs.Shape.{halfRange}
 use Rattle.kinds.specs.Fields.{counted}
 use Rattle.kinds.specs.Families as family
 use Rattle.lexer.specs.Classes as t
@@ -35,7 +35,6 @@ use Rattle.grammar.specs.shapes.Tables.{means, table}
 use Rattle.grammar.specs.shapes.TablesIndex.{n-arm, n-head}
 use Rattle.grammar.specs.records.Records.{reads, lowHalf, highHalf, sees, nameCount, arranged, textOf, recordItems}
 use Rattle.grammar.specs.records.Faults.{Fault, earlier, earliest, faults}
-use Rattle.grammar.specs.spelled.TreeTokens.{classesOf}
 use Rattle.parse.specs.declared.State.{State}
 use Rattle.parse.specs.declared.token.Lexeme.{Lexeme}
 use Rattle.parse.specs.declared.Step.{Step}

@@ -14,6 +14,7 @@ use Rattle.text.specs.Widths.{tokWide, recWide}
 use Rattle.text.specs.Answers.{Answer, accepted, refused}
 use Rattle.text.specs.Refusals as refusal
 use Rattle.own.specs.Words.{recWords}
+use Rattle.own.specs.Tree.{classesOf}
 use Rattle.grammar.specs.Entry.{Entry}
 use Rattle.grammar.specs.shapes.WellShaped.{shapeOf}
 use Rattle.grammar.specs.spelled.TreeTokens.{classesOf}

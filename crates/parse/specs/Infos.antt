@@ -10,8 +10,7 @@ use lib.Dec.{eqb, ltb}
 use Rattle.theory.specs.Machine.{choose}
 use Rattle.own.specs.Tree as own
 use Rattle.own.specs.Tree.{Items, partner}
-use Rattle.own.specs.Law.{Sort, word, child}
-use Rattle.own.specs.Rules.{sorts}
+use Rattle.own.specs.Law.{Sort, word, child, sorts}
 use Rattle.own.specs.Words.{sizes}
 use Rattle.own.specs.Arms as arm
 use Rattle.own.specs.Kinds as kind

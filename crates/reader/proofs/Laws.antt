@@ -18,6 +18,7 @@ use Rattle.text.specs.Widths.{tokWide}
 use Rattle.text.specs.Answers.{Answer, accepted, refused}
 use Rattle.text.specs.Refusals as refusal
 use Rattle.own.specs.Words.{recWords}
+use Rattle.own.specs.Tree.{classesOf}
 use Rattle.grammar.specs.Entry.{Entry}
 use Rattle.grammar.specs.shapes.WellShaped.{shapeOf}
 use Rattle.grammar.specs.spelled.TreeTokens.{classesOf}

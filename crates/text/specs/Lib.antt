@@ -2,6 +2,8 @@ pub mod Part
 pub mod Ascii
 pub mod Same
 pub mod Table
+pub mod Lists
+pub mod ListLaws
 pub mod Clear
 pub mod Widths
 pub mod Answers

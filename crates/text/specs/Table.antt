@@ -1,17 +1,22 @@
 -- A rule of a table, proved at all of its entries by one test that antt computes, one entry after the other.
 -- Assumes nothing.
-use mathlib.Core.Bool.{Bool, true, false, _&&_}
+use mathlib.Core.Bool.{Bool, true, false, _&&_, _||_}
 use mathlib.Core.List.{List, [], _∷_}
+use mathlib.Core.Logic.{_⊎_, inl, inr}
 use mathlib.Core.Path.{_≡_, refl, _∙_, subst, sym}
 use Prim.Native.Nat.{ℕ, zero, suc, _+_, _<_}
 use native.Mathlib.Nat.{add-zero, zero-add, add-suc, suc-add, le-of-suc-le-suc, not-suc-le-zero}
 use lib.Dec.{T, eqb, eqb→eq}
 use lib.ListN.{length, getD}
 
--- a test that passes is true
+-- a test that passes is true, one that does not is false
 pub is-true : (b : Bool) → T b → b ≡ true
 is-true true t = refl
 is-true false t = absurd t
+
+pub is-false : (b : Bool) → ¬ T b → b ≡ false
+is-false true f = absurd (f tt)
+is-false false f = refl
 
 -- both tests of a pair pass
 pub first-of : (a b : Bool) → T (a && b) → T a
@@ -21,6 +26,23 @@ first-of false b t = t
 pub second-of : (a b : Bool) → T (a && b) → T b
 second-of true b t = t
 second-of false b t = absurd t
+
+pub pair : (a b : Bool) → T a → T b → T (a && b)
+pair true b s t = t
+pair false b s t = absurd s
+
+-- one of two passes: the first, the second, and which
+pub or-left : (a b : Bool) → T a → T (a || b)
+or-left true b t = tt
+or-left false b t = absurd t
+
+pub or-right : (a b : Bool) → T b → T (a || b)
+or-right true b t = tt
+or-right false b t = t
+
+pub or-cases : (a b : Bool) → T (a || b) → T a ⊎ T b
+or-cases true b t = inl tt
+or-cases false b t = inr t
 
 -- all tests of a list pass, and so does each
 abbrev pub all : List Bool → Bool

@@ -13,18 +13,10 @@ use borrow.Author.Tests.{eqb-true}
 use lib.Dec.{T, eqb}
 use lib.ListN.{getD}
 use Rattle.text.specs.Table.{first-of, second-of}
+use Rattle.text.specs.Lists.{has, all}
+use Rattle.text.specs.ListLaws.{all-has, all-getD}
 use Rattle.theory.specs.Grammar.{Sym, tok, nt, Row, row, look, alt, pick, blank}
 use Rattle.theory.specs.Machine.{choose}
-
--- Whether a class is in a list.
-abbrev pub mem : ℕ → List ℕ → Bool
-mem a [] = false
-mem a (b ∷ l) = eqb a b || mem a l
-
--- Whether the test passes at each entry.
-unfoldable pub all {ℓ} : {X : Type ℓ} → (X → Bool) → List X → Bool
-all p [] = true
-all p (x ∷ l) = p x && all p l
 
 -- Whether the test passes at each alternative and its number, counted from 1.
 unfoldable pub numbered : (ℕ → List Sym → Bool) → List (List Sym) → Bool
@@ -35,23 +27,6 @@ numbered f (x ∷ l) = f 1 x && numbered (λ i. f (suc i)) l
 pub other-of : (a b : Bool) → T (not a || b) → T a → T b
 other-of true b t h = t
 other-of false b t h = absurd h
-
--- A test that passes at each entry passes at one that is in the list.
-pub all-in : (p : ℕ → Bool) (a : ℕ) (l : List ℕ) → T (all p l) → T (mem a l) → T (p a)
-unfolding all
-all-in p a [] t h = absurd h
-all-in p a (b ∷ l) t h = go (eqb a b) refl h (all-in p a l (second-of (p b) (all p l) t))
-  where
-    go : (c : Bool) → eqb a b ≡ c → T (c || mem a l) → (T (mem a l) → T (p a)) → T (p a)
-    go true e h ih = subst (λ (x : ℕ). T (p x)) (sym (eqb-true a b e)) (first-of (p b) (all p l) t)
-    go false e h ih = ih h
-
--- A test that passes at each row and at the default passes at the row of any number.
-pub all-at : (p : Row → Bool) (l : List Row) (d : Row) → T (all p l) → T (p d) → (i : ℕ) → T (p (getD l i d))
-unfolding all
-all-at p [] d t h i = h
-all-at p (x ∷ l) d t h zero = first-of (p x) (all p l) t
-all-at p (x ∷ l) d t h (suc i) = all-at p l d (second-of (p x) (all p l) t) h i
 
 some-eq : {x y : List Sym} → some x ≡ some y → x ≡ y
 some-eq e = cc
@@ -72,7 +47,7 @@ module _ (g : List Row) where
   abbrev pub Starts : Type 0 → ℕ → List Sym → Type 0
   Starts C a [] = C
   Starts C a (tok b ∷ σ) = a ≡ b
-  Starts C a (nt B ∷ σ) = T (mem a (row g B .first)) ⊎ (T (row g B .null) × Starts C a σ)
+  Starts C a (nt B ∷ σ) = T (has (row g B .first) a) ⊎ (T (row g B .null) × Starts C a σ)
 
   -- Whether p passes at each class with which the symbols may start, and `end` does where they may be empty.
   unfoldable pub scan : (ℕ → Bool) → Bool → List Sym → Bool
@@ -85,7 +60,7 @@ module _ (g : List Row) where
   unfolding scan
   scan-at p end C a [] t s = inr (t, s)
   scan-at p end C a (tok b ∷ σ) t s = inl (rw s t)
-  scan-at p end C a (nt B ∷ σ) t (inl m) = inl (all-in p a (row g B .first) (first-of (all p (row g B .first)) (not (row g B .null) || scan p end σ) t) m)
+  scan-at p end C a (nt B ∷ σ) t (inl m) = inl (all-has p (row g B .first) a (first-of (all p (row g B .first)) (not (row g B .null) || scan p end σ) t) m)
   scan-at p end C a (nt B ∷ σ) t (inr s) =
       scan-at p end C a σ (other-of (row g B .null) (scan p end σ) (second-of (all p (row g B .first)) (not (row g B .null) || scan p end σ) t) (s .0)) (s .1)
 
@@ -93,7 +68,7 @@ module _ (g : List Row) where
   unfoldable pub follows : Row → List Sym → Bool
   follows r [] = true
   follows r (tok b ∷ σ) = follows r σ
-  follows r (nt B ∷ σ) = scan (λ b. mem b (row g B .follow)) (all (λ b. mem b (row g B .follow)) (r .follow)) σ && follows r σ
+  follows r (nt B ∷ σ) = scan (has (row g B .follow)) (all (has (row g B .follow)) (r .follow)) σ && follows r σ
 
   -- Whether the symbols come to a word in n steps by the alternatives `least`.
   unfoldable pub short : ℕ → List Sym → Bool
@@ -105,7 +80,7 @@ module _ (g : List Row) where
   -- The test of an alternative of the row r: its beginnings are in `first`, the table chooses it there, `follow` is right.
   unfoldable pub goodAlt : Row → ℕ → List Sym → Bool
   goodAlt r i rhs =
-      scan (λ b. mem b (r .first)) (r .null) rhs &&
+      scan (has (r .first)) (r .null) rhs &&
       (scan (λ b. eqb (look (r .cases) (r .other) b) i) (all (λ b. eqb (look (r .cases) (r .other) b) i) (r .follow)) rhs &&
       follows r rhs)
 
@@ -121,7 +96,7 @@ module _ (g : List Row) where
     -- Each row passes its test.
     pub row-good : (A : ℕ) → T (goodRow (row g A))
     unfolding good row
-    row-good A = all-at goodRow g blank (second-of (goodRow blank) (all goodRow g) ok) (first-of (goodRow blank) (all goodRow g) ok) A
+    row-good A = all-getD goodRow g blank (second-of (goodRow blank) (all goodRow g) ok) (first-of (goodRow blank) (all goodRow g) ok) A
 
     alt-good : (A i : ℕ) {rhs : List Sym} → alt g A i ≡ some rhs → T (goodAlt (row g A) i rhs)
     unfolding goodRow alt
@@ -131,11 +106,11 @@ module _ (g : List Row) where
         i e
 
     -- Each alternative passes its three tests.
-    pub parts : (A i : ℕ) {rhs : List Sym} → alt g A i ≡ some rhs → record { firsts : T (scan (λ b. mem b (row g A .first)) (row g A .null) rhs); choice : T (scan (λ b. eqb (choose g A b) i) (all (λ b. eqb (choose g A b) i) (row g A .follow)) rhs); after : T (follows (row g A) rhs) }
+    pub parts : (A i : ℕ) {rhs : List Sym} → alt g A i ≡ some rhs → record { firsts : T (scan (has (row g A .first)) (row g A .null) rhs); choice : T (scan (λ b. eqb (choose g A b) i) (all (λ b. eqb (choose g A b) i) (row g A .follow)) rhs); after : T (follows (row g A) rhs) }
     unfolding goodAlt choose
     parts A i {rhs} e =
         let r : Row = row g A in
-        let a : Bool = scan (λ b. mem b (r .first)) (r .null) rhs in
+        let a : Bool = scan (has (r .first)) (r .null) rhs in
         let b : Bool = scan (λ b. eqb (look (r .cases) (r .other) b) i) (all (λ b. eqb (look (r .cases) (r .other) b) i) (r .follow)) rhs in
         let p = second-of a (b && follows r rhs) (alt-good A i e) in
         record { firsts = first-of a (b && follows r rhs) (alt-good A i e); choice = first-of b (follows r rhs) p; after = second-of b (follows r rhs) p }

@@ -12,9 +12,11 @@ use lib.Dec.{T, eqb, ltb, leb, leb→le, T-not}
 use lib.ListN.{length, getD, getElem?}
 use borrow.Author.Tests.{ltb-true}
 use Rattle.text.specs.Table.{first-of, second-of}
+use Rattle.text.specs.Lists.{has, all}
+use Rattle.text.specs.ListLaws.{all-getD}
 use Rattle.theory.specs.Grammar.{Sym, tok, nt, Row, row, alt, pick, blank, Der}
 use Rattle.theory.specs.Machine.{la, choose, expand}
-use Rattle.theory.specs.Check.{good, mem, all, all-at}
+use Rattle.theory.specs.Check.{good}
 use Rattle.theory.specs.Predict.{der-starts}
 use Rattle.theory.specs.Ebnf.{Ex, child, Ebnf, kindsOf, Items, nil, sub, yield, Sort, token, node, flat, sortOf}
 use Rattle.theory.specs.Same.{ex, sames, never-token, the-kind, no-zero, sort-node, to-der}
@@ -36,7 +38,7 @@ module _ (t : Ebnf) (m : List Ex) (g : List Row) where
 
   -- The test of a row: its cost pays for each alternative, and it does not begin with the end.
   unfoldable pub paidRow : Row → Bool
-  paidRow r = all (λ rhs. leb (need rhs) (r .cost)) (r .alts) && not (mem 0 (r .first))
+  paidRow r = all (λ rhs. leb (need rhs) (r .cost)) (r .alts) && not (has (r .first) 0)
 
   -- The test of the table.
   unfoldable pub paid : Bool
@@ -57,20 +59,20 @@ module _ (t : Ebnf) (m : List Ex) (g : List Row) where
   module _ (same : T (sames t m g m)) (ok : T (good g)) (pay : T paid) where
     row-paid : (A : ℕ) → T (paidRow (row g A))
     unfolding paid row
-    row-paid A = all-at paidRow g blank (second-of (paidRow blank) (all paidRow g) pay) (first-of (paidRow blank) (all paidRow g) pay) A
+    row-paid A = all-getD paidRow g blank (second-of (paidRow blank) (all paidRow g) pay) (first-of (paidRow blank) (all paidRow g) pay) A
 
     cost-pays : (A i : ℕ) {rhs : List Sym} → alt g A i ≡ some rhs → need rhs ≤ row g A .cost
     unfolding paidRow alt pick
     cost-pays A zero e = absurd (no-zero t m g same A e)
     cost-pays A (suc i) {rhs} e =
         let c : ℕ = row g A .cost in
-        leb→le (need rhs) c (all-pick (λ rhs. leb (need rhs) c) (row g A .alts) i (first-of (all (λ rhs. leb (need rhs) c) (row g A .alts)) (not (mem 0 (row g A .first))) (row-paid A)) e)
+        leb→le (need rhs) c (all-pick (λ rhs. leb (need rhs) c) (row g A .alts) i (first-of (all (λ rhs. leb (need rhs) c) (row g A .alts)) (not (has (row g A .first) 0)) (row-paid A)) e)
 
-    not-at-end : (A : ℕ) → T (mem 0 (row g A .first)) → ⊥
+    not-at-end : (A : ℕ) → T (has (row g A .first) 0) → ⊥
     unfolding paidRow
-    not-at-end A h = T-not (mem 0 (row g A .first)) (second-of (all (λ rhs. leb (need rhs) (row g A .cost)) (row g A .alts)) (not (mem 0 (row g A .first))) (row-paid A)) h
+    not-at-end A h = T-not (has (row g A .first) 0) (second-of (all (λ rhs. leb (need rhs) (row g A .cost)) (row g A .alts)) (not (has (row g A .first) 0)) (row-paid A)) h
 
-    some-token : (A : ℕ) (ts : List ℕ) → row g A .null ≡ false → T (mem (la ts) (row g A .first)) ⊎ (T (row g A .null) × (la ts ≡ 0)) → 0 < length ts
+    some-token : (A : ℕ) (ts : List ℕ) → row g A .null ≡ false → T (has (row g A .first) (la ts)) ⊎ (T (row g A .null) × (la ts ≡ 0)) → 0 < length ts
     some-token A [] n (inl h) = absurd (not-at-end A h)
     some-token A (x ∷ ts) n (inl h) = omega arith
     some-token A ts n (inr h) = absurd (subst T n (h .0))

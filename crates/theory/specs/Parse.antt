@@ -11,9 +11,10 @@ use lib.Dec.{T, ltb}
 use lib.ListN.{length, take, drop, getD, length-drop, drop-of-length-le, take-append-drop}
 use lib.Seq.{take-all, take-suc, take-take, drop-cons, getD-take, length-take-le}
 use borrow.Author.Tests.{ltb-true, ltb-false}
+use Rattle.text.specs.Lists.{has}
 use Rattle.theory.specs.Grammar.{nt, Row, row, Der}
 use Rattle.theory.specs.Machine.{Same, same-end, same-head}
-use Rattle.theory.specs.Check.{good, mem}
+use Rattle.theory.specs.Check.{good}
 use Rattle.theory.specs.Predict.{start-ok}
 use Rattle.theory.specs.Ebnf.{Ex, Ebnf, Items, yield, Match, Tree, FirstWrong}
 use Rattle.theory.specs.Same.{ex, sames, to-der, from-der}
@@ -44,7 +45,7 @@ pub record Checked (t : Ebnf) (m : List Ex) (g : List Row) (S : ℕ) (E : Ex) : 
   pub same : T (sames t m g m)
   pub pays : T (paid t m g)
   pub start : ex m (nt S) ≡ E
-  pub ends : T (mem 0 (row g S .follow))
+  pub ends : T (has (row g S .follow) 0)
 
 module _ (t : Ebnf) (m : List Ex) (g : List Row) (S : ℕ) (E : Ex) (ok : Checked t m g S E) where
   starts-map : map (ex m) (nt S ∷ []) ≡ E ∷ []

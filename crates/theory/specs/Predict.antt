@@ -10,9 +10,11 @@ use Prim.Native.Nat.{ℕ, zero, suc}
 use native.Mathlib.Omega.{arith}
 use lib.Dec.{T, eqb, eqb→eq}
 use Rattle.text.specs.Table.{first-of, second-of}
+use Rattle.text.specs.Lists.{all, has}
+use Rattle.text.specs.ListLaws.{all-has}
 use Rattle.theory.specs.Grammar.{Sym, tok, nt, Row, row, alt, pick, Der, d-end, d-tok, d-nt}
 use Rattle.theory.specs.Machine.{la, choose, expand, Acc, a-end, a-tok, a-nt, Ref, r-long, r-short, r-other, r-stuck, r-tok, r-nt, Same, same-end, same-head}
-use Rattle.theory.specs.Check.{Starts, scan, scan-at, all, all-in, mem, follows, good, goodRow, row-good, parts, short, numbered, goodAlt}
+use Rattle.theory.specs.Check.{Starts, scan, scan-at, follows, good, goodRow, row-good, parts, short, numbered, goodAlt}
 
 module _ (g : List Row) where
   -- Sound: what the machine accepts is derived.
@@ -45,10 +47,10 @@ module _ (g : List Row) where
   abbrev pub Ok : List Sym → Type 0
   Ok [] = Unit {0}
   Ok (tok b ∷ σ) = Ok σ
-  Ok (nt A ∷ σ) = ((a : ℕ) → Starts g (a ≡ 0) a σ → T (mem a (row g A .follow))) × Ok σ
+  Ok (nt A ∷ σ) = ((a : ℕ) → Starts g (a ≡ 0) a σ → T (has (row g A .follow) a)) × Ok σ
 
   -- The start symbol alone is such a stack, if the end may follow it.
-  pub start-ok : (S : ℕ) → T (mem 0 (row g S .follow)) → Ok (nt S ∷ [])
+  pub start-ok : (S : ℕ) → T (has (row g S .follow) 0) → Ok (nt S ∷ [])
   start-ok S ends = ((λ a e. rw e ends), tt)
 
   module _ (ok : T (good g)) where
@@ -57,36 +59,36 @@ module _ (g : List Row) where
     der-starts d-end = refl
     der-starts (d-tok d) = refl
     der-starts (d-nt {A = A} {σ = σ} {ts = ts} i {rhs = rhs} e d) =
-        scan-at g (λ b. mem b (row g A .first)) (row g A .null) (Starts g (la ts ≡ 0) (la ts) σ) (la ts) rhs (parts g ok A i e .firsts) (starts-append (la ts ≡ 0) (la ts) rhs σ (der-starts d))
+        scan-at g (has (row g A .first)) (row g A .null) (Starts g (la ts ≡ 0) (la ts) σ) (la ts) rhs (parts g ok A i e .firsts) (starts-append (la ts ≡ 0) (la ts) rhs σ (der-starts d))
 
     -- The table chooses the alternative of every derivation.
-    pub chosen : (A i a : ℕ) {rhs : List Sym} → alt g A i ≡ some rhs → Starts g (T (mem a (row g A .follow))) a rhs → choose g A a ≡ i
-    chosen A i a {rhs} e s = fix (scan-at g (λ b. eqb (choose g A b) i) (all (λ b. eqb (choose g A b) i) (row g A .follow)) (T (mem a (row g A .follow))) a rhs (parts g ok A i e .choice) s)
+    pub chosen : (A i a : ℕ) {rhs : List Sym} → alt g A i ≡ some rhs → Starts g (T (has (row g A .follow) a)) a rhs → choose g A a ≡ i
+    chosen A i a {rhs} e s = fix (scan-at g (λ b. eqb (choose g A b) i) (all (λ b. eqb (choose g A b) i) (row g A .follow)) (T (has (row g A .follow) a)) a rhs (parts g ok A i e .choice) s)
       where
-        fix : T (eqb (choose g A a) i) ⊎ (T (all (λ b. eqb (choose g A b) i) (row g A .follow)) × T (mem a (row g A .follow))) → choose g A a ≡ i
+        fix : T (eqb (choose g A a) i) ⊎ (T (all (λ b. eqb (choose g A b) i) (row g A .follow)) × T (has (row g A .follow) a)) → choose g A a ≡ i
         fix (inl t) = eqb→eq _ _ t
-        fix (inr s) = eqb→eq _ _ (all-in (λ b. eqb (choose g A b) i) a (row g A .follow) (s .0) (s .1))
+        fix (inr s) = eqb→eq _ _ (all-has (λ b. eqb (choose g A b) i) (row g A .follow) a (s .0) (s .1))
 
     -- The same, for an alternative at the front of a stack.
     pub taken : (σ rhs : List Sym) {ts : List ℕ} (A i : ℕ) → Ok (nt A ∷ σ) → alt g A i ≡ some rhs → Der g (rhs ++ σ) ts → choose g A (la ts) ≡ i
     taken σ rhs {ts} A i k e d =
-        chosen A i (la ts) e (starts-mono (Starts g (la ts ≡ 0) (la ts) σ) (T (mem (la ts) (row g A .follow))) (la ts) rhs (k .0 (la ts)) (starts-append (la ts ≡ 0) (la ts) rhs σ (der-starts d)))
+        chosen A i (la ts) e (starts-mono (Starts g (la ts ≡ 0) (la ts) σ) (T (has (row g A .follow) (la ts))) (la ts) rhs (k .0 (la ts)) (starts-append (la ts ≡ 0) (la ts) rhs σ (der-starts d)))
 
     -- An expansion keeps a stack what it should be.
-    pub ok-append : (r : Row) (rhs σ : List Sym) → T (follows g r rhs) → ((a : ℕ) → Starts g (a ≡ 0) a σ → T (mem a (r .follow))) → Ok σ → Ok (rhs ++ σ)
+    pub ok-append : (r : Row) (rhs σ : List Sym) → T (follows g r rhs) → ((a : ℕ) → Starts g (a ≡ 0) a σ → T (has (r .follow) a)) → Ok σ → Ok (rhs ++ σ)
     unfolding follows
     ok-append r [] σ t f k = k
     ok-append r (tok b ∷ rhs) σ t f k = ok-append r rhs σ t f k
     ok-append r (nt B ∷ rhs) σ t f k =
-        let fol : ℕ → Bool = λ b. mem b (row g B .follow) in
+        let fol : ℕ → Bool = has (row g B .follow) in
         let here : Bool = scan g fol (all fol (r .follow)) rhs in (
-          λ a s. fix a (scan-at g fol (all fol (r .follow)) (T (mem a (r .follow))) a rhs (first-of here (follows g r rhs) t) (starts-mono (Starts g (a ≡ 0) a σ) (T (mem a (r .follow))) a rhs (f a) (starts-append (a ≡ 0) a rhs σ s))),
+          λ a s. fix a (scan-at g fol (all fol (r .follow)) (T (has (r .follow) a)) a rhs (first-of here (follows g r rhs) t) (starts-mono (Starts g (a ≡ 0) a σ) (T (has (r .follow) a)) a rhs (f a) (starts-append (a ≡ 0) a rhs σ s))),
           ok-append r rhs σ (second-of here (follows g r rhs) t) f k,
         )
       where
-        fix : (a : ℕ) → T (mem a (row g B .follow)) ⊎ (T (all (λ b. mem b (row g B .follow)) (r .follow)) × T (mem a (r .follow))) → T (mem a (row g B .follow))
+        fix : (a : ℕ) → T (has (row g B .follow) a) ⊎ (T (all (has (row g B .follow)) (r .follow)) × T (has (r .follow) a)) → T (has (row g B .follow) a)
         fix a (inl t) = t
-        fix a (inr s) = all-in (λ b. mem b (row g B .follow)) a (r .follow) (s .0) (s .1)
+        fix a (inr s) = all-has (has (row g B .follow)) (r .follow) a (s .0) (s .1)
 
     -- Complete: the machine accepts what is derived.
     pub complete : {σ : List Sym} {ts : List ℕ} → Ok σ → Der g σ ts → Acc g σ ts

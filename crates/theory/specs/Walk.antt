@@ -12,9 +12,10 @@ use native.Mathlib.Numerals.{add-one}
 use lib.Dec.{T}
 use lib.ListN.{length, take, drop, getD, getElem?, length-append, length-drop, drop-of-length-le}
 use lib.Seq.{drop-cons, take-at}
+use Rattle.text.specs.Lists.{has}
 use Rattle.theory.specs.Grammar.{Sym, tok, nt, Row, row, alt, Der}
 use Rattle.theory.specs.Machine.{la, choose, expand, Ref, r-long, r-short, r-other, r-stuck, r-tok, r-nt, Same}
-use Rattle.theory.specs.Check.{good, mem}
+use Rattle.theory.specs.Check.{good}
 use Rattle.theory.specs.Predict.{viable, no-further, start-ok}
 use Rattle.theory.specs.Ebnf.{Ex, child, Ebnf, kindsOf, bodyOf, choices, Items, nil, word, sub, yield, Match, m-end, m-word, m-sub, m-choice, flat, sortOf}
 use Rattle.theory.specs.Same.{ex, sames, child-alt, the-choice, flat-unfolds, no-zero, map-append}
@@ -182,7 +183,7 @@ module _ (t : Ebnf) (m : List Ex) (g : List Row) (s : List ℕ) where
     pub before : (c : List ℕ) × Der g (nt S ∷ []) (take p s ++ c)
     pub after : (x : List ℕ) → Same (drop p s) x → Der g (nt S ∷ []) (take p s ++ x) → ⊥
 
-  module _ (ok : T (good g)) (S : ℕ) (ends : T (mem 0 (row g S .follow))) where
+  module _ (ok : T (good g)) (S : ℕ) (ends : T (has (row g S .follow) 0)) where
     stops : {p : ℕ} (d : List ℕ) → s ≡ d ++ drop p s → length d ≡ p → Ref g (nt S ∷ []) d (drop p s) → Stops S p
     stops {p} d w l r =
         let q : take p s ≡ d = ap (take p) w ∙ take-at d (drop p s) p l in

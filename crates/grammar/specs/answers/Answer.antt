@@ -21,7 +21,6 @@ use Rattle.grammar.specs.Entry.{Entry, recordsOf}
 use Rattle.grammar.specs.shapes.WellShaped.{shapeOf}
 use Rattle.grammar.specs.records.Records.{recordTrees}
 use Rattle.grammar.specs.records.Faults.{Fault, faultOf}
-use Rattle.grammar.specs.spelled.TreeTokens.{classesOf}
 
 -- Tokens of a draft as its trees have them, with their classes.
 unfoldable pub toksOf : List ℕ → List Token → List Tok

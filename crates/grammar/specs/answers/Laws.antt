@@ -18,11 +18,12 @@ use Rattle.lexer.specs.Limits.{Limits, noToken, tokenWords, tokensOf, bufferOf}
 use Rattle.lexer.specs.Limits as lexer
 use Rattle.lexer.specs.RowLaws as rows
 use Rattle.lexer.specs.Tokens.{lexeme-refused}
-use Rattle.own.specs.Tree.{Tok, Node, Rec, tokens}
+use Rattle.own.specs.Tree.{Tok, Node, Rec, tokens, classesOf}
 use Rattle.text.specs.Widths.{tokWide, recWide}
 use Rattle.text.specs.Answers.{Answer, accepted, refused}
 use Rattle.text.specs.Refusals.{oneOf}
 use Rattle.text.specs.Refusals as refusal
+use Rattle.text.specs.Lists.{has}
 use Rattle.own.specs.Words.{toks, recs, recWords, recs-words}
 use Rattle.kinds.specs.Words.{classOf}
 use Rattle.kinds.specs.Ownership.{Right}
@@ -30,7 +31,7 @@ use Rattle.kinds.specs.Ownership as kinds
 use Rattle.grammar.specs.shapes.Shapes.{shapes}
 use Rattle.grammar.specs.Entry.{Entry, oneFunction, startEx, recordsOf, Owned, over}
 use Rattle.grammar.specs.shapes.WellShaped.{WellShaped, shapeOf, shape-exactly, one-shape}
-use Rattle.grammar.specs.spelled.TreeTokens.{classesOf, keeps-tokens}
+use Rattle.grammar.specs.spelled.TreeTokens.{keeps-tokens}
 use Rattle.grammar.specs.records.Faults.{faultOf}
 use Rattle.grammar.specs.records.FaultNumbers.{fault-numbers}
 use Rattle.grammar.specs.spelled.RecordLaws.{is-right}
@@ -96,6 +97,7 @@ module _ (en : Entry) (l : Limits) (draft : List ℕ) (tw rw : ℕ) where
 
   -- a row with the number of row 8 is row 8
   row-misshapen : {c p : ℕ} → Refusal en l draft tw rw c p → c ≡ refusal.Misshapen → Misshapen en l draft tw p
+  unfolding has
   row-misshapen (too-long h) q = absurd (omega arith)
   row-misshapen (bad-bytes {c = c} {p = p} h e) q = absurd (subst (λ n. T (oneOf refusal.ofBytes n)) q (lexeme-refused draft c p (rows.refused-exactly draft c p .1 e) .0))
   row-misshapen (too-many h e k) q = absurd (omega arith)
@@ -199,6 +201,7 @@ module _ (en : Entry) (l : Limits) (draft : List ℕ) (tw rw : ℕ) where
 
   -- So a tree buffer of six words for each token that fits, and for each record over, is never too small.
   pub space-enough : recWide * (over en + l .tokens) ≤ rw → (p : ℕ) → answer en l draft tw rw ≡ refused refusal.NoRoom p → ⊥
+  unfolding has
   space-enough h p e = row-no-room (refused-exactly en l draft tw rw refusal.NoRoom p .0 e) refl
     where
       row-no-room : {c q : ℕ} → Refusal en l draft tw rw c q → c ≡ refusal.NoRoom → ⊥

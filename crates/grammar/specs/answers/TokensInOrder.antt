@@ -8,11 +8,11 @@ use lib.ListN.{length}
 use Rattle.lexer.specs.Lexemes.{Token, tokens, lexemes}
 use Rattle.lexer.specs.Limits.{tokenWords}
 use Rattle.lexer.specs.Tokens.{Between, tokens-between}
-use Rattle.own.specs.Tree.{InOrder, Rec}
+use Rattle.own.specs.Tree.{InOrder, Rec, classesOf}
 use Rattle.text.specs.Widths.{tokWide, recWide}
 use Rattle.own.specs.Words.{toks, recWords}
 use Rattle.kinds.specs.Words.{classOf}
-use Rattle.grammar.specs.spelled.TreeTokens.{classesOf, length-classes}
+use Rattle.grammar.specs.spelled.TreeTokens.{length-classes}
 use Rattle.grammar.specs.answers.Answer.{toksOf}
 
 between-order : (draft : List ℕ) (at m : ℕ) (ts : List Token) → Between at m ts → InOrder at (toksOf draft ts)

@@ -10,10 +10,11 @@ use Rattle.text.specs.Widths.{tokWide, recWide}
 use Rattle.text.specs.Ascii.{ascii, asciiFrom}
 use Rattle.text.specs.Part.{partOf}
 use Rattle.text.specs.Same.{same}
+use Rattle.text.specs.Lists.{has, count, span}
 use Rattle.words.specs.Words.{FUNCTION_RESERVED, KEYWORDS, MACROS, MODULE_RESERVED, RULE_NAMES, BOOLEANS, RULE_WORDS, BOOL, UINT_TYPES, BUILTIN_ALIASES, find, wordOf}
 use Rattle.num.specs.Digits as digits
 use Rattle.num.specs.Value.{decimalFrom, fitted, numberOf}
-use Rattle.num.specs.Bound.{powerUpTo, boundOk, sizeOk}
+use Rattle.num.specs.Bound.{boundOk, sizeOk, isBound}
 use Rattle.lexer.specs.Chars.{among, whitespace, lineEnds, plainBytes, binaryDigits, decimalDigits, hexDigits, underscore, nameStarts, nameBytes, run, begins}
 use Rattle.lexer.specs.Lexemes as lexeme
 use Rattle.lexer.specs.Class as class
@@ -26,7 +27,6 @@ use Rattle.theory.specs.Exec.{thenWord, thenRest, thenSub, exec}
 use Rattle.theory.specs.Fuel.{saves, need}
 use Rattle.theory.specs.Parse.{judge, parse}
 use Rattle.kinds.specs.Words.{classOf}
-use Rattle.kinds.specs.Shape.{has, count, span}
 use Rattle.kinds.specs.Fields.{counted}
 use Rattle.grammar.specs.shapes.Shapes.{shapes}
 use Rattle.grammar.specs.shapes.Tables.{table, means}
@@ -79,7 +79,7 @@ unfolding ascii asciiFrom partOf same FUNCTION_RESERVED KEYWORDS MACROS MODULE_R
     lexeme.lineComment lexeme.inside lexeme.closing lexeme.blockComment lexeme.nameLength lexeme.qualified lexeme.macro lexeme.word lexeme.digits
     lexeme.hexadecimal lexeme.binary lexeme.decimal lexeme.marks lexeme.mark lexeme.noLexeme lexeme.lexeme lexeme.lexemesFrom lexeme.lexemes
     class.classOf depthAfter rowAfter tooDeep room lexedOf look row alt pick choose kindsOf sortOf ex thenWord thenRest thenSub exec saves need
-    judge parse BOOL UINT_TYPES BUILTIN_ALIASES digits.plain decimalFrom fitted numberOf powerUpTo boundOk sizeOk yield partner canonical turned has
+    judge parse BOOL UINT_TYPES BUILTIN_ALIASES digits.plain decimalFrom fitted numberOf isBound boundOk sizeOk yield partner canonical turned has
     count span counted classOf shapes table means shapeOf lowHalf highHalf reads sees opening nameCount partCount lone unended placeIn builtinType
     unsignedType boolType typeName patternName literalHead functionHead callHead wrapperHead calledHead aloneHead nameHead armHead headOf
     formOf roleOf placed arranged textOf firstTok firstOf decimal headFor recorded recordItems recordTrees unless armLows mates armsFault

@@ -8,14 +8,12 @@ use Prim.Native.Nat.{ℕ}
 use borrow.Author.Tests.{eqb-false}
 use lib.Dec.{T, eqb}
 use lib.ListN.{length, drop}
-use Rattle.text.specs.Refusals.{oneOf}
 use Rattle.text.specs.Refusals as refusal
 use Rattle.theory.specs.Ebnf as shape
 use Rattle.own.specs.Tree.{Tok, Items, marks}
 use Rattle.own.specs.Lists.{All, nil, _&_}
-use Rattle.own.specs.Rules.{sorts}
 use Rattle.own.specs.Kinds as kind
-use Rattle.kinds.specs.Lists.{Some, here, there}
+use Rattle.own.specs.Law.{sorts}
 use Rattle.lexer.specs.Classes as t
 use Rattle.kinds.specs.Fields.{counted}
 use Rattle.grammar.specs.shapes.Row.{Refused, never, byBound, byFold, byArms}
@@ -43,11 +41,11 @@ module _ (P : Fault → Type 0) where
 
 -- The number is one of the family.
 abbrev Numbered : Fault → Type 0
-Numbered f = T (oneOf refusal.ofShapes (f .number))
+Numbered f = T (has refusal.ofShapes (f .number))
 
 -- The number of a match's refusal, if it has one.
 abbrev ArmsNumber : ℕ → Type 0
-ArmsNumber n = (n ≡ 0 → ⊥) → T (oneOf refusal.ofShapes n)
+ArmsNumber n = (n ≡ 0 → ⊥) → T (has refusal.ofShapes n)
 
 if-either : (b : Bool) (x y : ℕ) → ArmsNumber x → ArmsNumber y → ArmsNumber (cond b x y)
 if-either true x y p q = p
@@ -56,18 +54,18 @@ if-either false x y p q = q
 is-nothing : ArmsNumber 0
 is-nothing h = absurd (h refl)
 
-is-number : (n : ℕ) → T (oneOf refusal.ofShapes n) → ArmsNumber n
+is-number : (n : ℕ) → T (has refusal.ofShapes n) → ArmsNumber n
 is-number n t h = t
 
 arms-number : (e : ℕ) (lows : List ℕ) → ArmsNumber (armsFault e lows)
-unfolding armsFault
+unfolding armsFault has
 arms-number e lows =
     if-either (eqb e 0) _ _
     (if-either (eqb (length lows) 0) _ _ (is-number refusal.NoArms tt)
     (if-either (eqb (length lows) 2) _ _ (if-either (mates lows) _ _ is-nothing (is-number refusal.NoPartners tt)) (is-number refusal.ArmCount tt)))
     (if-either (eqb (length lows) 0) _ _ is-nothing (is-number refusal.MixedArms tt))
 
-unless-numbered : (ok : Bool) (n : ℕ) (u : Tok) → (ok ≡ false → T (oneOf refusal.ofShapes n)) → All Numbered (unless ok n u)
+unless-numbered : (ok : Bool) (n : ℕ) (u : Tok) → (ok ≡ false → T (has refusal.ofShapes n)) → All Numbered (unless ok n u)
 unfolding unless
 unless-numbered true n u h = nil
 unless-numbered false n u h = h refl & nil
@@ -93,5 +91,5 @@ all-numbered draft (shape.sub k js r) ts =
     (both Numbered (all-numbered draft js ts) (all-numbered draft r (drop (length (shape.yield js)) ts)))
 
 -- The number of a refusal of a shape tree is one of the family.
-pub fault-numbers : (draft : List ℕ) (ts : List Tok) (r : shape.Items) (f : Fault) → faultOf draft ts r ≡ some f → T (oneOf refusal.ofShapes (f .number))
+pub fault-numbers : (draft : List ℕ) (ts : List Tok) (r : shape.Items) (f : Fault) → faultOf draft ts r ≡ some f → T (has refusal.ofShapes (f .number))
 fault-numbers draft ts r f e = of-answered Numbered draft ts r f (all-numbered draft r ts) e

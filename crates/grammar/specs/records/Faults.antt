@@ -11,8 +11,7 @@ use Rattle.num.specs.declared.Value.{Value}
 use Rattle.num.specs.Bound.{boundOk, sizeOk}
 use Rattle.theory.specs.Ebnf as shape
 use Rattle.own.specs.Tree.{Tok, Items, marks, partner}
-use Rattle.own.specs.Law.{Sort, word, child}
-use Rattle.own.specs.Rules.{sorts}
+use Rattle.own.specs.Law.{Sort, word, child, sorts}
 use Rattle.own.specs.Kinds as kind
 use Rattle.kinds.specs.Fields.{counted}
 use Rattle.lexer.specs.Classes as t

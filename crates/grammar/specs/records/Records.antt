@@ -9,6 +9,7 @@ use lib.ListN.{length, drop, getD}
 use Rattle.text.specs.Ascii.{ascii}
 use Rattle.text.specs.Part.{partOf}
 use Rattle.text.specs.Same.{same}
+use Rattle.text.specs.Lists.{has}
 use Rattle.words.specs.Words.{BOOL, UINT_TYPES, BUILTIN_ALIASES, wordOf}
 use Rattle.words.specs.declared.Found.{Found}
 use Rattle.words.specs.declared.Found.the-variants.{Word, Plain}
@@ -18,12 +19,11 @@ use Rattle.num.specs.declared.Value.the-variants.{Number, TooLarge}
 use Rattle.theory.specs.Ebnf as shape
 use Rattle.own.specs.Tree.{Tok, Items, none, mark, sub, Node, kids, marks}
 use Rattle.own.specs.Flat.{no-token}
-use Rattle.own.specs.Law.{Sort, word, child}
-use Rattle.own.specs.Rules.{sorts}
+use Rattle.own.specs.Law.{Sort, word, child, sorts}
 use Rattle.own.specs.Kinds as kind
 use Rattle.own.specs.Arms as arm
 use Rattle.own.specs.Calls as call
-use Rattle.kinds.specs.Shape.{has, halfRange}
+use Rattle.kinds.specs.Shape.{halfRange}
 use Rattle.kinds.specs.Families as family
 use Rattle.kinds.specs.Fields.{counted}
 use Rattle.kinds.specs.Rules.{wrappers}

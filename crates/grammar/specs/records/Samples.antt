@@ -12,10 +12,11 @@ use Rattle.text.specs.Ascii.{ascii, asciiFrom}
 use Rattle.text.specs.Part.{partOf}
 use Rattle.text.specs.Same.{same}
 use Rattle.text.specs.Refusals as refusal
+use Rattle.text.specs.Lists.{has, count, span}
 use Rattle.words.specs.Words.{KEYWORDS, MACROS, MODULE_RESERVED, RULE_WORDS, RULE_NAMES, FUNCTION_RESERVED, BOOLEANS, BOOL, UINT_TYPES, BUILTIN_ALIASES, find, wordOf}
 use Rattle.num.specs.Digits as digits
 use Rattle.num.specs.Value.{decimalFrom, fitted, numberOf}
-use Rattle.num.specs.Bound.{powerUpTo, boundOk, sizeOk}
+use Rattle.num.specs.Bound.{boundOk, sizeOk, isBound}
 use Rattle.lexer.specs.Chars.{among, whitespace, lineEnds, plainBytes, binaryDigits, decimalDigits, hexDigits, underscore, nameStarts, nameBytes, run, begins}
 use Rattle.lexer.specs.Lexemes as lex
 use Rattle.lexer.specs.Lexemes.{Token, Lexemes, tokens, refusedAt, lexemes}
@@ -31,7 +32,6 @@ use Rattle.own.specs.Tree.{Tok, Node, partner, canonical, turned, Rec, records}
 use Rattle.own.specs.Kinds as kind
 use Rattle.own.specs.Arms as arm
 use Rattle.own.specs.Calls as call
-use Rattle.kinds.specs.Shape.{has, count, span}
 use Rattle.kinds.specs.Fields.{counted}
 use Rattle.grammar.specs.shapes.Shapes.{shapes}
 use Rattle.grammar.specs.shapes.Tables.{table, means}
@@ -74,7 +74,7 @@ handed show draft ts (stuck p) = []
 -- The records of a draft; it opens all that it computes with.
 unfoldable pub recordsOf : (Rec → List ℕ) → String → List (List ℕ)
 unfolding classed toksOf classes judged handed ascii asciiFrom partOf same KEYWORDS MACROS MODULE_RESERVED RULE_WORDS RULE_NAMES FUNCTION_RESERVED
-    BOOLEANS BOOL UINT_TYPES BUILTIN_ALIASES find wordOf digits.plain decimalFrom fitted numberOf powerUpTo boundOk sizeOk among whitespace lineEnds
+    BOOLEANS BOOL UINT_TYPES BUILTIN_ALIASES find wordOf digits.plain decimalFrom fitted numberOf isBound boundOk sizeOk among whitespace lineEnds
     plainBytes binaryDigits decimalDigits hexDigits underscore nameStarts nameBytes run begins lex.space lex.comment lex.lineComment lex.inside
     lex.closing lex.blockComment lex.nameLength lex.qualified lex.macro lex.word lex.digits lex.hexadecimal lex.binary lex.decimal lex.marks
     lex.mark lex.noLexeme lex.lexeme lex.lexemesFrom lexemes classOf look row alt pick choose shape.kindsOf shape.sortOf shape.yield ex thenWord

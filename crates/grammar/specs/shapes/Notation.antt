@@ -3,7 +3,7 @@
 use mathlib.Core.Bool.{cond}
 use mathlib.Core.List.{List, [], _∷_}
 use Prim.Native.Nat.{ℕ}
-use Rattle.theory.specs.Check.{mem}
+use Rattle.text.specs.Lists.{has}
 use Rattle.theory.specs.Ebnf.{Ex, eps, mark, seq, or, list, tail}
 use Rattle.lexer.specs.Classes as t
 
@@ -29,7 +29,7 @@ oneOf (c ∷ d ∷ l) = mark c ¦ oneOf (d ∷ l)
 infixl 61 _but_
 abbrev pub _but_ : List ℕ → List ℕ → List ℕ
 [] but l = []
-(a ∷ k) but l = cond (mem a l) (k but l) (a ∷ (k but l))
+(a ∷ k) but l = cond (has l a) (k but l) (a ∷ (k but l))
 
 -- "Lists may be empty and may end in a comma, save where said"; `commas1` is a list of at least one.
 abbrev pub commas : Ex → Ex

@@ -5,6 +5,7 @@ use mathlib.Core.Path.{_≡_, refl}
 use mathlib.Core.Bool.{Bool, true, false}
 use mathlib.Core.List.{List, [], _∷_, _++_, map}
 use Prim.Native.Nat.{ℕ}
+use Rattle.text.specs.Lists.{all}
 use Rattle.theory.specs.Grammar.{look, row, alt, pick}
 use Rattle.theory.specs.Machine.{choose}
 use Rattle.theory.specs.Check.{all}

@@ -121,6 +121,7 @@ kindsFrom n (r ∷ l) C = cond (eqb (r .category) C) (n ∷ []) [] ++ kindsFrom 
 
 -- The shapes as a grammar: the kind of a shape is the number of its row.
 unfoldable pub shapes : Ebnf
+unfolding has
 shapes = record {
   kinds = map (kindsFrom 0 rows) (function ∷ parameter ∷ type ∷ pattern ∷ block ∷ assignment ∷ single ∷ arm ∷ []);
   bodies = map (λ r. r .body) rows;

@@ -11,9 +11,10 @@ use native.Mathlib.Decide.{ℕ-discrete}
 use native.Mathlib.Omega.{arith}
 use lib.Dec.{T}
 use lib.ListN.{length, take, getElem?}
+use Rattle.text.specs.Lists.{has, all}
 use Rattle.theory.specs.Grammar.{nt, look, row, alt, pick, blank}
 use Rattle.theory.specs.Machine.{choose}
-use Rattle.theory.specs.Check.{all, numbered, scan, follows, short, goodAlt, goodRow, good}
+use Rattle.theory.specs.Check.{numbered, scan, follows, short, goodAlt, goodRow, good}
 use Rattle.theory.specs.Ebnf.{kindsOf, bodyOf, items, branches, choices, sortOf, Items, nil, sub, yield, Match, FirstWrong}
 use Rattle.theory.specs.Trees.{one-node}
 use Rattle.theory.specs.Same.{ex, ofSort, alternatives, eqList, eqEx, sameRow, sames}
@@ -63,7 +64,7 @@ shape-nodes oneFunction m = let f = shape-function m in subst Nodes (sym (f .1))
 
 -- The table is that of a predictive parser,
 good-table : T (good table)
-unfolding table row look blank alt pick choose all numbered scan follows short goodAlt goodRow good
+unfolding table row look blank alt pick choose has all numbered scan follows short goodAlt goodRow good
 good-table = tt
 
 -- its productions are those of the shapes,
@@ -73,12 +74,12 @@ same-tables = tt
 
 -- and the fuel of `shapeOf` is enough.
 paid-table : T (paid shapes means table)
-unfolding table means row blank all sortOf ex saves need paidRow paid
+unfolding table means row blank has all sortOf ex saves need paidRow paid
 paid-table = tt
 
 -- All that is checked of the tables, by computation. It stands for any proof over them (Theorems.antt of `theory`).
 pub checked : (en : Entry) → Checked shapes means table (startNt en) (startEx en)
-unfolding table means row ex
+unfolding table means row has ex
 checked oneFunction = record { right = good-table; same = same-tables; pays = paid-table; start = refl; ends = tt }
 
 module _ (en : Entry) where

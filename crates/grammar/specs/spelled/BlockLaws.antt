@@ -10,13 +10,13 @@ use borrow.Author.Tests.{eq-eqb, ne-eqb, eqb-true, lt-ltb, eqb-false}
 use lib.Dec.{T, eqb, eqb→eq, ltb}
 use lib.ListN.{length}
 use Rattle.text.specs.Same.{differ}
-use Rattle.text.specs.Table.{is-true, first-of, second-of}
+use Rattle.text.specs.Table.{is-true, first-of, second-of, or-cases}
+use Rattle.text.specs.Lists.{some, all, here, there, has, count, span}
+use Rattle.num.specs.Bound.{isBound}
 use Rattle.own.specs.Tree.{partner}
 use Rattle.own.specs.Law.{Sort, word, child}
-use Rattle.own.specs.Places.{or-cases}
 use Rattle.own.specs.Kinds as kind
-use Rattle.kinds.specs.Lists.{some, all, here, there}
-use Rattle.kinds.specs.Shape.{Part, of, arm, Shape, nothing, never, part, mark, _▸_, _¦_, many, has, count, span, doubled, number, isBound, fits, Spells, empty, one-mark, one-part, seq, left, right, stop, more}
+use Rattle.kinds.specs.Shape.{Part, of, arm, Shape, nothing, never, part, mark, _▸_, _¦_, many, number, fits, Spells, empty, one-mark, one-part, seq, left, right, stop, more}
 use Rattle.kinds.specs.Fields.{counted, holds}
 use Rattle.kinds.specs.Rules.{the, element, expression, braces, enumArm, arms, forms}
 use Rattle.kinds.specs.Spelled.{Spelled, formsOf}

@@ -8,13 +8,13 @@ use mathlib.Core.Path.{_≡_, refl, sym, ap, _∙_, subst}
 use Prim.Native.Nat.{ℕ, _+_, _≤_}
 use native.Mathlib.Omega.{arith}
 use lib.Dec.{T, eqb, eqb→eq}
-use Rattle.text.specs.Table.{is-true, first-of, second-of}
+use Rattle.text.specs.Table.{is-true, first-of, second-of, or-cases}
+use Rattle.text.specs.Lists.{some, all, has, count, span}
+use Rattle.num.specs.Bound.{isBound}
 use Rattle.own.specs.Law.{Sort, word, child}
-use Rattle.own.specs.Places.{or-cases}
 use Rattle.own.specs.Kinds as kind
 use Rattle.own.specs.Arms as arm
-use Rattle.kinds.specs.Lists.{some, all}
-use Rattle.kinds.specs.Shape.{Part, Shape, has, count, span, number, isBound, Spells}
+use Rattle.kinds.specs.Shape.{Part, Shape, number, Spells}
 use Rattle.kinds.specs.Fields.{counted, halves}
 use Rattle.kinds.specs.Families as family
 use Rattle.lexer.specs.Classes as class

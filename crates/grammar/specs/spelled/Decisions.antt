@@ -8,14 +8,14 @@ use mathlib.Core.Path.{_≡_, refl, sym, ap, ap₂, _∙_, subst}
 use Prim.Native.Nat.{ℕ, suc, _+_, _<_}
 use native.Mathlib.Omega.{arith}
 use lib.Dec.{T, eqb, eqb→eq}
-use Rattle.text.specs.Table.{is-true, first-of, second-of}
+use Rattle.text.specs.Table.{is-true, first-of, second-of, or-cases, or-left, or-right}
+use Rattle.text.specs.Lists.{Some, some, all, has}
+use Rattle.text.specs.ListLaws.{some-sound, all-some, from-some}
 use Rattle.own.specs.Law.{Sort, word, child}
-use Rattle.own.specs.Places.{or-cases, or-left, or-right}
 use Rattle.own.specs.Kinds as kind
-use Rattle.kinds.specs.Lists.{Some, some, some-sound, all, all-some, from-some}
-use Rattle.kinds.specs.Shape.{Part, of, name, arm, bound, size, Shape, nothing, never, part, _▸_, _¦_, many, has, fits, Spells, empty, one-mark, one-part, seq, left, right, stop, more}
+use Rattle.kinds.specs.Shape.{Part, of, name, arm, bound, size, Shape, nothing, never, part, _▸_, _¦_, many, fits, Spells, empty, one-mark, one-part, seq, left, right, stop, more}
 use Rattle.kinds.specs.Shape as k
-use Rattle.kinds.specs.Fields.{Fields, plain, low, below, among, wide, bounded, parameters, names, pairs, counted, holds}
+use Rattle.kinds.specs.Fields.{Fields, plain, low, among, wide, bounded, parameters, names, pairs, counted, holds}
 use Rattle.kinds.specs.Rules.{the, Form}
 use Rattle.kinds.specs.Build.{the-mark}
 use Rattle.kinds.specs.Spelled.{formsOf, Written, Spelled}

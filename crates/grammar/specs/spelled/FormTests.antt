@@ -10,18 +10,19 @@ use borrow.Author.Tests.{eq-eqb, lt-ltb, ltb-true, ltb-false}
 use lib.Dec.{T, eqb, eqb→eq, ltb}
 use lib.ListN.{getD}
 use Rattle.text.specs.Same.{differ}
-use Rattle.text.specs.Table.{is-true, first-of, second-of}
+use Rattle.text.specs.Table.{is-true, first-of, second-of, or-cases, pair}
+use Rattle.text.specs.Lists.{Some, here, there, some, all, has, span}
+use Rattle.text.specs.ListLaws.{some-sound, all-some, from-some}
 use Rattle.num.specs.declared.Value.{Value}
 use Rattle.num.specs.declared.Value.the-variants.{Number, TooLarge}
-use Rattle.num.specs.Bound.{powerUpTo, boundOk, sizeOk, power-of}
+use Rattle.num.specs.Bound.{boundOk, sizeOk, isBound, isBound}
+use Rattle.num.specs.BoundLaws.{power-of}
 use Rattle.own.specs.Law.{Sort, word, child}
-use Rattle.own.specs.Places.{or-cases, pair}
 use Rattle.own.specs.Kinds as kind
 use Rattle.theory.specs.Ebnf.{eps}
-use Rattle.kinds.specs.Lists.{Some, here, there, some, some-sound, all, all-some, from-some}
-use Rattle.kinds.specs.Shape.{Part, of, name, arm, bound, size, Shape, nothing, never, part, _▸_, _¦_, many, has, span, doubled, number, isBound, fits, Spells, empty, one-mark, one-part, seq, left, right, stop, more, halfRange, boundCount}
+use Rattle.kinds.specs.Shape.{Part, of, name, arm, bound, size, Shape, nothing, never, part, _▸_, _¦_, many, number, fits, Spells, empty, one-mark, one-part, seq, left, right, stop, more, halfRange}
 use Rattle.kinds.specs.Shape as k
-use Rattle.kinds.specs.Fields.{Fields, plain, low, below, among, wide, bounded, parameters, names, pairs, counted, halves, holds}
+use Rattle.kinds.specs.Fields.{Fields, plain, low, among, wide, bounded, parameters, names, pairs, counted, halves, holds}
 use Rattle.kinds.specs.Rules.{the, Form}
 use Rattle.kinds.specs.Spelled.{formsOf, Written, Spelled}
 use Rattle.kinds.specs.Families as family
@@ -74,7 +75,6 @@ no-numbers n p t = absurd t
 unfoldable pub fixed : ℕ → ℕ → Fields → Bool
 fixed l h plain = eqb l 0 && eqb h 0
 fixed l h (low n) = eqb l n && eqb h 0
-fixed l h (below n) = ltb l n && eqb h 0
 fixed l h (among ns) = has ns l && eqb h 0
 fixed l h wide = false
 fixed l h bounded = false
@@ -86,7 +86,6 @@ pub fixed-holds : (l h : ℕ) (w : List Sort) (f : Fields) → T (fixed l h f) �
 unfolding fixed holds
 fixed-holds l h w plain t = t
 fixed-holds l h w (low n) t = t
-fixed-holds l h w (below n) t = t
 fixed-holds l h w (among ns) t = t
 fixed-holds l h w wide t = absurd t
 fixed-holds l h w bounded t = absurd t
@@ -105,7 +104,6 @@ pub data Count : Type 0 where
 unfoldable pub counts : Count → Fields → Bool
 counts x plain = false
 counts x (low n) = false
-counts x (below n) = false
 counts x (among ns) = false
 counts anyNumber wide = true
 counts aBound wide = false
@@ -148,7 +146,6 @@ pub counts-hold : (x : Count) (l h : ℕ) (w : List Sort) → Says x l h w → (
 unfolding counts Says holds
 counts-hold x l h w s plain t = absurd t
 counts-hold x l h w s (low n) t = absurd t
-counts-hold x l h w s (below n) t = absurd t
 counts-hold x l h w s (among ns) t = absurd t
 counts-hold anyNumber l h w s wide t = s
 counts-hold aBound l h w s wide t = absurd t
@@ -206,19 +203,10 @@ below-all f (suc m) t i h = go (ltb i m) refl (below-all f m (second-of (f m) (a
         let q : m ≡ i = omega arith in
         subst (λ (x : ℕ). T (f x)) q (first-of (f m) (allBelow f m) t)
 
--- A good bound is one of those listed.
-bounds-listed : T (allBelow (λ i. has (doubled boundCount 2) (2 ^ suc i)) boundCount)
-unfolding allBelow has doubled
-bounds-listed = tt
-
-bound-of : (n i : ℕ) → 1 ≤ i → i ≤ boundCount → n ≡ 2 ^ i → T (isBound n)
-unfolding isBound
-bound-of n zero a b e = absurd (omega arith)
-bound-of n (suc i) a b e = subst (λ (x : ℕ). T (has (doubled boundCount 2) x)) (sym e) (below-all (λ j. has (doubled boundCount 2) (2 ^ suc j)) boundCount bounds-listed i (omega arith))
-
+-- A good bound is a bound.
 pub good-bound : (v : Value) → boundOk v ≡ true → T (isBound (reads v))
 unfolding boundOk reads
-good-bound (Number n) e = let p = power-of boundCount n e in bound-of n (p .0) (p .1) (p .2) (p .3)
+good-bound (Number n) e = rw e tt
 good-bound TooLarge e = differ e
 
 -- A good size is not 0.

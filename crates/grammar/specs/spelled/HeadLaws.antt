@@ -12,18 +12,17 @@ use lib.Dec.{T, eqb, eqb→eq}
 use lib.ListN.{length}
 use Rattle.text.specs.Ascii.{ascii}
 use Rattle.text.specs.Same.{same}
-use Rattle.text.specs.Table.{is-true, first-of, second-of}
+use Rattle.text.specs.Table.{is-true, first-of, second-of, or-cases}
+use Rattle.text.specs.Lists.{some, all, has, count, span}
 use Rattle.words.specs.Words.{BOOL, UINT_TYPES, BUILTIN_ALIASES, find, wordOf}
 use Rattle.words.specs.declared.Found.{Found}
 use Rattle.words.specs.declared.Found.the-variants.{Word, Plain}
 use Rattle.own.specs.Law.{Sort, word, child}
-use Rattle.own.specs.Places.{or-cases}
 use Rattle.own.specs.Kinds as kind
-use Rattle.kinds.specs.Lists.{some, all}
-use Rattle.kinds.specs.Shape.{Part, of, name, arm, bound, size, Shape, nothing, never, part, _▸_, _¦_, many, has, count, span, fits, Spells}
+use Rattle.kinds.specs.Shape.{Part, of, name, arm, bound, size, Shape, nothing, never, part, _▸_, _¦_, many, fits, Spells}
 use Rattle.kinds.specs.Shape as k
 use Rattle.kinds.specs.Fields.{counted}
-use Rattle.kinds.specs.Rules.{the, builtinCount, unsignedCount}
+use Rattle.kinds.specs.Rules.{the}
 use Rattle.lexer.specs.Classes as class
 use Rattle.grammar.specs.spelled.Rows.{Row, variants}
 use Rattle.grammar.specs.spelled.Inclusion.{dealt}
@@ -112,7 +111,13 @@ module _ (n : ℕ) where
   unfolding literalRow
   literal-law a {w} t p = by-rows (opened literalRow) a t (λ l u r. opened-sound literalRow l u (λ c m x e s. subst (λ (y : ℕ). SpelledAs (literalHead y) n w) (sym e) (exact-sound (literalHead c) m x s)) r) p
 
-  -- ---- a name of a type, by its text
+  -- ---- a name of a type, by its text; how many builtin and how many unsigned types there are
+  abbrev pub builtinCount : ℕ
+  builtinCount = 24
+
+  abbrev pub unsignedCount : ℕ
+  unsignedCount = 9
+
   unfoldable pub typeRow : ℕ → List Shape → Bool
   typeRow c row =
       exactIn (rec.plain kind.Alias) row && (not (eqb c class.Ident) || (exactIn (rec.plain kind.BoolType) row && (allBelow (λ i. exactIn (head kind.Builtin i 0) row) builtinCount && allBelow (λ i. exactIn (head kind.Unsigned (2 ^ i) 0) row) unsignedCount)))

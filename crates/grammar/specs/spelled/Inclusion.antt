@@ -6,14 +6,13 @@ use mathlib.Core.Logic.{_⊎_, inl, inr}
 use mathlib.Core.Path.{_≡_, refl, sym, ap, _∙_, subst}
 use Prim.Native.Nat.{ℕ}
 use lib.Dec.{T, eqb, eqb→eq}
-use Rattle.text.specs.Table.{first-of, second-of}
+use Rattle.text.specs.Table.{first-of, second-of, or-cases}
+use Rattle.text.specs.Lists.{Some, some, all, has}
+use Rattle.text.specs.ListLaws.{some-sound, all-some, from-some}
 use Rattle.own.specs.Tree.{Tok, Items, none, mark, sub, yield}
-use Rattle.own.specs.Law.{Sort, word, child}
-use Rattle.own.specs.Rules.{sorts, firstClass}
-use Rattle.own.specs.Places.{or-cases}
+use Rattle.own.specs.Law.{Sort, word, child, sorts, firstClass}
 use Rattle.own.specs.Kinds as kind
-use Rattle.kinds.specs.Lists.{Some, some, some-sound, all, all-some, from-some}
-use Rattle.kinds.specs.Shape.{Part, of, name, arm, bound, size, Shape, nothing, never, part, _▸_, _¦_, many, has, fits, Spells, empty, one-mark, one-part, seq, left, right, stop, more}
+use Rattle.kinds.specs.Shape.{Part, of, name, arm, bound, size, Shape, nothing, never, part, _▸_, _¦_, many, fits, Spells, empty, one-mark, one-part, seq, left, right, stop, more}
 use Rattle.kinds.specs.Shape as k
 use Rattle.lexer.specs.Classes as class
 use Rattle.grammar.specs.spelled.Rules.{has-within}

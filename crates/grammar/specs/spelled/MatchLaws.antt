@@ -1,7 +1,7 @@
 -- The law of HeadLaws.antt for a match: without refusals 11 to 14 it is one of enum arms, or of two built-in arms that are partners.
 -- Assumes nothing.
 use mathlib.Core.Bool.{Bool, true, false, _&&_, _||_, not, cond}
-use mathlib.Core.List.{List, [], _∷_, _++_}
+use mathlib.Core.List.{List, [], _∷_, _++_, foldr}
 use mathlib.Core.Logic.{_⊎_, inl, inr}
 use mathlib.Core.Path.{_≡_, refl, sym, ap, _∙_, subst}
 use Prim.Native.Nat.{ℕ, zero, suc, _+_, _<_}
@@ -9,15 +9,14 @@ use native.Mathlib.Omega.{arith}
 use borrow.Author.Tests.{eqb-true, eqb-false, lt-ltb}
 use lib.Dec.{T, eqb, eqb→eq, ltb}
 use lib.ListN.{length}
-use Rattle.text.specs.Table.{first-of, second-of}
+use Rattle.text.specs.Table.{first-of, second-of, or-cases, pair}
 use Rattle.text.specs.Refusals as refusal
+use Rattle.text.specs.Lists.{all, some, here, there, has, count, span}
 use Rattle.own.specs.Tree.{partner}
 use Rattle.own.specs.Law.{Sort, word, child}
-use Rattle.own.specs.Places.{or-cases, pair}
 use Rattle.own.specs.Kinds as kind
 use Rattle.own.specs.Arms as arm
-use Rattle.kinds.specs.Lists.{all, here, there}
-use Rattle.kinds.specs.Shape.{of, arm, Shape, part, _▸_, _¦_, many, has, count, span, fits, Spells, one-mark, one-part, seq, left, right, stop, more}
+use Rattle.kinds.specs.Shape.{of, arm, Shape, never, part, _▸_, _¦_, many, fits, Spells, one-mark, one-part, seq, left, right, stop, more}
 use Rattle.kinds.specs.Fields.{counted, holds}
 use Rattle.kinds.specs.Rules.{the, expression, enumArm, arms, braces, forms}
 use Rattle.kinds.specs.Rules as rules
@@ -107,17 +106,21 @@ module _ (a h c b h′ c′ : ℕ) where
   abbrev Partners : Type 0
   Partners = Spells rules.partners two
 
+  -- one of the pairs, and so one of their shapes
+  one-of : (p q : ℕ) → ((x y : ℕ) → T (eqb p x && eqb q y) → Spells (arms x y) two) → (l : List (ℕ × ℕ)) → T (some (λ r. eqb p (r .0) && eqb q (r .1)) l)
+      → Spells (foldr (λ r s. arms (r .0) (r .1) ¦ s) never l) two
+  unfolding some
+  one-of p q f [] t = absurd t
+  one-of p q f (r ∷ l) t = go (or-cases (eqb p (r .0) && eqb q (r .1)) (some (λ r. eqb p (r .0) && eqb q (r .1)) l) t) (one-of p q f l)
+    where
+      go : T (eqb p (r .0) && eqb q (r .1)) ⊎ T (some (λ r. eqb p (r .0) && eqb q (r .1)) l) → (T (some (λ r. eqb p (r .0) && eqb q (r .1)) l) → Spells (foldr (λ r s. arms (r .0) (r .1) ¦ s) never l) two)
+          → Spells (foldr (λ r s. arms (r .0) (r .1) ¦ s) never (r ∷ l)) two
+      go (inl u) g = left (f (r .0) (r .1) u)
+      go (inr u) g = right (g u)
+
   partners : (p q : ℕ) → ((x y : ℕ) → T (eqb p x && eqb q y) → Spells (arms x y) two) → T (partner p q) → Partners
   unfolding partner
-  partners p q f t = go (or-cases (eqb p arm.Left && eqb q arm.Right) ((eqb p arm.None && eqb q arm.Some) || (eqb p arm.False && eqb q arm.True)) t)
-    where
-      rest : T (eqb p arm.None && eqb q arm.Some) ⊎ T (eqb p arm.False && eqb q arm.True) → Partners
-      rest (inl u) = right (left (f arm.None arm.Some u))
-      rest (inr u) = right (right (f arm.False arm.True u))
-
-      go : T (eqb p arm.Left && eqb q arm.Right) ⊎ T ((eqb p arm.None && eqb q arm.Some) || (eqb p arm.False && eqb q arm.True)) → Partners
-      go (inl u) = left (f arm.Left arm.Right u)
-      go (inr u) = rest (or-cases (eqb p arm.None && eqb q arm.Some) (eqb p arm.False && eqb q arm.True) u)
+  partners p q f t = one-of p q f arm.partners t
 
   either-order : T (partner a b) ⊎ T (partner b a) → Partners
   either-order (inl t) = partners a b (λ x y u. mated x y (inl u)) t

@@ -9,13 +9,12 @@ use native.Mathlib.Omega.{arith}
 use borrow.Author.Tests.{ltb-true, lt-ltb}
 use lib.Dec.{T, eqb, eqb→eq, ltb}
 use lib.ListN.{length}
-use Rattle.text.specs.Table.{is-true, first-of, second-of}
+use Rattle.text.specs.Table.{is-true, first-of, second-of, or-cases}
+use Rattle.text.specs.Lists.{some, all, here, there, has, count, span}
 use Rattle.own.specs.Tree.{partner}
 use Rattle.own.specs.Law.{Sort, word, child}
-use Rattle.own.specs.Places.{or-cases}
 use Rattle.own.specs.Kinds as kind
-use Rattle.kinds.specs.Lists.{some, all, here, there}
-use Rattle.kinds.specs.Shape.{Part, of, arm, bound, size, Shape, nothing, part, mark, _▸_, _¦_, many, has, count, span, fits, Spells, empty, one-mark, one-part, seq, left, right, stop, more}
+use Rattle.kinds.specs.Shape.{Part, of, arm, bound, size, Shape, nothing, part, mark, _▸_, _¦_, many, fits, Spells, empty, one-mark, one-part, seq, left, right, stop, more}
 use Rattle.kinds.specs.Fields.{counted, holds}
 use Rattle.kinds.specs.Rules.{the, element, expression, braces, wrappers}
 use Rattle.kinds.specs.Rules as rules

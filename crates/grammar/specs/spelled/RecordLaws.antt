@@ -15,6 +15,7 @@ use lib.ListN.{length, drop, getD, getElem?}
 use Rattle.text.specs.Part.{partOf}
 use Rattle.text.specs.Table.{is-true, first-of, second-of}
 use Rattle.text.specs.Refusals as refusal
+use Rattle.text.specs.Lists.{all, here, there, has}
 use Rattle.num.specs.Digits as digits
 use Rattle.num.specs.Value.{decimalFrom, fitted, numberOf}
 use Rattle.num.specs.Bound.{boundOk, sizeOk}
@@ -23,13 +24,11 @@ use Rattle.num.specs.declared.Value.the-variants.{Number, TooLarge}
 use Rattle.theory.specs.Ebnf as shape
 use Rattle.theory.specs.Ebnf.{Ex, m-end, m-word, m-sub, m-choice}
 use Rattle.theory.specs.Parse.{found}
-use Rattle.own.specs.Tree.{Tok, Items, none, mark, sub, Node, node, roots, yield, marks, Each, InOrder, tokens, records}
+use Rattle.own.specs.Tree.{Tok, Items, none, mark, sub, Node, node, roots, yield, marks, Each, InOrder, tokens, records, classesOf}
 use Rattle.own.specs.Flat.{no-token}
-use Rattle.own.specs.Law.{Sort, word, child, Ownership}
-use Rattle.own.specs.Rules.{firstClass, sorts, Keeps}
+use Rattle.own.specs.Law.{Sort, word, child, Ownership, firstClass, sorts, Keeps}
 use Rattle.own.specs.Kinds as kind
-use Rattle.kinds.specs.Lists.{all, here, there}
-use Rattle.kinds.specs.Shape.{of, has, fits, _▸_, Spells, empty, one-mark, one-part, seq}
+use Rattle.kinds.specs.Shape.{of, fits, _▸_, Spells, empty, one-mark, one-part, seq}
 use Rattle.kinds.specs.Fields.{counted, halves, holds}
 use Rattle.kinds.specs.Rules.{the}
 use Rattle.kinds.specs.Rules as rules
@@ -45,7 +44,7 @@ use Rattle.grammar.specs.shapes.WellShaped.{Shape, shapeOf}
 use Rattle.grammar.specs.records.Records.{Head, head, Role, aMark, asName, asNumber, roleOf, placed, arranged, lowHalf, highHalf, reads, sees, opening, textOf, firstTok, firstOf, decimal, headOf, formOf, headFor, recorded, recordItems, recordTrees, largest}
 use Rattle.grammar.specs.records.Faults.{Fault, unless, armLows, armsFault, faultsAt, faults, faultOf}
 use Rattle.grammar.specs.records.FaultLaws.{none-exactly}
-use Rattle.grammar.specs.spelled.TreeTokens.{classesOf, whole-trees, is-shape, its-yield, keeps-tokens}
+use Rattle.grammar.specs.spelled.TreeTokens.{whole-trees, is-shape, its-yield, keeps-tokens}
 use Rattle.grammar.specs.spelled.Rules.{kindsIn, seen, row, row-append, pair-in, items-in, choice-in, has-within}
 use Rattle.grammar.specs.spelled.Inclusion.{dealt, sorts-arranged}
 use Rattle.grammar.specs.spelled.FormTests.{SpelledAs, halves-of}

@@ -9,13 +9,12 @@ use Prim.Native.Nat.{ℕ, zero, suc, _<_}
 use native.Mathlib.Omega.{arith}
 use lib.Dec.{T, eqb, eqb→eq}
 use lib.ListN.{length}
-use Rattle.text.specs.Table.{first-of, second-of}
+use Rattle.text.specs.Table.{first-of, second-of, or-cases}
+use Rattle.text.specs.Lists.{Some, here, there, some, all, has}
+use Rattle.text.specs.ListLaws.{some-sound, all-some, from-some, only-one}
 use Rattle.own.specs.Tree.{Tok, Items, none, mark, sub}
-use Rattle.own.specs.Law.{Sort, word, child}
-use Rattle.own.specs.Rules.{sorts}
-use Rattle.own.specs.Places.{or-cases}
-use Rattle.kinds.specs.Lists.{Some, here, there, some, some-sound, all, all-some, from-some, only-one}
-use Rattle.kinds.specs.Shape.{Part, of, name, arm, bound, size, Shape, nothing, never, part, _▸_, _¦_, many, has, fits, Spells, empty, one-mark, one-part, seq, left, right, stop, more}
+use Rattle.own.specs.Law.{Sort, word, child, sorts}
+use Rattle.kinds.specs.Shape.{Part, of, name, arm, bound, size, Shape, nothing, never, part, _▸_, _¦_, many, fits, Spells, empty, one-mark, one-part, seq, left, right, stop, more}
 use Rattle.kinds.specs.Shape as k
 use Rattle.lexer.specs.Classes as class
 use Rattle.grammar.specs.spelled.Rules.{has-within}

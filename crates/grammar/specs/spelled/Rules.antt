@@ -11,13 +11,13 @@ use lib.Dec.{T, eqb, eqb→eq}
 use lib.ListN.{getD, getElem?, drop}
 use Rattle.theory.specs.Ebnf.{Ex, eps, part, seq, or, items, branches, choices}
 use Rattle.theory.specs.Ebnf as shape
-use Rattle.text.specs.Table.{first-of, second-of}
+use Rattle.text.specs.Table.{first-of, second-of, or-cases}
+use Rattle.text.specs.Lists.{has, all, count, span}
+use Rattle.text.specs.ListLaws.{has-left, has-right}
 use Rattle.own.specs.Law.{Sort, word}
-use Rattle.own.specs.Places.{or-cases}
 use Rattle.own.specs.Kinds as kind
-use Rattle.kinds.specs.Shape.{Shape, nothing, never, mark, of, name, arm, bound, size, has, has-left, has-right, count, span, _▸_, _¦_, many, Spells, empty, one-mark, one-part, left, right, stop, more, fits}
+use Rattle.kinds.specs.Shape.{Shape, nothing, never, mark, of, name, arm, bound, size, _▸_, _¦_, many, Spells, empty, one-mark, one-part, left, right, stop, more, fits}
 use Rattle.kinds.specs.Shape as k
-use Rattle.kinds.specs.Lists.{all}
 use Rattle.kinds.specs.Rules.{the, optional, element, expression}
 use Rattle.kinds.specs.Rules as rules
 use Rattle.kinds.specs.Build.{the-mark}

@@ -11,18 +11,17 @@ use lib.Dec.{T, eqb, eqb→eq, ltb}
 use lib.ListN.{getD, getElem?, length, List·getD-eq-default}
 use Rattle.text.specs.Ascii.{ascii}
 use Rattle.text.specs.Same.{same}
-use Rattle.text.specs.Table.{is-true, first-of, second-of}
+use Rattle.text.specs.Table.{is-true, first-of, second-of, or-right}
+use Rattle.text.specs.Lists.{all, has, span, count}
 use Rattle.words.specs.Words.{BOOL, UINT_TYPES, BUILTIN_ALIASES, wordOf}
 use Rattle.words.specs.declared.Found.{Found}
 use Rattle.words.specs.declared.Found.the-variants.{Word, Plain}
 use Rattle.num.specs.declared.Value.{Value}
-use Rattle.num.specs.Bound.{boundOk, sizeOk}
+use Rattle.num.specs.Bound.{boundOk, sizeOk, isBound}
 use Rattle.theory.specs.Ebnf as shape
 use Rattle.own.specs.Law.{Sort}
-use Rattle.own.specs.Places.{or-right}
 use Rattle.own.specs.Kinds as kind
-use Rattle.kinds.specs.Lists.{all}
-use Rattle.kinds.specs.Shape.{Part, of, name, arm, bound, size, has, span, count, isBound, number, fits, Spells}
+use Rattle.kinds.specs.Shape.{Part, of, name, arm, bound, size, number, fits, Spells}
 use Rattle.kinds.specs.Fields.{counted}
 use Rattle.kinds.specs.Families as family
 use Rattle.kinds.specs.Rules.{wrappers}

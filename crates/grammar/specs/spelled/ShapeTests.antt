@@ -8,11 +8,11 @@ use Prim.Native.Nat.{ℕ, _≤_, _<_}
 use native.Mathlib.Omega.{arith}
 use lib.Dec.{T, eqb}
 use lib.ListN.{getD}
+use Rattle.text.specs.Lists.{some, all, has, span, count}
 use Rattle.theory.specs.Ebnf.{eps}
 use Rattle.own.specs.Law.{Sort}
 use Rattle.own.specs.Kinds as kind
-use Rattle.kinds.specs.Lists.{some, all}
-use Rattle.kinds.specs.Shape.{Part, of, name, arm, bound, size, Shape, has, span, count, doubled, fits, Spells}
+use Rattle.kinds.specs.Shape.{Part, of, name, arm, bound, size, Shape, fits, Spells}
 use Rattle.kinds.specs.Rules.{forms}
 use Rattle.kinds.specs.Spelled.{formsOf}
 use Rattle.lexer.specs.Classes as class
@@ -85,7 +85,7 @@ pub record Tests (n : ℕ) : Type 0 where
 -- They pass, by computation.
 pub tests : (n : ℕ) → Tests n
 unfolding shapes seen partShapes both kindsIn bodyShape exactIn formIn formsOf forms fixed counts some all variants pairs rowIn atomIn manyIn
-    shapeIn pieceIn tokenIn marksOf isPart kindsOf onlyKinds roleOf has span count doubled fits free freeOf sure isThe lacks hasParts loneRow
+    shapeIn pieceIn tokenIn marksOf isPart kindsOf onlyKinds roleOf has span count fits free freeOf sure isThe lacks hasParts loneRow
     crowdedRow unroll judge opened lonelyRow literalRow typeRow patternRow allBelow functionCase functionRow angledRow armRow placeIn literalHead
     callHead wrapperHead aloneHead wrapsRow callsRow genericRow pathRow parensRow aloneRow plainRow nameRow nameRows foldNumber
 tests n = record { parameter = tt; tuple-type = tt; tuple-pattern = tt; array-pattern = tt; assignment = tt; array = tt; list = tt; function = tt; either-type = tt; option-type = tt; list-type = tt; type-name = tt; array-type = tt; pattern-name = tt; literal = tt; parens = tt; simple-call = tt; cast-call = tt; named = tt; bare = tt; typed = tt; for-while = tt; folding = tt; arm = tt }

@@ -8,17 +8,12 @@ use lib.ListN.{length, take, drop, length-append, length-drop}
 use lib.Seq.{take-add, take-length}
 use Rattle.theory.specs.Ebnf as shape
 use Rattle.theory.specs.Parse.{found}
-use Rattle.own.specs.Tree.{Tok, Items, none, mark, sub, Node, node, roots, yield, tokens}
+use Rattle.own.specs.Tree.{Tok, classesOf, Items, none, mark, sub, Node, node, roots, yield, tokens}
 use Rattle.own.specs.Kinds as kind
 use Rattle.grammar.specs.shapes.ShapeKind.{FunctionShape}
 use Rattle.grammar.specs.Entry.{Entry, oneFunction}
 use Rattle.grammar.specs.shapes.WellShaped.{Shape, Nodes, no-more, a-node, shape-function, shape-nodes, shapeOf, shape-exactly}
 use Rattle.grammar.specs.records.Records.{Role, aMark, asName, asNumber, roleOf, placed, arranged, firstTok, reads, decimal, functionHead, headOf, formOf, Head, headFor, recorded, recordItems, recordTrees}
-
--- The classes of tokens.
-unfoldable pub classesOf : List Tok → List ℕ
-classesOf [] = []
-classesOf (t ∷ ts) = t .class ∷ classesOf ts
 
 pub length-classes : (ts : List Tok) → length (classesOf ts) ≡ length ts
 unfolding classesOf

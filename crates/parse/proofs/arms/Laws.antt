@@ -11,11 +11,9 @@ use borrow.Author.Tests.{ne-eqb, lt-ltb, le-ltb}
 use lib.Dec.{eqb, ltb}
 use lib.ListN.{length, length-append}
 use Rattle.own.specs.Tree.{Tok, Items, marks, partner}
-use Rattle.own.specs.Law.{Sort, word, child}
-use Rattle.own.specs.Rules.{sorts}
+use Rattle.own.specs.Law.{Sort, word, child, sorts}
 use Rattle.own.specs.Arms as arm
 use Rattle.own.specs.Kinds as kind
-use Rattle.kinds.specs.Shape.{has}
 use Rattle.kinds.specs.Fields.{counted}
 use Rattle.lexer.specs.Classes as t
 use Rattle.grammar.specs.spelled.Decisions.{counted-append}
@@ -24,6 +22,7 @@ use Rattle.grammar.specs.records.Records.{plain, headOf, firstTok}
 use Rattle.grammar.specs.records.Faults.{unless, armLows, mates, armsFault, faultsAt, earlier, earliest}
 use Rattle.grammar.specs.shapes.ShapeKind.{MatchShape}
 use Rattle.text.specs.Refusals as refusal
+use Rattle.text.specs.Lists.{has}
 use Rattle.parse.specs.Contract.{fault}
 use Rattle.parse.specs.Infos.{ArmKind, Armed, pairArm, afterArm, orderFrom, orderKind, orderFault}
 use Rattle.parse.specs.Orders as order

@@ -1,24 +1,20 @@
 -- Arms that are partners written the other way round: the match that has them is turned, and so are its words.
 -- Assumes nothing.
-use mathlib.Core.Bool.{Bool, true, false, cond, _&&_, _||_}
+use mathlib.Core.Bool.{Bool, true, false, cond, _&&_}
 use mathlib.Core.List.{List, [], _∷_, _++_, append-nil}
-use mathlib.Core.Logic.{_⊎_, inl, inr}
 use mathlib.Core.Path.{_≡_, refl, sym, ap, ap₂, _∙_}
 use Prim.Native.Nat.{ℕ, suc, _+_, _*_, _≤_}
 use native.Mathlib.Omega.{arith}
 use borrow.Author.Tests.{eq-eqb, ne-eqb}
-use lib.Dec.{T, eqb, eqb→eq}
+use lib.Dec.{T, eqb}
 use lib.ListN.{length, length-append}
 use lib.Seq.{sets, length-sets}
-use Rattle.text.specs.Table.{first-of, second-of}
-use Rattle.own.specs.Places.{or-cases}
 use Rattle.own.specs.Tree as own
 use Rattle.own.specs.Tree.{Tok, Items, mark, sub, Node, node, kids, partner, canonical, reversed, turned, arrange, concat}
-use Rattle.own.specs.Law.{Sort, word, child}
-use Rattle.own.specs.Rules.{sorts}
+use Rattle.own.specs.Law.{Sort, word, child, sorts}
 use Rattle.text.specs.Widths.{recWide}
 use Rattle.own.specs.Words.{recThen, sizes, wordGroups}
-use Rattle.own.specs.Arms as arm
+use Rattle.own.specs.Partners.{by-partners}
 use Rattle.own.specs.Kinds as kind
 use Rattle.grammar.specs.records.Faults.{armLows}
 use Rattle.parse.specs.Contract.{Turned}
@@ -107,19 +103,7 @@ two-parts (sub k l h js r) e =
 -- The arms are no partners in both orders.
 partner-one : (a b : ℕ) → T (partner a b) → partner b a ≡ false
 unfolding partner
-partner-one a b y = go (or-cases (eqb a arm.Left && eqb b arm.Right) ((eqb a arm.None && eqb b arm.Some) || (eqb a arm.False && eqb b arm.True)) y)
-  where
-    these : (m n : ℕ) → T (eqb a m && eqb b n) → ((eqb n arm.Left && eqb m arm.Right) || ((eqb n arm.None && eqb m arm.Some) || (eqb n arm.False && eqb m arm.True))) ≡ false
-        → ((eqb b arm.Left && eqb a arm.Right) || ((eqb b arm.None && eqb a arm.Some) || (eqb b arm.False && eqb a arm.True))) ≡ false
-    these m n u f = rw (eqb→eq a m (first-of (eqb a m) (eqb b n) u), eqb→eq b n (second-of (eqb a m) (eqb b n) u)) f
-
-    more : T (eqb a arm.None && eqb b arm.Some) ⊎ T (eqb a arm.False && eqb b arm.True) → ((eqb b arm.Left && eqb a arm.Right) || ((eqb b arm.None && eqb a arm.Some) || (eqb b arm.False && eqb a arm.True))) ≡ false
-    more (inl u) = these arm.None arm.Some u refl
-    more (inr u) = these arm.False arm.True u refl
-
-    go : T (eqb a arm.Left && eqb b arm.Right) ⊎ T ((eqb a arm.None && eqb b arm.Some) || (eqb a arm.False && eqb b arm.True)) → ((eqb b arm.Left && eqb a arm.Right) || ((eqb b arm.None && eqb a arm.Some) || (eqb b arm.False && eqb a arm.True))) ≡ false
-    go (inl u) = these arm.Left arm.Right u refl
-    go (inr u) = more (or-cases (eqb a arm.None && eqb b arm.Some) (eqb a arm.False && eqb b arm.True) u)
+partner-one a b = by-partners (λ x y. partner y x ≡ false) refl refl refl a b
 
 -- The order of two arms is `Turned` where they are partners the other way round.
 pair-nine : (a b : ℕ) → partner b a ≡ eqb (pairArm a b) order.Turned

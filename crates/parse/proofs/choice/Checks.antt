@@ -7,8 +7,8 @@ use native.Mathlib.Omega.{arith}
 use lib.Dec.{T, ltb, ltb→lt}
 use lib.ListN.{getD}
 use Rattle.text.specs.Table.{table-at, first-of, second-of}
+use Rattle.text.specs.Lists.{has}
 use Rattle.lexer.specs.Classes as t
-use Rattle.kinds.specs.Shape.{has}
 use Rattle.theory.specs.Grammar.{look, row}
 use Rattle.theory.specs.Machine.{choose}
 use Rattle.grammar.specs.shapes.Tables.{table}

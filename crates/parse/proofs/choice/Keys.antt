@@ -8,9 +8,8 @@ use Prim.Native.Nat.{ℕ, suc, _≤_}
 use native.Mathlib.Omega.{arith}
 use borrow.Author.Tests.{ne-eqb, ltb-true, ltb-false}
 use lib.Dec.{T, eqb, eqb→eq, ltb, ltb→lt}
-use Rattle.text.specs.Table.{first-of, second-of}
-use Rattle.own.specs.Places.{or-cases}
-use Rattle.kinds.specs.Shape.{has}
+use Rattle.text.specs.Table.{first-of, second-of, or-cases}
+use Rattle.text.specs.Lists.{has}
 use Rattle.grammar.specs.records.Records.{placeIn}
 use Rattle.parse.proofs.rule.ByClass.{run, sweep, low-all, pastClasses}
 

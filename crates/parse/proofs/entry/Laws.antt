@@ -17,7 +17,7 @@ use Rattle.lexer.specs.Limits.{noToken}
 use Rattle.theory.specs.Grammar.{nt}
 use Rattle.theory.specs.Ebnf as shape
 use Rattle.theory.specs.Parse.{Found, found, stuck}
-use Rattle.own.specs.Tree.{Tok, Items, Node, Rec, roots, records, concat}
+use Rattle.own.specs.Tree.{Tok, Items, Node, Rec, roots, records, concat, classesOf}
 use Rattle.own.specs.Flat.{no-token}
 use Rattle.text.specs.Widths.{tokWide, recWide}
 use Rattle.text.specs.Answers as paper
@@ -27,7 +27,7 @@ use Rattle.kinds.specs.Words.{classOf}
 use Rattle.grammar.specs.shapes.TablesIndex.{n-function}
 use Rattle.grammar.specs.Entry.{Entry, oneFunction}
 use Rattle.grammar.specs.shapes.WellShaped.{shapeOf, reads-shape, reads-too-few, sticks-shape}
-use Rattle.grammar.specs.spelled.TreeTokens.{classesOf, length-classes, whole-trees, is-shape}
+use Rattle.grammar.specs.spelled.TreeTokens.{length-classes, whole-trees, is-shape}
 use Rattle.grammar.specs.records.Records.{recordItems}
 use Rattle.grammar.specs.records.Faults.{Fault, faults, earliest, faultOf}
 use Rattle.grammar.specs.answers.Answer.{toksOf, startOf, treesOf, recordsFor, Reading, unread, read, faulty, shaped, fitted, content, recordsIn}

@@ -14,7 +14,6 @@ use lib.Seq.{sets}
 use types.Run.{OneOf}
 use denote.Enum.Declared.{tagOf}
 use Rattle.text.specs.Same.{differ}
-use Rattle.kinds.specs.Shape.{has, count}
 use Rattle.kinds.specs.Fields.{counted}
 use Rattle.kinds.specs.Families as family
 use Rattle.lexer.specs.Classes as t
@@ -27,9 +26,9 @@ use Rattle.theory.specs.Walk.{Reads, n-end, n-tok, n-flat, n-sub, Sticks, k-tok
 use Rattle.own.specs.Tree as own
 use Rattle.own.specs.Tree.{Tok, Items, sub, marks, arrange, concat}
 use Rattle.text.specs.Widths.{recWide}
+use Rattle.text.specs.Lists.{has, count}
 use Rattle.own.specs.Words.{wordGroups}
-use Rattle.own.specs.Law.{Sort, word, child}
-use Rattle.own.specs.Rules.{sorts}
+use Rattle.own.specs.Law.{Sort, word, child, sorts}
 use Rattle.own.specs.Arms as arm
 use Rattle.own.specs.Kinds as kind
 use Rattle.grammar.specs.shapes.Shapes.{shapes}

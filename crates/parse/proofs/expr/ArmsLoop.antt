@@ -18,8 +18,7 @@ use Rattle.theory.specs.Ebnf.{sortOf}
 use Rattle.theory.specs.Same.{ex}
 use Rattle.own.specs.Tree as own
 use Rattle.own.specs.Tree.{Tok, Items, mark, sub, marks}
-use Rattle.own.specs.Law.{Sort, child}
-use Rattle.own.specs.Rules.{sorts, firstClass}
+use Rattle.own.specs.Law.{Sort, child, sorts, firstClass}
 use Rattle.own.specs.Words.{sizes}
 use Rattle.grammar.specs.shapes.Tables.{means, table}
 use Rattle.grammar.specs.records.Records.{arranged}

@@ -20,13 +20,12 @@ use Rattle.theory.specs.Same.{ex}
 use Rattle.own.specs.Tree as own
 use Rattle.own.specs.Tree.{Tok, Items, mark, marks, concat}
 use Rattle.text.specs.Widths.{recWide}
+use Rattle.text.specs.Lists.{has}
 use Rattle.own.specs.Words.{recThen, sizes, wordGroups}
 use Rattle.own.specs.Flat.{no-token}
 use Rattle.theory.specs.Walk.{n-tok}
-use Rattle.own.specs.Law.{Sort, word}
-use Rattle.own.specs.Rules.{sorts}
+use Rattle.own.specs.Law.{Sort, word, sorts}
 use Rattle.own.specs.Kinds as kind
-use Rattle.kinds.specs.Shape.{has}
 use Rattle.kinds.specs.Families as family
 use Rattle.lexer.specs.Classes as t
 use Rattle.grammar.specs.shapes.Tables.{means, table}

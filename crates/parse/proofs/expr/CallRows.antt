@@ -14,10 +14,10 @@ use lib.Dec.{T, eqb, eqb→eq, ltb, ltb→lt}
 use lib.ListN.{length, getD}
 use Rattle.text.specs.Same.{differ}
 use Rattle.text.specs.Table.{is-true}
+use Rattle.text.specs.Lists.{has}
 use Rattle.num.specs.Value.{numberOf}
 use Rattle.num.specs.declared.Value.{Value}
 use Rattle.num.specs.Bound.{boundOk, sizeOk}
-use Rattle.kinds.specs.Shape.{has}
 use Rattle.kinds.specs.Rules.{wrappers}
 use Rattle.lexer.specs.Classes as t
 use Rattle.theory.specs.Grammar.{Sym, tok, nt, on, look, row, alt, pick}
@@ -26,8 +26,7 @@ use Rattle.theory.specs.Ebnf as shape
 use Rattle.theory.specs.Ebnf.{sortOf, kindsOf}
 use Rattle.theory.specs.Same.{ex}
 use Rattle.own.specs.Tree.{Tok, Items, marks}
-use Rattle.own.specs.Rules.{sorts}
-use Rattle.own.specs.Law.{Sort, word, child}
+use Rattle.own.specs.Law.{Sort, word, child, sorts}
 use Rattle.own.specs.Kinds as kind
 use Rattle.grammar.specs.shapes.Shapes.{shapes}
 use Rattle.grammar.specs.shapes.Tables.{means, table}

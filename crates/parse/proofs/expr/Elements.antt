@@ -17,8 +17,7 @@ use Rattle.theory.specs.Ebnf as shape
 use Rattle.theory.specs.Ebnf.{sortOf}
 use Rattle.theory.specs.Same.{ex}
 use Rattle.own.specs.Tree.{Tok, Items, marks}
-use Rattle.own.specs.Law.{Sort, word, child}
-use Rattle.own.specs.Rules.{sorts}
+use Rattle.own.specs.Law.{Sort, word, child, sorts}
 use Rattle.lexer.specs.Classes as t
 use Rattle.grammar.specs.shapes.Tables.{means, table}
 use Rattle.grammar.specs.records.Records.{sees, partCount, lone, unended}

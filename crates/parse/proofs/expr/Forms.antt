@@ -13,6 +13,7 @@ use lib.ListN.{length, take, drop, getD, getElem?}
 use Rattle.text.specs.Part.{partOf}
 use Rattle.text.specs.Ascii.{ascii}
 use Rattle.text.specs.Same.{same, differ}
+use Rattle.text.specs.Lists.{has}
 use Rattle.num.specs.Value as numbers
 use Rattle.num.specs.Digits as digits
 use Rattle.num.specs.Value.{numberOf}
@@ -21,7 +22,6 @@ use Rattle.num.specs.Bound.{boundOk}
 use Rattle.words.specs.Words.{BOOL, UINT_TYPES, BUILTIN_ALIASES, wordOf}
 use Rattle.words.specs.declared.Found.{Found}
 use Rattle.words.specs.declared.Found.the-variants.{Word, Plain}
-use Rattle.kinds.specs.Shape.{has}
 use Rattle.lexer.specs.Classes as t
 use Rattle.theory.specs.Grammar.{Sym, tok, nt, Case, on, look, Row, row, alt, pick}
 use Rattle.theory.specs.Machine.{choose, expand}
@@ -31,8 +31,7 @@ use Rattle.theory.specs.Same.{ex}
 use Rattle.theory.specs.Walk.{Reads, n-flat, k-in}
 use Rattle.own.specs.Tree.{Tok, Items, marks}
 use Rattle.own.specs.Flat.{no-token}
-use Rattle.own.specs.Rules.{sorts}
-use Rattle.own.specs.Law.{Sort, word, child}
+use Rattle.own.specs.Law.{Sort, word, child, sorts}
 use Rattle.own.specs.Kinds as kind
 use Rattle.grammar.specs.shapes.Shapes.{shapes}
 use Rattle.grammar.specs.shapes.Tables.{means, table}

@@ -15,8 +15,7 @@ use Rattle.theory.specs.Ebnf.{kindsOf}
 use Rattle.theory.specs.Same.{ex}
 use Rattle.own.specs.Tree as own
 use Rattle.own.specs.Tree.{Tok, Items, mark, sub, marks, turned, arrange, concat}
-use Rattle.own.specs.Law.{Sort, word, child}
-use Rattle.own.specs.Rules.{sorts}
+use Rattle.own.specs.Law.{Sort, word, child, sorts}
 use Rattle.text.specs.Widths.{recWide}
 use Rattle.own.specs.Words.{sizes, wordGroups}
 use Rattle.own.specs.Kinds as kind

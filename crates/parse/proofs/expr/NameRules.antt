@@ -16,11 +16,10 @@ use Rattle.theory.specs.Ebnf.{sortOf}
 use Rattle.theory.specs.Same.{ex}
 use Rattle.own.specs.Kinds as kind
 use Rattle.own.specs.Tree.{Tok, Items, arrange, concat}
-use Rattle.own.specs.Law.{Sort, word}
-use Rattle.own.specs.Rules.{sorts}
+use Rattle.own.specs.Law.{Sort, word, sorts}
 use Rattle.own.specs.Words.{wordGroups}
 use Rattle.text.specs.Widths.{recWide}
-use Rattle.kinds.specs.Shape.{has}
+use Rattle.text.specs.Lists.{has}
 use Rattle.grammar.specs.shapes.ShapeKind.{NamedShape, BareShape, TypedShape, FoldingShape, ForWhileShape}
 use Rattle.grammar.specs.shapes.Tables.{means, table}
 use Rattle.grammar.specs.shapes.TablesIndex.{n-single, n-path, n-typed-optional-DoubleColon-choice, n-folding-optional-DoubleColon-choice, n-forWhile-optional-DoubleColon-choice}

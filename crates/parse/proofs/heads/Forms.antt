@@ -11,6 +11,7 @@ use lib.Dec.{T, eqb, ltb, eqb→eq, ltb→lt}
 use lib.ListN.{getD}
 use Rattle.text.specs.Same.{differ}
 use Rattle.text.specs.Table.{first-of, second-of, is-true}
+use Rattle.text.specs.Lists.{has}
 use Rattle.theory.specs.Grammar.{Sym, tok, nt, row, look, alt, pick}
 use Rattle.theory.specs.Machine.{choose, expand}
 use Rattle.theory.specs.Ebnf as shape
@@ -18,11 +19,9 @@ use Rattle.theory.specs.Ebnf.{sortOf}
 use Rattle.theory.specs.Same.{ex}
 use Rattle.theory.specs.Walk.{k-nt, k-in}
 use Rattle.own.specs.Tree.{Tok}
-use Rattle.own.specs.Law.{Sort, word}
-use Rattle.own.specs.Rules.{sorts}
+use Rattle.own.specs.Law.{Sort, word, sorts}
 use Rattle.own.specs.Arms as arm
 use Rattle.own.specs.Kinds as kind
-use Rattle.kinds.specs.Shape.{has}
 use Rattle.kinds.specs.Fields.{counted}
 use Rattle.kinds.specs.Families as family
 use Rattle.lexer.specs.Classes as t
@@ -82,7 +81,7 @@ other-choice-row c h = goes n-head-choice 2 c (miss t.LParen 1 [] 2 h refl) refl
 
 -- any other name,
 pub flat-other : sortOf (ex means (nt n-otherName)) ≡ shape.flat
-unfolding sortOf ex means
+unfolding sortOf ex means has
 flat-other = refl
 
 -- and a path.

@@ -7,14 +7,13 @@ use Prim.Native.Nat.{ℕ, _+_, _≤_}
 use native.Mathlib.Nat.{add-zero}
 use types.Run.{OneOf}
 use denote.Enum.Declared.{tagOf}
+use Rattle.text.specs.Lists.{has}
 use Rattle.theory.specs.Grammar.{Sym, nt}
 use Rattle.theory.specs.Ebnf as shape
 use Rattle.own.specs.Tree as own
 use Rattle.own.specs.Tree.{Tok, Items, mark, sub, marks}
-use Rattle.own.specs.Law.{Sort, word}
-use Rattle.own.specs.Rules.{sorts}
+use Rattle.own.specs.Law.{Sort, word, sorts}
 use Rattle.own.specs.Kinds as kind
-use Rattle.kinds.specs.Shape.{has}
 use Rattle.kinds.specs.Fields.{counted}
 use Rattle.kinds.specs.Families as family
 use Rattle.lexer.specs.Classes as t

@@ -12,17 +12,16 @@ use lib.ListN.{length, getD}
 use types.Run.{OneOf}
 use denote.Enum.Declared.{tagOf}
 use Rattle.text.specs.Same.{differ}
+use Rattle.text.specs.Lists.{has}
 use Rattle.theory.specs.Grammar.{Sym, tok, nt, alt}
 use Rattle.theory.specs.Machine.{choose, expand}
 use Rattle.theory.specs.Ebnf as shape
 use Rattle.theory.specs.Walk.{n-flat, n-sub}
 use Rattle.own.specs.Tree as own
 use Rattle.own.specs.Tree.{Tok, Items, mark, sub}
-use Rattle.own.specs.Law.{Sort, word, child}
-use Rattle.own.specs.Rules.{sorts}
+use Rattle.own.specs.Law.{Sort, word, child, sorts}
 use Rattle.own.specs.Words.{sizes}
 use Rattle.own.specs.Kinds as kind
-use Rattle.kinds.specs.Shape.{has}
 use Rattle.kinds.specs.Fields.{counted}
 use Rattle.kinds.specs.Families as family
 use Rattle.lexer.specs.Classes as t

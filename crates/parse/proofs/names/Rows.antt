@@ -10,12 +10,12 @@ use borrow.Author.Tests.{ne-eqb, ltb-true, ltb-false}
 use lib.Dec.{T, eqb, ltb}
 use Rattle.text.specs.Same.{differ}
 use Rattle.text.specs.Table.{is-true}
+use Rattle.text.specs.Lists.{has}
 use Rattle.theory.specs.Grammar.{Sym, tok, nt, row, look, alt, pick}
 use Rattle.theory.specs.Machine.{choose, expand}
 use Rattle.theory.specs.Ebnf as shape
 use Rattle.theory.specs.Ebnf.{sortOf}
 use Rattle.theory.specs.Same.{ex}
-use Rattle.kinds.specs.Shape.{has}
 use Rattle.kinds.specs.Families as family
 use Rattle.lexer.specs.Classes as t
 use Rattle.grammar.specs.shapes.Tables.{means, table}

@@ -10,8 +10,8 @@ use lib.Dec.{eqb}
 use lib.ListN.{length, getD}
 use Rattle.text.specs.Ascii.{ascii, asciiFrom}
 use Rattle.text.specs.Same.{same, same-length, differ}
+use Rattle.text.specs.Lists.{has}
 use Rattle.lexer.specs.Classes as t
-use Rattle.kinds.specs.Shape.{has}
 use Rattle.grammar.specs.records.Records.{plain, patternName}
 use Rattle.own.specs.Kinds as kind
 use Rattle.parse.specs.Contract.{nameSort, callees}

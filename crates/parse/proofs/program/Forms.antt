@@ -13,6 +13,7 @@ use lib.ListN.{getD}
 use types.Run.{OneOf}
 use denote.Enum.Declared.{tagOf}
 use Rattle.text.specs.Same.{differ}
+use Rattle.text.specs.Lists.{has}
 use Rattle.theory.specs.Grammar.{Sym, tok, nt, on, look, row, alt, pick}
 use Rattle.theory.specs.Machine.{choose, expand}
 use Rattle.theory.specs.Ebnf as shape
@@ -20,10 +21,8 @@ use Rattle.theory.specs.Ebnf.{sortOf, kindsOf}
 use Rattle.theory.specs.Same.{ex}
 use Rattle.theory.specs.Walk.{n-tok, n-flat, n-sub, k-tok, k-nt, k-eat, k-in}
 use Rattle.own.specs.Tree.{Tok, Items, marks}
-use Rattle.own.specs.Law.{Sort, word, child}
-use Rattle.own.specs.Rules.{sorts}
+use Rattle.own.specs.Law.{Sort, word, child, sorts}
 use Rattle.own.specs.Kinds as kind
-use Rattle.kinds.specs.Shape.{has}
 use Rattle.kinds.specs.Fields.{counted}
 use Rattle.kinds.specs.Families as family
 use Rattle.lexer.specs.Classes as t

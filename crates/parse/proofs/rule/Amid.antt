@@ -19,17 +19,16 @@ use Rattle.theory.specs.Ebnf.{child, kindsOf, flat, sortOf}
 use Rattle.theory.specs.Same.{ex}
 use Rattle.theory.specs.Walk.{join, join-nil, join-join, n-end, n-tok, n-flat, n-sub, k-tok, k-nt, k-eat, k-in, reads-reads, reads-sticks, reads-within}
 use Rattle.own.specs.Tree as own
-use Rattle.own.specs.Tree.{Tok, Items, mark, sub, marks, concat}
+use Rattle.own.specs.Tree.{Tok, Items, mark, sub, marks, concat, classesOf}
 use Rattle.own.specs.Flat.{no-token}
-use Rattle.own.specs.Law.{Sort, word}
-use Rattle.own.specs.Rules.{sorts, firstClass}
+use Rattle.own.specs.Law.{Sort, word, sorts, firstClass}
 use Rattle.text.specs.Widths.{recWide}
 use Rattle.own.specs.Words.{sizes, wordGroups}
 use Rattle.grammar.specs.shapes.Shapes.{shapes}
 use Rattle.grammar.specs.shapes.Tables.{means, table}
 use Rattle.grammar.specs.records.Records.{Role, aMark, asName, asNumber, roleOf, placed, arranged, firstTok, recordItems}
 use Rattle.grammar.specs.records.Faults.{Fault, faults, earliest}
-use Rattle.grammar.specs.spelled.TreeTokens.{classesOf, length-classes}
+use Rattle.grammar.specs.spelled.TreeTokens.{length-classes}
 use Rattle.parse.proofs.Step.{the-type}
 use Rattle.parse.specs.Contract.{Text, classes, tokAt, Read, Stuck, raw, faultIn, sooner, kept, Stands, Ready, Moved, Eaten, ate, lacked, Laid, Info, asItems, asNode, Went, Parsed, read, stuck}
 use Rattle.parse.specs.declared.State.{State}

@@ -10,7 +10,7 @@ use lib.Dec.{T, eqb, eqb→eq, ltb, ltb→lt}
 use lib.ListN.{getD}
 use Rattle.text.specs.Same.{differ}
 use Rattle.text.specs.Table.{first-of, second-of}
-use Rattle.kinds.specs.Shape.{has}
+use Rattle.text.specs.Lists.{has}
 use Rattle.theory.specs.Grammar.{Case, on, Row, blank, look, row}
 use Rattle.theory.specs.Machine.{choose}
 use Rattle.grammar.specs.shapes.Tables.{table}

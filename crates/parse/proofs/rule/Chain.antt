@@ -18,8 +18,7 @@ use Rattle.theory.specs.Same.{ex}
 use Rattle.theory.specs.Walk.{k-tok, k-nt}
 use Rattle.own.specs.Tree as own
 use Rattle.own.specs.Tree.{Tok, Items, mark, sub, marks}
-use Rattle.own.specs.Law.{Sort, word, child}
-use Rattle.own.specs.Rules.{sorts, firstClass}
+use Rattle.own.specs.Law.{Sort, word, child, sorts, firstClass}
 use Rattle.grammar.specs.shapes.Tables.{means, table}
 use Rattle.grammar.specs.records.Records.{Role, aMark, asName, asNumber, roleOf, placed, arranged, lowHalf, highHalf}
 use Rattle.grammar.specs.records.Faults.{Fault}

@@ -17,10 +17,9 @@ use Rattle.theory.specs.Walk.{n-end, n-sub, k-in, reads-within}
 use lib.ListN.{getD, getElem?}
 use Rattle.own.specs.Tree as own
 use Rattle.own.specs.Tree.{Tok, Items, sub, begin, end, turned, arrange, concat}
-use Rattle.own.specs.Law.{Sort}
+use Rattle.own.specs.Law.{Sort, sorts}
 use Rattle.text.specs.Widths.{recWide}
 use Rattle.own.specs.Words.{recThen, sizes, wordGroups}
-use Rattle.own.specs.Rules.{sorts}
 use Rattle.own.specs.Tree.{marks}
 use Rattle.grammar.specs.shapes.Shapes.{shapes}
 use Rattle.grammar.specs.shapes.Tables.{means, table}

@@ -19,8 +19,7 @@ use Rattle.own.specs.Tree.{Tok, Items, mark, sub, marks, turned, arrange, conca
 use Rattle.text.specs.Widths.{recWide}
 use Rattle.own.specs.Words.{wordGroups}
 use Rattle.own.specs.Flat.{no-token}
-use Rattle.own.specs.Law.{Sort, word, child}
-use Rattle.own.specs.Rules.{sorts}
+use Rattle.own.specs.Law.{Sort, word, child, sorts}
 use Rattle.own.specs.Kinds as kind
 use Rattle.lexer.specs.Classes as t
 use Rattle.grammar.specs.records.Records.{Head, head, firstOf, textOf, reads}

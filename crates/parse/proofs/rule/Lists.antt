@@ -14,8 +14,7 @@ use Rattle.theory.specs.Ebnf as shape
 use Rattle.theory.specs.Walk.{join}
 use Rattle.own.specs.Tree as own
 use Rattle.own.specs.Tree.{Tok, Items, mark, sub, marks, turned, arrange, exchange, concat}
-use Rattle.own.specs.Law.{Sort}
-use Rattle.own.specs.Rules.{sorts}
+use Rattle.own.specs.Law.{Sort, sorts}
 use Rattle.text.specs.Widths.{recWide}
 use Rattle.own.specs.Words.{recThen, sizes, wordGroups}
 use Rattle.grammar.specs.records.Records.{Role, aMark, asName, asNumber, roleOf, placed, arranged, reads, decimal, firstTok, headFor, recorded, recordItems}

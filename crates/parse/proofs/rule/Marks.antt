@@ -9,7 +9,7 @@ use borrow.Author.Tests.{eq-eqb, ne-eqb, ltb-true, ltb-false}
 use lib.Dec.{T, eqb, ltb, eqb→eq, ltb→lt}
 use Rattle.text.specs.Same.{differ}
 use Rattle.text.specs.Table.{first-of, second-of, is-true}
-use Rattle.kinds.specs.Shape.{has}
+use Rattle.text.specs.Lists.{has}
 use Rattle.kinds.specs.Families as family
 use Rattle.lexer.specs.Classes as t
 use Rattle.grammar.specs.records.Records.{Role, aMark, asName, asNumber, roleOf}

@@ -8,12 +8,11 @@ use native.Mathlib.Omega.{arith}
 use lib.Dec.{T, eqb, ltb, ltb→lt}
 use Rattle.text.specs.Same.{differ}
 use Rattle.text.specs.Table.{second-of, is-true}
+use Rattle.text.specs.Lists.{has, span, count}
 use Rattle.own.specs.Tree as own
 use Rattle.own.specs.Tree.{Items, mark, sub}
-use Rattle.own.specs.Law.{Sort, word, child}
-use Rattle.own.specs.Rules.{sorts}
+use Rattle.own.specs.Law.{Sort, word, child, sorts}
 use Rattle.own.specs.Kinds as kind
-use Rattle.kinds.specs.Shape.{has, span, count}
 use Rattle.kinds.specs.Fields.{counted}
 use Rattle.kinds.specs.Families as family
 use Rattle.lexer.specs.Classes as t

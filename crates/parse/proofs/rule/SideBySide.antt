@@ -13,8 +13,7 @@ use Rattle.theory.specs.Same.{ex}
 use Rattle.theory.specs.Walk.{n-flat, k-in, join, join-join, reads-reads, reads-sticks}
 use Rattle.own.specs.Tree as own
 use Rattle.own.specs.Tree.{Tok, Items, mark, marks}
-use Rattle.own.specs.Law.{Sort, word}
-use Rattle.own.specs.Rules.{sorts}
+use Rattle.own.specs.Law.{Sort, word, sorts}
 use Rattle.grammar.specs.shapes.Shapes.{shapes}
 use Rattle.grammar.specs.shapes.Tables.{means, table}
 use Rattle.grammar.specs.records.Records.{Role, aMark, roleOf, placed, arranged}

@@ -16,16 +16,15 @@ use Rattle.theory.specs.Ebnf.{sortOf}
 use Rattle.theory.specs.Same.{ex}
 use Rattle.theory.specs.Walk.{join, n-end, n-tok, n-flat}
 use Rattle.own.specs.Tree as own
-use Rattle.own.specs.Tree.{Tok, Items, mark, sub, marks, begin, end, turned, arrange, concat}
+use Rattle.own.specs.Tree.{Tok, Items, mark, sub, marks, begin, end, turned, arrange, concat, classesOf}
 use Rattle.own.specs.Flat.{no-token}
-use Rattle.own.specs.Law.{Sort, word, child}
-use Rattle.own.specs.Rules.{sorts, firstClass}
+use Rattle.own.specs.Law.{Sort, word, child, sorts, firstClass}
 use Rattle.text.specs.Widths.{recWide}
 use Rattle.own.specs.Words.{recThen, sizes, wordGroups, place-start, place-stop}
 use Rattle.grammar.specs.shapes.Tables.{means, table}
 use Rattle.grammar.specs.records.Records.{Head, head, Role, aMark, asName, asNumber, roleOf, placed, arranged, firstTok, firstOf, textOf, reads, decimal, headOf, formOf, headFor, recorded, recordItems}
 use Rattle.grammar.specs.records.Faults.{Fault, faultsAt, faults, earliest}
-use Rattle.grammar.specs.spelled.TreeTokens.{classesOf, length-classes, yield-arranged, yield-records}
+use Rattle.grammar.specs.spelled.TreeTokens.{length-classes, yield-arranged, yield-records}
 use Rattle.lexer.specs.Classes as t
 use Rattle.parse.specs.Contract.{Text, classes, tokAt, Read, Stuck, raw, faultIn, sooner, kept, fault, Stands, Ready, Moved, Put, Laid, Info, asItems, asNode, Went, Parsed, read, stuck, reserved, cleaned, Mark, Named, Node, countable, u32Count}
 use Rattle.parse.specs.declared.State.{State}

@@ -11,6 +11,7 @@ use lib.Dec.{T, eqb, eqb→eq, ltb, ltb→lt, leb}
 use lib.ListN.{length, take, drop, getD, getElem?}
 use Rattle.text.specs.Part.{partOf}
 use Rattle.text.specs.Refusals as refusal
+use Rattle.text.specs.Lists.{has}
 use Rattle.num.specs.Value as numbers
 use Rattle.num.specs.Digits as digits
 use Rattle.num.specs.Value.{numberOf}
@@ -19,7 +20,6 @@ use Rattle.num.specs.Bound.{boundOk}
 use Rattle.words.specs.Words.{BOOL, UINT_TYPES, BUILTIN_ALIASES, wordOf}
 use Rattle.words.specs.declared.Found.{Found}
 use Rattle.words.specs.declared.Found.the-variants.{Word, Plain}
-use Rattle.kinds.specs.Shape.{has}
 use Rattle.lexer.specs.Classes as t
 use Rattle.theory.specs.Grammar.{Sym, tok, nt, Case, on, look, Row, row, alt, pick}
 use Rattle.theory.specs.Machine.{choose, expand}
@@ -28,8 +28,7 @@ use Rattle.theory.specs.Ebnf.{sortOf, kindsOf}
 use Rattle.theory.specs.Same.{ex}
 use Rattle.own.specs.Tree.{Tok, Items, marks}
 use Rattle.own.specs.Flat.{no-token}
-use Rattle.own.specs.Rules.{sorts}
-use Rattle.own.specs.Law.{Sort, word, child}
+use Rattle.own.specs.Law.{Sort, word, child, sorts}
 use Rattle.own.specs.Kinds as kind
 use Rattle.grammar.specs.shapes.Shapes.{shapes}
 use Rattle.grammar.specs.shapes.Tables.{means, table}
@@ -118,7 +117,7 @@ module _ (c : ℕ) where
   at-array e = eqb→eq c t.LBracket (where-chosen n-type choice.ArrayType (λ a. eqb a t.LBracket) tt tt c e)
 
 pub flat-named : sortOf (ex means (nt n-namedType)) ≡ shape.flat
-unfolding sortOf ex means
+unfolding sortOf ex means has
 flat-named = refl
 
 -- No type begins with another class.

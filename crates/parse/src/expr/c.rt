@@ -2,10 +2,10 @@
 ghost use mathlib.Core.Bool.{true};
 ghost use mathlib.Core.List.{[], _∷_};
 ghost use mathlib.Core.Path.{_≡_};
+ghost use Rattle.text.specs.Lists.{has};
 ghost use Rattle.lexer.specs.Classes as t;
 ghost use Rattle.theory.specs.Machine.{choose};
 ghost use Rattle.grammar.specs.shapes.Tables.{table};
-ghost use Rattle.kinds.specs.Shape.{has};
 ghost use Rattle.grammar.specs.shapes.TablesIndex.{n-single, n-arguments, n-path};
 ghost use Rattle.parse.specs.Choice as choice;
 ghost use Rattle.parse.specs.Contract.{text, Ready, Near, Moved, reserved, Parses, Node, ExprKind};

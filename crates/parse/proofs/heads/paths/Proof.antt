@@ -12,7 +12,6 @@ use Rattle.parse.specs.Contract.{text, read, raw}
 use Rattle.parse.proofs.rule.Amid.{then-passed, went, Amid, starts, then-went}
 use Rattle.parse.proofs.rule.Chain.{then-lacks, advances, advances-one, then-eats, onward}
 use Rattle.parse.proofs.heads.PairForms as pairs
-use Rattle.own.specs.Rules.{sorts}
 use Rattle.parse.proofs.names.Chain.{then-names, then-names-passed}
 use Rattle.parse.proofs.names.Steps.{child-nt}
 use Rattle.parse.proofs.rule.Marks.{sign-mark, keeping-mark}
@@ -21,6 +20,7 @@ use Rattle.parse.proofs.heads.Forms as form
 use Rattle.lexer.specs.Classes as class
 use Rattle.own.specs.Kinds as kind
 use Rattle.own.specs.Arms as arm
+use Rattle.own.specs.Law.{sorts}
 use Rattle.grammar.specs.shapes.TablesIndex.{n-head, n-head-choice, n-head-optional, n-head-word, n-headPath, n-headPath-optional-LParen, n-identifier, n-otherName, n-pair, n-path-many-DoubleColon, n-pattern, n-tail-pair, n-type}
 use Rattle.parse.proofs.heads.paths.Statement.{statement}
 use Rattle.parse.proofs.heads.paths.Tie as tie

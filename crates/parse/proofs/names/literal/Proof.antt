@@ -1,7 +1,7 @@
 -- The kind of each class, and past the classes.
 -- Assumes nothing.
 use mathlib.Core.List.{[], _∷_}
-use Rattle.kinds.specs.Shape.{has}
+use Rattle.text.specs.Lists.{has}
 use Rattle.grammar.specs.records.Records.{literalHead}
 use Rattle.lexer.specs.Classes as t
 use Rattle.parse.proofs.choice.Keys.{keyed, unkeyed}

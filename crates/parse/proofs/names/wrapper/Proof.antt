@@ -2,8 +2,8 @@
 -- Assumes nothing.
 use mathlib.Core.List.{List, [], _∷_}
 use Prim.Native.Nat.{ℕ}
+use Rattle.text.specs.Lists.{has}
 use Rattle.lexer.specs.Classes as t
-use Rattle.kinds.specs.Shape.{has}
 use Rattle.kinds.specs.Rules.{wrappers}
 use Rattle.grammar.specs.records.Records.{placeIn}
 use Rattle.parse.proofs.choice.Keys.{keyed, unkeyed, place-past}

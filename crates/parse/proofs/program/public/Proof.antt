@@ -6,6 +6,7 @@ use mathlib.Core.List.{List, [], _∷_, _++_}
 use borrow.Author.Needs.{needs}
 use native.Mathlib.Omega.{arith}
 use lib.ListN.{length, getD}
+use Rattle.text.specs.Lists.{has}
 use Rattle.theory.specs.Grammar.{Sym, tok, nt}
 use Rattle.theory.specs.Machine.{expand}
 use Rattle.grammar.specs.shapes.Tables.{table}
@@ -23,7 +24,6 @@ use Rattle.parse.proofs.rule.Commas.{AnyN, Lined}
 use Rattle.parse.proofs.rule.Commas as lined
 use Rattle.parse.proofs.rule.Heads.{shut}
 use Rattle.parse.proofs.program.Forms as form
-use Rattle.kinds.specs.Shape.{has}
 use Rattle.kinds.specs.Fields.{counted}
 use Rattle.lexer.specs.Classes as class
 use Rattle.parse.proofs.names.Steps.{refuses-nt}
