@@ -11,7 +11,7 @@ use Rattle.own.specs.Kinds as kind
 use Rattle.own.specs.Arms as arm
 use Rattle.own.specs.Calls as call
 use Rattle.lexer.specs.Classes as t
-use Rattle.kinds.specs.Spelled.{spelled}
+use Rattle.kinds.specs.SpelledTest.{spelled}
 
 -- A record by its kind, low, high and pieces.
 record Case : Type 0 where

@@ -1,3 +1,4 @@
+pub mod Class
 pub mod Words
 pub mod Shape
 pub mod Families
@@ -6,6 +7,7 @@ pub mod Fields
 pub mod Rules
 pub mod Build
 pub mod Spelled
+pub mod SpelledTest
 pub mod Examples
 pub mod Ownership
 pub mod Trees

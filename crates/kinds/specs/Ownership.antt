@@ -15,15 +15,16 @@ use Rattle.text.specs.ListLaws.{all-keep, all-some, from-some, only-one}
 use Rattle.own.specs.Tree.{Items, none, mark, sub, Node, node, roots, marks, kids, Each, InOrder, Owning, Paired, partner, canonical, paired, tokens, records, Fine}
 use Rattle.own.specs.Law.{Sort, word, child, Ownership, sorts, Keeps}
 use Rattle.own.specs.Rules.{each-map, ownership}
-use Rattle.own.specs.Words.{toks, recs, handed}
+use Rattle.own.specs.Words.{toks, recs}
 use Rattle.own.specs.Kinds as kind
 use Rattle.own.specs.Arms as arm
-use Rattle.kinds.specs.Words.{classOf}
+use Rattle.own.specs.WordLaws.{handed}
 use Rattle.kinds.specs.Shape.{arm, fits, Shape, nothing, never, part, _▸_, _¦_, many, Spells, empty, one-mark, one-part, seq, left, right, stop, more}
 use Rattle.kinds.specs.Shape as shape
 use Rattle.lexer.specs.Classes as t
 use Rattle.kinds.specs.Rules.{forms, the, expression, braces, arms, partners}
 use Rattle.kinds.specs.Spelled.{formsOf, Spelled}
+use Rattle.kinds.specs.Class.{classOf}
 
 -- Whether every sequence of a shape has a mark.
 unfoldable pub marked : Shape → Bool

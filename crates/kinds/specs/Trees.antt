@@ -12,8 +12,9 @@ use Rattle.own.specs.Law.{Ownership, sorts, Keeps}
 use Rattle.own.specs.Kinds as kind
 use Rattle.own.specs.Arms as arm
 use Rattle.lexer.specs.Classes as t
-use Rattle.kinds.specs.Spelled.{Spelled, spelled, spelled-sound}
+use Rattle.kinds.specs.Spelled.{Spelled}
 use Rattle.kinds.specs.Ownership.{Right, law-3}
+use Rattle.kinds.specs.SpelledTest.{spelled, spelled-sound}
 
 -- Every node beneath spells the rule of its kind.
 unfoldable pub allSpelled : Items → Bool

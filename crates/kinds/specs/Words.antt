@@ -1,21 +1,15 @@
--- The class of a token of a draft, from its three words and its text: that of the lexer (document 01, "Lexemes"). With it, for every
--- word that the rules name, that this class is the number which the rules use.
+-- For every word that the rules name, that its class, which the lexer gives, is the number which the rules use.
 -- Assumes nothing.
 use mathlib.Core.List.{List, [], _∷_}
 use Prim.Native.Nat.{ℕ}
 use Prim.Native.String.{String}
 use lib.Dec.{T, eqb}
 use Rattle.text.specs.Ascii.{asciiFrom, ascii}
-use Rattle.text.specs.Part.{partOf}
 use Rattle.text.specs.Same.{same}
 use Rattle.text.specs.Lists.{some, all}
 use Rattle.words.specs.Words.{FUNCTION_RESERVED, MACROS, RULE_NAMES, BOOLEANS, RULE_WORDS, find, wordOf}
 use Rattle.lexer.specs.Class as lexer
 use Rattle.lexer.specs.Classes as t
-
--- The class of the token of this kind, start and end in a draft: its kind, or the word or macro that its text is.
-unfoldable pub classOf : List ℕ → ℕ → ℕ → ℕ → ℕ
-classOf draft k start stop = lexer.classOf k (partOf draft start stop)
 
 -- A word with the kind of its token and its class.
 pub record Word : Type 0 where

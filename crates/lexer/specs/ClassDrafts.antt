@@ -8,8 +8,10 @@ use Prim.Native.Nat.{ℕ, _+_, _-_, _≤_, _<_}
 use native.Mathlib.Omega.{arith}
 use lib.Dec.{T, eqb, ltb, leb, eqb→eq, leb→le, le→leb, ltb→lt}
 use lib.ListN.{length, getD, replicate}
+use Rattle.text.specs.Lists.{has}
 use Rattle.text.specs.Ascii.{ascii, asciiFrom}
-use Rattle.text.specs.Same.{same, same-true}
+use Rattle.text.specs.Same.{same}
+use Rattle.text.specs.SameLaws.{same-true}
 use Rattle.text.specs.Table.{all, each, every, at, is-true, first-of, second-of}
 use Rattle.words.specs.Right.{Says, says}
 use Rattle.words.specs.Words.{FUNCTION_RESERVED, KEYWORDS, MACROS, MODULE_RESERVED, RULE_NAMES, BOOLEANS, RULE_WORDS, find, wordOf}
@@ -74,7 +76,7 @@ sample-tests c s =
 
 -- computed over all classes
 samples-pass : T (every {A = ℕ} (λ c x. not (given c) || all (sample-tests c (sampleOf c))) 0 (replicate (t.true + 1) 0))
-unfolding sameLexeme samples sampleIn given neverGiven classOf wordOf find same FUNCTION_RESERVED KEYWORDS MACROS MODULE_RESERVED RULE_NAMES BOOLEANS RULE_WORDS ascii asciiFrom among whitespace lineEnds plainBytes binaryDigits decimalDigits hexDigits underscore nameStarts nameBytes run begins space comment lineComment inside closing blockComment nameLength qualified macro word digits hexadecimal binary decimal marks mark noLexeme lexeme
+unfolding sameLexeme samples sampleIn given neverGiven classOf wordOf find same FUNCTION_RESERVED KEYWORDS MACROS MODULE_RESERVED RULE_NAMES BOOLEANS RULE_WORDS ascii asciiFrom among whitespace lineEnds plainBytes binaryDigits decimalDigits hexDigits underscore nameStarts nameBytes run begins space comment lineComment inside closing blockComment nameLength qualified macro word digits hexadecimal binary decimal marks mark noLexeme lexeme has
 samples-pass = tt
 
 module _ (c : ℕ) (g : T (given c)) where

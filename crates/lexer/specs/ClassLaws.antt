@@ -11,7 +11,7 @@ use borrow.Author.Tests.{eq-eqb, eqb-true}
 use lib.Dec.{T, eqb, ltb, leb, ltb→lt, T-not}
 use lib.ListN.{length, replicate}
 use Rattle.text.specs.Ascii.{ascii, asciiFrom}
-use Rattle.text.specs.Refusals.{oneOf}
+use Rattle.text.specs.Lists.{has}
 use Rattle.text.specs.Same.{same}
 use Rattle.text.specs.Table.{every, at, first-of, second-of}
 use Rattle.words.specs.Members.{found-in, plain-out, found-passes}
@@ -28,24 +28,26 @@ use Rattle.lexer.specs.TokenKinds.{otherKind, Kind, a-name, a-boolean, a
 
 -- ---- members by their test
 
-listed : (l : List ℕ) (n : ℕ) → T (oneOf l n) → List·Memᴰ n l
+listed : (l : List ℕ) (n : ℕ) → T (has l n) → List·Memᴰ n l
+unfolding has
 listed [] n h = absurd h
-listed (m ∷ l) n h = go (eqb n m) refl h (listed l n)
+listed (m ∷ l) n h = go (eqb m n) refl h (listed l n)
   where
-    go : (b : Bool) → eqb n m ≡ b → T (b || oneOf l n) → (T (oneOf l n) → List·Memᴰ n l) → List·Memᴰ n (m ∷ l)
-    go true q h f = List·Memᴰ·head (eqb-true n m q)
+    go : (b : Bool) → eqb m n ≡ b → T (b || has l n) → (T (has l n) → List·Memᴰ n l) → List·Memᴰ n (m ∷ l)
+    go true q h f = List·Memᴰ·head (sym (eqb-true m n q))
     go false q h f = List·Memᴰ·tail (f h)
 
-member-test : {l : List ℕ} {n : ℕ} → List·Memᴰ n l → T (oneOf l n)
-member-test {n = n} (List·Memᴰ·head {x = x} {xs = l} e) = subst (λ b. T (b || oneOf l n)) (sym (eq-eqb n x e)) tt
-member-test {n = n} (List·Memᴰ·tail {x = x} {xs = l} m) = go (eqb n x) (member-test m)
+member-test : {l : List ℕ} {n : ℕ} → List·Memᴰ n l → T (has l n)
+unfolding has
+member-test {n = n} (List·Memᴰ·head {x = x} {xs = l} e) = subst (λ b. T (b || has l n)) (sym (eq-eqb x n (sym e))) tt
+member-test {n = n} (List·Memᴰ·tail {x = x} {xs = l} m) = go (eqb x n) (member-test m)
   where
-    go : (b : Bool) → T (oneOf l n) → T (b || oneOf l n)
+    go : (b : Bool) → T (has l n) → T (b || has l n)
     go true h = tt
     go false h = h
 
-unlisted : (l : List ℕ) (n : ℕ) → T (not (oneOf l n)) → ¬ List·Memᴰ n l
-unlisted l n h m = T-not (oneOf l n) h (member-test m)
+unlisted : (l : List ℕ) (n : ℕ) → T (not (has l n)) → ¬ List·Memᴰ n l
+unlisted l n h m = T-not (has l n) h (member-test m)
 
 abbrev isWord : Found → Bool
 isWord (Word i) = true
@@ -55,31 +57,31 @@ isWord Plain = false
 
 -- a word of the rules that is a name token's text: its class is given, and it is sorted by FUNCTION_RESERVED
 abbrev sorted : Bool → ℕ → Bool
-sorted true c = oneOf t.reserved c && not (oneOf t.functionNames c)
-sorted false c = oneOf t.functionNames c && not (oneOf t.reserved c)
+sorted true c = has t.reserved c && not (has t.functionNames c)
+sorted false c = has t.functionNames c && not (has t.reserved c)
 
 abbrev name-test : ℕ → List ℕ → Bool
 name-test i w = isWord (wordOf KEYWORDS w) || (not (eqb (nameLength w) (length w)) || (given (t.words + i) && sorted (isWord (wordOf FUNCTION_RESERVED w)) (t.words + i)))
 
 names-pass : T (every name-test 0 RULE_WORDS)
-unfolding wordOf find same FUNCTION_RESERVED KEYWORDS MACROS RULE_NAMES BOOLEANS RULE_WORDS ascii asciiFrom nameLength run among nameBytes nameStarts underscore decimalDigits given neverGiven classOf
+unfolding wordOf find same FUNCTION_RESERVED KEYWORDS MACROS RULE_NAMES BOOLEANS RULE_WORDS ascii asciiFrom nameLength run among nameBytes nameStarts underscore decimalDigits given neverGiven classOf has
 names-pass = tt
 
 -- a class is given, and no name's
 abbrev nameless : ℕ → Bool
-nameless c = given c && not (oneOf t.identifiers c)
+nameless c = given c && not (has t.identifiers c)
 
 booleans-pass : T (every (λ i w. not (ltb t.Simc (t.Pub + i)) || nameless (classOf t.Bool w)) 0 KEYWORDS)
-unfolding wordOf find same FUNCTION_RESERVED KEYWORDS MACROS RULE_NAMES BOOLEANS RULE_WORDS ascii asciiFrom given neverGiven classOf
+unfolding wordOf find same FUNCTION_RESERVED KEYWORDS MACROS RULE_NAMES BOOLEANS RULE_WORDS ascii asciiFrom given neverGiven classOf has
 booleans-pass = tt
 
 macros-pass : T (every (λ i w. nameless (classOf t.Macro w)) 0 MACROS)
-unfolding wordOf find same FUNCTION_RESERVED MACROS RULE_NAMES BOOLEANS RULE_WORDS ascii asciiFrom given neverGiven classOf
+unfolding wordOf find same FUNCTION_RESERVED MACROS RULE_NAMES BOOLEANS RULE_WORDS ascii asciiFrom given neverGiven classOf has
 macros-pass = tt
 
 -- the kinds that are classes themselves
 others-pass : T (every {A = ℕ} (λ k x. not (otherKind k) || (not (eqb k t.Bool || eqb k t.Ident || eqb k t.Macro) && nameless k)) 0 (replicate t.words 0))
-unfolding wordOf find same FUNCTION_RESERVED MACROS RULE_NAMES BOOLEANS RULE_WORDS ascii asciiFrom given neverGiven classOf
+unfolding wordOf find same FUNCTION_RESERVED MACROS RULE_NAMES BOOLEANS RULE_WORDS ascii asciiFrom given neverGiven classOf has
 others-pass = tt
 
 -- ---- names
@@ -96,9 +98,9 @@ reserved-word m = Memᴰ·append-left BOOLEANS (Memᴰ·append-left MACROS (Mem�
 
 by-test : (w : List ℕ) (f : Found) → wordOf FUNCTION_RESERVED w ≡ f → (c : ℕ) → T (sorted (isWord f) c) → Sorted w c
 by-test w (Word i) q c h =
-    taken (found-in FUNCTION_RESERVED w i q) (listed t.reserved c (first-of (oneOf t.reserved c) _ h)) (unlisted t.functionNames c (second-of (oneOf t.reserved c) _ h))
+    taken (found-in FUNCTION_RESERVED w i q) (listed t.reserved c (first-of (has t.reserved c) _ h)) (unlisted t.functionNames c (second-of (has t.reserved c) _ h))
 by-test w Plain q c h =
-    free (plain-out FUNCTION_RESERVED w q) (listed t.functionNames c (first-of (oneOf t.functionNames c) _ h)) (unlisted t.reserved c (second-of (oneOf t.functionNames c) _ h))
+    free (plain-out FUNCTION_RESERVED w q) (listed t.functionNames c (first-of (has t.functionNames c) _ h)) (unlisted t.reserved c (second-of (has t.functionNames c) _ h))
 
 -- of a name that is no keyword
 name-passes : (w : List ℕ) → nameLength w ≡ length w → wordOf KEYWORDS w ≡ Plain → (i : ℕ) → wordOf RULE_WORDS w ≡ Word i
@@ -108,6 +110,7 @@ name-passes w l q i e =
     rw (q, eq-eqb (nameLength w) (length w) l) at h
 
 plain-name : (w : List ℕ) → wordOf RULE_WORDS w ≡ Plain → Sorted w t.Ident
+unfolding has
 plain-name w e = free (λ m. plain-out RULE_WORDS w e (reserved-word m)) (listed t.functionNames t.Ident tt) (unlisted t.reserved t.Ident tt)
 
 name-sorted : (w : List ℕ) → nameLength w ≡ length w → wordOf KEYWORDS w ≡ Plain → Sorted w (classOf t.Ident w)
@@ -119,7 +122,7 @@ name-sorted w l q = go (wordOf RULE_WORDS w) refl
     go Plain e = plain-name w e
 
 name-given : (w : List ℕ) → nameLength w ≡ length w → wordOf KEYWORDS w ≡ Plain → T (given (classOf t.Ident w))
-unfolding classOf given neverGiven wordOf find same FUNCTION_RESERVED MACROS RULE_NAMES BOOLEANS RULE_WORDS ascii asciiFrom
+unfolding classOf given neverGiven wordOf find same FUNCTION_RESERVED MACROS RULE_NAMES BOOLEANS RULE_WORDS ascii asciiFrom has
 name-given w l q = go (wordOf RULE_WORDS w) refl
   where
     go : (f : Found) → wordOf RULE_WORDS w ≡ f → T (given (wordClass f t.Ident))
@@ -152,6 +155,7 @@ data Sort (k : ℕ) (w : List ℕ) : Type 0 where
   unnamed : ¬ (k ≡ t.Ident) → T (nameless (classOf k w)) → Sort k w
 
 sort-of : {k : ℕ} {w : List ℕ} → OneToken k w → Sort k w
+unfolding has
 sort-of {k} {w} o = go (kind-of w k o)
   where
     go : Kind w k → Sort k w

@@ -7,7 +7,7 @@ use Prim.Native.Nat.{ℕ}
 use Prim.Native.String.{String}
 use lib.Dec.{T, eqb, leb}
 use Rattle.text.specs.Ascii.{ascii}
-use Rattle.text.specs.Refusals.{oneOf}
+use Rattle.text.specs.Lists.{has}
 use Rattle.lexer.specs.Class.{classOf}
 use Rattle.lexer.specs.Classes as t
 use Rattle.lexer.specs.Lexemes.{Token}
@@ -108,7 +108,7 @@ neverGiven = t.Simc ∷ t.Bool ∷ t.Macro ∷ classOf t.Ident (ascii "match") �
 
 -- The classes of tokens.
 unfoldable pub given : ℕ → Bool
-given c = leb t.Pub c && leb c t.true && not (oneOf neverGiven c)
+given c = leb t.Pub c && leb c t.true && not (has neverGiven c)
 
 -- each of them is one
 abbrev pub AllGiven : List ℕ → Type 0

@@ -9,7 +9,7 @@ use lib.Dec.{T, eqb, ltb, leb}
 use lib.ListN.{length, take, drop}
 use lib.Seq.{take-length}
 use Rattle.text.specs.Ascii.{ascii}
-use Rattle.text.specs.Refusals.{oneOf}
+use Rattle.text.specs.Lists.{has}
 use Rattle.text.specs.Refusals as refusal
 use Rattle.text.specs.Table.{every, first-of, second-of}
 use Rattle.words.specs.Members.{found-passes}
@@ -24,7 +24,7 @@ use Rattle.lexer.specs.Texts.{OneToken}
 
 -- the kinds that are classes themselves, names apart: keywords, marks, numbers, jets, witnesses and parameters
 abbrev pub otherKind : ℕ → Bool
-otherKind k = leb t.Pub k && ltb k t.words && not (oneOf (t.Simc ∷ t.Bool ∷ t.Ident ∷ t.Macro ∷ []) k)
+otherKind k = leb t.Pub k && ltb k t.words && not (has (t.Simc ∷ t.Bool ∷ t.Ident ∷ t.Macro ∷ []) k)
 
 -- A name token is a name and no keyword, a boolean is one of the two, a macro one of the four.
 pub data Kind (w : List ℕ) (k : ℕ) : Type 0 where
@@ -46,12 +46,12 @@ cond-any true o f e = f e
 cond-any false o f e = clash e
 
 module-kinds : T (every (λ i w. otherKind (t.Jet + i)) 0 MODULE_RESERVED)
-unfolding MODULE_RESERVED
+unfolding MODULE_RESERVED has
 module-kinds = tt
 
 -- a keyword's kind, if it is neither `simc` nor a boolean
 keyword-kinds : T (every (λ i w. eqb (t.Pub + i) t.Simc || (ltb t.Simc (t.Pub + i) || otherKind (t.Pub + i))) 0 KEYWORDS)
-unfolding KEYWORDS
+unfolding KEYWORDS has
 keyword-kinds = tt
 
 abbrev kinds : List Mark → Bool
@@ -59,7 +59,7 @@ kinds [] = true
 kinds (m ∷ ms) = otherKind (m .kind) && kinds ms
 
 mark-kinds : T (kinds marks)
-unfolding marks
+unfolding marks has
 mark-kinds = tt
 
 of-module : (p : List ℕ) (f : Found) → wordOf MODULE_RESERVED p ≡ f → (n : ℕ) {k m : ℕ} → moduleToken f n ≡ some (token k m) → T (otherKind k)
@@ -147,7 +147,7 @@ module _ (w : List ℕ) (k : ℕ) where
 
   -- The kind of a token, by its text.
   pub kind-of : OneToken k w → Kind w k
-  unfolding lexeme space lineComment blockComment hexadecimal binary decimal
+  unfolding lexeme space lineComment blockComment hexadecimal binary decimal has
   kind-of o =
       or-any (space w) _ (some-any (among whitespace (first w)) (trivia (run (among whitespace) w)) no-trivia)
       (or-any (lineComment w) _ (some-any (begins (ascii "//") w) (comment (lineLength w) w) (no-comment (lineLength w) w))

@@ -8,7 +8,8 @@ use lib.ListN.{length, take, drop, length-append, take-append-drop}
 use lib.Seq.{take-at, drop-at, take-add, take-append-seam, drop-append-add, length-take-le, sets, sets-eq, length-sets}
 use Rattle.own.specs.Tree.{Items, none, mark, sub, Node, yield, begin, end, turned, arrange, concat, roots, records}
 use Rattle.text.specs.Widths.{recWide}
-use Rattle.own.specs.Words.{recThen, recs, nodeWords, words, wordGroups, sizes, recs-are}
+use Rattle.own.specs.Words.{recThen, recs, nodeWords, words, wordGroups, sizes}
+use Rattle.own.specs.WordLaws.{recs-are}
 
 -- from w with `out` records to w′ with out′: the words ws came after
 pub record Laid (w : List ℕ) (out : ℕ) (w′ : List ℕ) (out′ : ℕ) (ws : List ℕ) : Type 0 where

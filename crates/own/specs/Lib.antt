@@ -11,6 +11,7 @@ pub mod Owners
 pub mod Partners
 pub mod Rules
 pub mod Words
+pub mod WordLaws
 pub mod Laid
 pub mod Examples
 pub mod Kinds

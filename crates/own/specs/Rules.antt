@@ -1,7 +1,7 @@
 -- Law 3 holds of what is handed over of trees side by side whose nodes each keep the rule of their kind.
 -- Assumes nothing.
 use mathlib.Core.Path.{_≡_, refl, sym, ap, _∙_, subst}
-use mathlib.Core.Bool.{Bool, true, false, _&&_, _||_}
+use mathlib.Core.Bool.{Bool, true, false, _&&_}
 use mathlib.Core.List.{List, [], _∷_, _++_, map, append-assoc}
 use mathlib.Core.Logic.{_≢_, _⊎_, inl, inr}
 use Prim.Native.Nat.{ℕ, _<_, _≤_}
@@ -12,7 +12,7 @@ use lib.ListN.{length, getD, length-map}
 use Rattle.text.specs.Table.{first-of, second-of, or-cases}
 use Rattle.own.specs.Tree.{Tok, Items, none, mark, sub, Node, node, roots, yield, kids, Each, Marked, Paired, InOrder, begin, end, partner, canonical, paired, reversed, turned, arrange, groups, recordOf, tokens, all, records, Fine}
 use Rattle.own.specs.Flat.{blank, children}
-use Rattle.own.specs.Law.{Sort, word, child, classAt, sortOf, made, Rule, firstClass, sorts, Keeps, Ordered, Canonical, Ownership}
+use Rattle.own.specs.Law.{word, classAt, sortOf, made, Rule, firstClass, sorts, Keeps, Ordered, Canonical, Ownership}
 use Rattle.own.specs.Lists.{All, nil, _&_, all-arrange, all-concat, all-at}
 use Rattle.own.specs.Places.{order-left, order-right, order-le, begin-le, marks-few}
 use Rattle.own.specs.Merge.{pieces}

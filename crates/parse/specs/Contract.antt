@@ -25,10 +25,10 @@ use Rattle.text.specs.Refusals as refusal
 use Rattle.text.specs.Lists.{has}
 use Rattle.own.specs.Words.{recThen, toks, sizes, wordGroups}
 use Rattle.own.specs.Kinds as kind
-use Rattle.kinds.specs.Words.{classOf}
 use Rattle.kinds.specs.Shape.{halfRange}
 use Rattle.kinds.specs.Fields.{counted}
 use Rattle.kinds.specs.Families as family
+use Rattle.kinds.specs.Class.{classOf}
 use Rattle.lexer.specs.Classes as t
 use Rattle.grammar.specs.shapes.Shapes.{shapes}
 use Rattle.grammar.specs.shapes.Tables.{means, table}

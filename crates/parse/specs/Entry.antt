@@ -17,7 +17,6 @@ use Rattle.own.specs.Words.{recWords}
 use Rattle.own.specs.Tree.{classesOf}
 use Rattle.grammar.specs.Entry.{Entry}
 use Rattle.grammar.specs.shapes.WellShaped.{shapeOf}
-use Rattle.grammar.specs.spelled.TreeTokens.{classesOf}
 use Rattle.grammar.specs.answers.Answer.{toksOf, startOf, Reading, shaped, fitted, content, recordsIn}
 use Rattle.parse.specs.Contract.{Text, kept, Stands}
 use Rattle.parse.specs.declared.State.{State}

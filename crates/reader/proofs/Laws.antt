@@ -21,7 +21,6 @@ use Rattle.own.specs.Words.{recWords}
 use Rattle.own.specs.Tree.{classesOf}
 use Rattle.grammar.specs.Entry.{Entry}
 use Rattle.grammar.specs.shapes.WellShaped.{shapeOf}
-use Rattle.grammar.specs.spelled.TreeTokens.{classesOf}
 use Rattle.grammar.specs.answers.Answer.{toksOf, Reading, shaped, lexed, reading, fitted, answer, content, tokensRead, recordsIn, tokenBuffer, treeBuffer, recordsRead}
 use Rattle.grammar.specs.answers.Laws.{token-buffer-lexed, law-4-refused}
 use Rattle.parse.specs.Entry.{tooMany, readingOf, answerOf, treeOf}

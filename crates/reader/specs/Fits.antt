@@ -12,7 +12,7 @@ use lib.Dec.{ltb}
 use lib.ListN.{length}
 use Rattle.lexer.specs.Limits.{Limits, draftLimits}
 use Rattle.own.specs.Kinds as kind
-use Rattle.own.specs.Tree.{Node, Rec, records}
+use Rattle.own.specs.Tree.{Node, Rec, records, classesOf}
 use Rattle.text.specs.Widths.{tokWide, recWide}
 use Rattle.text.specs.Refusals as refusal
 use Rattle.grammar.specs.Entry.{oneFunction}
@@ -22,7 +22,7 @@ use Rattle.grammar.specs.answers.Outcome.{Accepted}
 use Rattle.grammar.specs.answers.OutcomeLaws.{read-faultless}
 use Rattle.grammar.specs.answers.Laws.{law-1}
 use Rattle.grammar.specs.shapes.WellShaped.{shape-exactly}
-use Rattle.grammar.specs.spelled.TreeTokens.{classesOf, top-function}
+use Rattle.grammar.specs.spelled.TreeTokens.{top-function}
 use Rattle.lines.specs.Lines.{lineBytes, lines, lines-length}
 use Rattle.grammar.specs.answers.Lines.{listed, listing}
 use Rattle.reader.specs.Listed.{listingOf, usedOf}

@@ -1,6 +1,7 @@
 pub mod Part
 pub mod Ascii
 pub mod Same
+pub mod SameLaws
 pub mod Table
 pub mod Lists
 pub mod ListLaws

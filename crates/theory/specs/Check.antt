@@ -2,16 +2,14 @@
 -- begin with is in `first`, that the table chooses it there, and that what may follow its nonterminals is in their `follow`;
 -- of each nonterminal, that it has a word.
 -- Assumes nothing.
-use mathlib.Core.Path.{_≡_, refl, sym, subst}
+use mathlib.Core.Path.{_≡_}
 use mathlib.Core.Logic.{_⊎_, inl, inr}
 use mathlib.Core.Bool.{Bool, true, false, not, _&&_, _||_}
 use mathlib.Core.List.{List, [], _∷_, _++_}
 use mathlib.Core.Option.{Option, none, some}
 use Prim.Native.Nat.{ℕ, zero, suc}
 use native.Mathlib.Omega.{arith}
-use borrow.Author.Tests.{eqb-true}
 use lib.Dec.{T, eqb}
-use lib.ListN.{getD}
 use Rattle.text.specs.Table.{first-of, second-of}
 use Rattle.text.specs.Lists.{has, all}
 use Rattle.text.specs.ListLaws.{all-has, all-getD}

@@ -10,8 +10,9 @@ use lib.Dec.{T, eqb, leb, eqb→eq, leb→le}
 use lib.ListN.{length, getD, take, drop, length-drop}
 use lib.Seq.{getD-take, getD-drop, length-take-le}
 use Rattle.text.specs.Ascii.{ascii, asciiFrom}
-use Rattle.text.specs.Same.{same, same-true}
+use Rattle.text.specs.Same.{same}
 use Rattle.text.specs.Table.{every, at, table-at, all, each, is-true}
+use Rattle.text.specs.SameLaws.{same-true}
 use Rattle.words.specs.Words.{FUNCTION_RESERVED, KEYWORDS, MACROS, MODULE_RESERVED, RULE_NAMES, BOOLEANS, RULE_WORDS, UINT_TYPES, BUILTIN_ALIASES, BOOL, TYPE_NAMES}
 use Rattle.words.specs.Layout.{tables, entries, letters, slotOf, Hash, hashes}
 use Rattle.words.specs.Lies.{Lies, Only}

@@ -7,7 +7,8 @@ use Prim.Native.Nat.{ℕ, zero, suc, _+_, _≤_, _<_}
 use native.Mathlib.Nat.{le-of-suc-le-suc, not-suc-le-zero}
 use native.Mathlib.Omega.{arith}
 use lib.ListN.{length, getD}
-use Rattle.text.specs.Same.{same, same-true, same-self, differ}
+use Rattle.text.specs.Same.{same, differ}
+use Rattle.text.specs.SameLaws.{same-true, same-self}
 use Rattle.words.specs.Lies.{Only}
 use Rattle.words.specs.Words.{find, wordOf}
 use Rattle.words.specs.declared.Found.{Found}

@@ -11,12 +11,12 @@ use Rattle.theory.specs.Ebnf.{Items}
 use Rattle.theory.specs.Parse.{Found, found, stuck}
 use Rattle.lexer.specs.Lexemes.{Token, lexemes}
 use Rattle.lexer.specs.Limits.{Limits, noToken, lexedOf, tokenWords, tokensOf}
-use Rattle.own.specs.Tree.{Tok, Node, Rec}
+use Rattle.own.specs.Tree.{Tok, Node, Rec, classesOf}
 use Rattle.text.specs.Widths.{recWide}
 use Rattle.text.specs.Answers.{Answer, accepted, refused}
 use Rattle.text.specs.Refusals as refusal
 use Rattle.own.specs.Words.{recWords}
-use Rattle.kinds.specs.Words.{classOf}
+use Rattle.kinds.specs.Class.{classOf}
 use Rattle.grammar.specs.Entry.{Entry, recordsOf}
 use Rattle.grammar.specs.shapes.WellShaped.{shapeOf}
 use Rattle.grammar.specs.records.Records.{recordTrees}

@@ -7,6 +7,7 @@ use mathlib.Core.Path.{_≡_, refl, sym, ap, ap₂, _∙_, subst}
 use Prim.Native.Nat.{ℕ, zero, suc, _≤_, _<_}
 use native.Mathlib.Omega.{arith}
 use lib.ListN.{length, take, drop}
+use Rattle.own.specs.Tree.{classesOf}
 use Rattle.theory.specs.Ebnf.{FirstWrong}
 use Rattle.lexer.specs.Lexemes.{Token, tokens, lexemes}
 use Rattle.lexer.specs.Limits.{Limits}
@@ -14,12 +15,11 @@ use Rattle.lexer.specs.Class.{classOf}
 use Rattle.lexer.specs.ClassTexts.{AllGiven, continuedWith}
 use Rattle.lexer.specs.ClassDrafts.{continued}
 use Rattle.lexer.specs.Texts.{textIn, classIn}
-use Rattle.kinds.specs.Words as kinds
+use Rattle.kinds.specs.Class as kinds
 use Rattle.grammar.specs.Entry.{Entry, startEx}
 use Rattle.grammar.specs.shapes.Shapes.{shapes}
 use Rattle.grammar.specs.shapes.WellShaped.{WellShaped}
 use Rattle.grammar.specs.shapes.TokenClasses.{well-shaped-given}
-use Rattle.grammar.specs.spelled.TreeTokens.{classesOf}
 use Rattle.grammar.specs.answers.Answer.{toksOf, startOf}
 use Rattle.grammar.specs.answers.TokensInOrder.{classes-length}
 use Rattle.grammar.specs.answers.Outcome.{Within, spelled, Continued, Misshapen}

@@ -21,13 +21,13 @@ use Rattle.lexer.specs.Tokens.{lexeme-refused}
 use Rattle.own.specs.Tree.{Tok, Node, Rec, tokens, classesOf}
 use Rattle.text.specs.Widths.{tokWide, recWide}
 use Rattle.text.specs.Answers.{Answer, accepted, refused}
-use Rattle.text.specs.Refusals.{oneOf}
 use Rattle.text.specs.Refusals as refusal
 use Rattle.text.specs.Lists.{has}
-use Rattle.own.specs.Words.{toks, recs, recWords, recs-words}
-use Rattle.kinds.specs.Words.{classOf}
+use Rattle.own.specs.Words.{toks, recs, recWords}
+use Rattle.own.specs.WordLaws.{recs-words}
 use Rattle.kinds.specs.Ownership.{Right}
 use Rattle.kinds.specs.Ownership as kinds
+use Rattle.kinds.specs.Class.{classOf}
 use Rattle.grammar.specs.shapes.Shapes.{shapes}
 use Rattle.grammar.specs.Entry.{Entry, oneFunction, startEx, recordsOf, Owned, over}
 use Rattle.grammar.specs.shapes.WellShaped.{WellShaped, shapeOf, shape-exactly, one-shape}
@@ -99,11 +99,11 @@ module _ (en : Entry) (l : Limits) (draft : List ℕ) (tw rw : ℕ) where
   row-misshapen : {c p : ℕ} → Refusal en l draft tw rw c p → c ≡ refusal.Misshapen → Misshapen en l draft tw p
   unfolding has
   row-misshapen (too-long h) q = absurd (omega arith)
-  row-misshapen (bad-bytes {c = c} {p = p} h e) q = absurd (subst (λ n. T (oneOf refusal.ofBytes n)) q (lexeme-refused draft c p (rows.refused-exactly draft c p .1 e) .0))
+  row-misshapen (bad-bytes {c = c} {p = p} h e) q = absurd (subst (λ n. T (has refusal.ofBytes n)) q (lexeme-refused draft c p (rows.refused-exactly draft c p .1 e) .0))
   row-misshapen (too-many h e k) q = absurd (omega arith)
   row-misshapen (too-deep h e k f) q = absurd (omega arith)
   row-misshapen (misshapen w) q = w
-  row-misshapen (faulted {ts = ts} {r = r} {f = f} s e) q = absurd (subst (λ n. T (oneOf refusal.ofShapes n)) q (fault-numbers draft (toksOf draft ts) r f e))
+  row-misshapen (faulted {ts = ts} {r = r} {f = f} s e) q = absurd (subst (λ n. T (has refusal.ofShapes n)) q (fault-numbers draft (toksOf draft ts) r f e))
   row-misshapen (no-room s e h) q = absurd (omega arith)
 
   -- Law 2. Row 8, both halves: "the tokens before this one can be continued to a well-shaped draft, but not with this one", at "its
@@ -206,11 +206,11 @@ module _ (en : Entry) (l : Limits) (draft : List ℕ) (tw rw : ℕ) where
     where
       row-no-room : {c q : ℕ} → Refusal en l draft tw rw c q → c ≡ refusal.NoRoom → ⊥
       row-no-room (too-long x) y = omega arith
-      row-no-room (bad-bytes {c = c} {p = q} x e) y = subst (λ n. T (oneOf refusal.ofBytes n)) y (lexeme-refused draft c q (rows.refused-exactly draft c q .1 e) .0)
+      row-no-room (bad-bytes {c = c} {p = q} x e) y = subst (λ n. T (has refusal.ofBytes n)) y (lexeme-refused draft c q (rows.refused-exactly draft c q .1 e) .0)
       row-no-room (too-many x e k) y = omega arith
       row-no-room (too-deep x e k f) y = omega arith
       row-no-room (misshapen w) y = omega arith
-      row-no-room (faulted {ts = ts} {r = r} {f = f} s e) y = subst (λ n. T (oneOf refusal.ofShapes n)) y (fault-numbers draft (toksOf draft ts) r f e)
+      row-no-room (faulted {ts = ts} {r = r} {f = f} s e) y = subst (λ n. T (has refusal.ofShapes n)) y (fault-numbers draft (toksOf draft ts) r f e)
       row-no-room (no-room {ts = ts} {r = r} s e x) y = let z = few-records ts r s e in let w = s .within .few in omega arith
 
 -- All laws at once, of any answer and words that are the definition's.

@@ -11,14 +11,13 @@ use Rattle.lexer.specs.Lexemes.{Token, tokens, lexemes}
 use Rattle.lexer.specs.Limits.{Limits, tooDeep, room, noToken, tokenWords}
 use Rattle.lexer.specs.Rows.{Earliest}
 use Rattle.lexer.specs.Texts.{textIn}
-use Rattle.own.specs.Tree.{Rec}
+use Rattle.own.specs.Tree.{Rec, classesOf}
 use Rattle.own.specs.Words.{recWords}
 use Rattle.text.specs.Widths.{tokWide, recWide}
 use Rattle.text.specs.Refusals as refusal
 use Rattle.grammar.specs.Entry.{Entry}
 use Rattle.grammar.specs.shapes.WellShaped.{Shape, WellShaped}
 use Rattle.grammar.specs.records.Faults.{Fault, faultOf}
-use Rattle.grammar.specs.spelled.TreeTokens.{classesOf}
 use Rattle.grammar.specs.answers.Answer.{toksOf, startOf, recordsFor}
 
 -- The draft lexes to these tokens, within the limits: no refusal of the lexer's.

@@ -10,6 +10,7 @@ use native.Mathlib.Omega.{arith}
 use borrow.Author.Tests.{ltb-true, ltb-false, lt-ltb, le-ltb}
 use lib.Dec.{ltb}
 use lib.ListN.{length, getD}
+use Rattle.own.specs.Tree.{classesOf}
 use Rattle.theory.specs.Ebnf.{Items, yield, FirstWrong}
 use Rattle.theory.specs.Parse.{Found, found, stuck}
 use Rattle.lexer.specs.Lexemes.{Token, Lexemes, tokens, refusedAt, lexemes}
@@ -22,7 +23,6 @@ use Rattle.grammar.specs.shapes.Shapes.{shapes}
 use Rattle.grammar.specs.Entry.{Entry, startEx}
 use Rattle.grammar.specs.shapes.WellShaped.{Shape, shapeOf, shape-exactly, stuck-shape-exactly}
 use Rattle.grammar.specs.records.Faults.{Fault, faultOf}
-use Rattle.grammar.specs.spelled.TreeTokens.{classesOf}
 use Rattle.grammar.specs.answers.Answer.{toksOf, startOf, recordsFor, Reading, unread, read, faulty, shaped, lexed, reading, fitted, answer}
 use Rattle.grammar.specs.answers.Outcome.{Within, Shaped, Misshapen, Refusal, too-long, bad-bytes, too-many, too-deep, misshapen, faulted, no-room, Accepted}
 use Rattle.grammar.specs.answers.Continuations.{misshapen-at, first-wrong-at}

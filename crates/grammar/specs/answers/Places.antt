@@ -9,6 +9,7 @@ use native.Mathlib.Omega.{arith}
 use borrow.Author.Tests.{ltb-true}
 use lib.Dec.{eqb, ltb}
 use lib.ListN.{length, getD, drop}
+use Rattle.own.specs.Law.{sorts}
 use Rattle.text.specs.Answers.{refused}
 use Rattle.text.specs.Refusals as refusal
 use Rattle.theory.specs.Ebnf as shape
@@ -18,7 +19,6 @@ use Rattle.lexer.specs.RowLaws as rows
 use Rattle.lexer.specs.Tokens.{Between, tokens-between, lexeme-refused}
 use Rattle.own.specs.Tree.{Tok, Items, marks}
 use Rattle.own.specs.Lists.{All, nil, _&_}
-use Rattle.own.specs.Rules.{sorts}
 use Rattle.lexer.specs.Classes as t
 use Rattle.grammar.specs.shapes.Row.{Refused, never, byBound, byFold, byArms}
 use Rattle.grammar.specs.records.Records.{opening, firstTok, firstOf, recorded, recordItems}

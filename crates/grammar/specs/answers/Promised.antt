@@ -10,7 +10,7 @@ use Rattle.text.specs.Answers.{Answer, accepted, refused}
 use Rattle.text.specs.Refusals as refusal
 use Rattle.lexer.specs.Limits.{Limits}
 use Rattle.own.specs.Words.{toks, recs}
-use Rattle.kinds.specs.Words.{classOf}
+use Rattle.kinds.specs.Class.{classOf}
 use Rattle.grammar.specs.Entry.{Entry, Owned}
 use Rattle.grammar.specs.answers.Answer.{recordsFor}
 use Rattle.grammar.specs.answers.Outcome.{Misshapen, Refusal, Accepted, Written}

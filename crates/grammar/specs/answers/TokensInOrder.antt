@@ -11,7 +11,7 @@ use Rattle.lexer.specs.Tokens.{Between, tokens-between}
 use Rattle.own.specs.Tree.{InOrder, Rec, classesOf}
 use Rattle.text.specs.Widths.{tokWide, recWide}
 use Rattle.own.specs.Words.{toks, recWords}
-use Rattle.kinds.specs.Words.{classOf}
+use Rattle.kinds.specs.Class.{classOf}
 use Rattle.grammar.specs.spelled.TreeTokens.{length-classes}
 use Rattle.grammar.specs.answers.Answer.{toksOf}
 

@@ -26,8 +26,8 @@ use Rattle.theory.specs.Same.{ex}
 use Rattle.theory.specs.Exec.{thenWord, thenRest, thenSub, exec}
 use Rattle.theory.specs.Fuel.{saves, need}
 use Rattle.theory.specs.Parse.{judge, parse}
-use Rattle.kinds.specs.Words.{classOf}
 use Rattle.kinds.specs.Fields.{counted}
+use Rattle.kinds.specs.Class.{classOf}
 use Rattle.grammar.specs.shapes.Shapes.{shapes}
 use Rattle.grammar.specs.shapes.Tables.{table, means}
 use Rattle.grammar.specs.Entry.{Entry, oneFunction}
@@ -36,8 +36,7 @@ use Rattle.grammar.specs.records.Records.{lowHalf, highHalf, reads, sees
 use Rattle.grammar.specs.records.Records.{literalHead, functionHead, callHead, wrapperHead, calledHead, aloneHead, nameHead, armHead, headOf, formOf, roleOf, placed, arranged}
 use Rattle.grammar.specs.records.Records.{textOf, firstTok, firstOf, decimal, headFor, recorded, recordItems, recordTrees}
 use Rattle.grammar.specs.records.Faults.{unless, armLows, mates, armsFault, faultsAt, faults, earlier, earliest, faultOf}
-use Rattle.grammar.specs.spelled.TreeTokens.{classesOf}
-use Rattle.own.specs.Tree.{partner, canonical, turned, Rec}
+use Rattle.own.specs.Tree.{partner, canonical, turned, Rec, classesOf}
 use Rattle.grammar.specs.answers.Answer.{toksOf, startOf, reading, answer, tokenBuffer, recordsRead, treeBuffer}
 use Rattle.lines.specs.Hex.{upperHex, hex}
 use Rattle.lines.specs.Form.{lineOf}

@@ -9,6 +9,7 @@ use borrow.Author.Tests.{eqb-false}
 use lib.Dec.{T, eqb}
 use lib.ListN.{length, drop}
 use Rattle.text.specs.Refusals as refusal
+use Rattle.text.specs.Lists.{has, Some, here, there}
 use Rattle.theory.specs.Ebnf as shape
 use Rattle.own.specs.Tree.{Tok, Items, marks}
 use Rattle.own.specs.Lists.{All, nil, _&_}
@@ -71,6 +72,7 @@ unless-numbered true n u h = nil
 unless-numbered false n u h = h refl & nil
 
 by-numbered : (r : Refused) (draft : List ℕ) (is : Items) → All Numbered (faultsBy r draft is)
+unfolding has
 by-numbered never draft is = nil
 by-numbered byBound draft is = unless-numbered _ refusal.Bound _ (λ e. tt)
 by-numbered byFold draft is = chosen Numbered (eqb (opening (sorts is)) t.array-fold) (unless-numbered _ refusal.Size _ (λ e. tt)) (unless-numbered _ refusal.Bound _ (λ e. tt))

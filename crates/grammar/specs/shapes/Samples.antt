@@ -8,7 +8,6 @@ use Prim.Native.Nat.{ℕ}
 use Rattle.text.specs.Lists.{all}
 use Rattle.theory.specs.Grammar.{look, row, alt, pick}
 use Rattle.theory.specs.Machine.{choose}
-use Rattle.theory.specs.Check.{all}
 use Rattle.theory.specs.Ebnf.{kindsOf, sortOf}
 use Rattle.theory.specs.Same.{ex}
 use Rattle.theory.specs.Exec.{thenWord, thenRest, thenSub, exec}

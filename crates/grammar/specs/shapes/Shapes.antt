@@ -8,6 +8,7 @@ use Prim.Native.Nat.{ℕ, suc}
 use lib.Dec.{eqb}
 use Rattle.theory.specs.Ebnf.{Ex, eps, mark, child, many, Ebnf}
 use Rattle.own.specs.Kinds as kind
+use Rattle.text.specs.Lists.{has}
 use Rattle.lexer.specs.Classes as t
 use Rattle.grammar.specs.shapes.Categories.{function, parameter, type, pattern, block, assignment, single, arm, elements, arguments, path, headPath, pair}
 use Rattle.grammar.specs.shapes.Notation.{_⨾_, _¦_, optional, oneOf, _but_, commas, commas1, round, square, curly, angle}

@@ -8,11 +8,11 @@ use Prim.Native.Nat.{ℕ, zero, suc}
 use native.Mathlib.Omega.{arith}
 use lib.Dec.{T}
 use lib.ListN.{getD, getElem?}
+use Rattle.text.specs.Lists.{all}
 use Rattle.text.specs.Ascii.{ascii, asciiFrom}
 use Rattle.text.specs.Same.{same}
 use Rattle.text.specs.Table.{first-of, second-of}
 use Rattle.words.specs.Words.{FUNCTION_RESERVED, MACROS, RULE_NAMES, BOOLEANS, RULE_WORDS, find, wordOf}
-use Rattle.theory.specs.Check.{all}
 use Rattle.lexer.specs.ClassTexts.{neverGiven, given, AllGiven}
 use Rattle.lexer.specs.Class.{classOf}
 use Rattle.own.specs.Lists.{All, nil, _&_, all-append}

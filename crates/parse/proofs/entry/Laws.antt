@@ -22,8 +22,9 @@ use Rattle.own.specs.Flat.{no-token}
 use Rattle.text.specs.Widths.{tokWide, recWide}
 use Rattle.text.specs.Answers as paper
 use Rattle.text.specs.Refusals as refusal
-use Rattle.own.specs.Words.{toks, wordGroups, recWords, words-are}
-use Rattle.kinds.specs.Words.{classOf}
+use Rattle.own.specs.Words.{toks, wordGroups, recWords}
+use Rattle.own.specs.WordLaws.{words-are}
+use Rattle.kinds.specs.Class.{classOf}
 use Rattle.grammar.specs.shapes.TablesIndex.{n-function}
 use Rattle.grammar.specs.Entry.{Entry, oneFunction}
 use Rattle.grammar.specs.shapes.WellShaped.{shapeOf, reads-shape, reads-too-few, sticks-shape}

@@ -9,8 +9,9 @@ use borrow.Author.Tests.{eq-eqb, ne-eqb, eqb-true}
 use lib.Dec.{eqb}
 use lib.ListN.{length, getD}
 use Rattle.text.specs.Ascii.{ascii, asciiFrom}
-use Rattle.text.specs.Same.{same, same-length, differ}
+use Rattle.text.specs.Same.{same, differ}
 use Rattle.text.specs.Lists.{has}
+use Rattle.text.specs.SameLaws.{same-length}
 use Rattle.lexer.specs.Classes as t
 use Rattle.grammar.specs.records.Records.{plain, patternName}
 use Rattle.own.specs.Kinds as kind

@@ -20,7 +20,8 @@ use Rattle.own.specs.Tree.{Tok, Items, mark, sub, marks, begin, end, turned, ar
 use Rattle.own.specs.Flat.{no-token}
 use Rattle.own.specs.Law.{Sort, word, child, sorts, firstClass}
 use Rattle.text.specs.Widths.{recWide}
-use Rattle.own.specs.Words.{recThen, sizes, wordGroups, place-start, place-stop}
+use Rattle.own.specs.Words.{recThen, sizes, wordGroups}
+use Rattle.own.specs.WordLaws.{place-start, place-stop}
 use Rattle.grammar.specs.shapes.Tables.{means, table}
 use Rattle.grammar.specs.records.Records.{Head, head, Role, aMark, asName, asNumber, roleOf, placed, arranged, firstTok, firstOf, textOf, reads, decimal, headOf, formOf, headFor, recorded, recordItems}
 use Rattle.grammar.specs.records.Faults.{Fault, faultsAt, faults, earliest}

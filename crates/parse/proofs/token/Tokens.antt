@@ -11,10 +11,11 @@ use lib.ListN.{length, getD, drop, List·getD-eq-default}
 use Rattle.text.specs.Part.{partOf}
 use Rattle.text.specs.Widths.{tokWide}
 use Rattle.lexer.specs.Class as lexer
-use Rattle.kinds.specs.Words.{classOf}
 use Rattle.own.specs.Tree.{Tok}
 use Rattle.own.specs.Flat.{no-token}
-use Rattle.own.specs.Words.{toks, tok-at}
+use Rattle.own.specs.Words.{toks}
+use Rattle.own.specs.WordLaws.{tok-at}
+use Rattle.kinds.specs.Class.{classOf}
 use Rattle.parse.specs.Contract.{text, tokAt, Gives, next}
 
 -- as many as were asked for

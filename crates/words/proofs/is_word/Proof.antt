@@ -3,8 +3,9 @@
 use native.Mathlib.Omega.{arith}
 use mathlib.Core.Path.{refl, sym, _∙_, ap}
 use denote.Ref.{now}
-use Rattle.text.specs.Same.{same, same-length}
+use Rattle.text.specs.Same.{same}
 use Rattle.text.specs.Ascii.{ascii, asciiFrom}
+use Rattle.text.specs.SameLaws.{same-length}
 use Rattle.words.specs.Layout.{letters}
 use Rattle.words.proofs.Laws.{word-there}
 use borrow.Author.Needs.{needs}

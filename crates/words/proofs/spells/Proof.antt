@@ -6,7 +6,8 @@ use mathlib.Core.Path.{_≡_, refl, sym, _∙_, ap}
 use Prim.Native.Nat.{_≤_, _<_, _-_, _+_}
 use denote.Ref.{now}
 use lib.ListN.{length, take, drop, getD}
-use Rattle.text.specs.Same.{same, same-more, same-not, same-end}
+use Rattle.text.specs.Same.{same}
+use Rattle.text.specs.SameLaws.{same-more, same-not, same-end}
 use Rattle.words.specs.Layout.{letters}
 use Rattle.words.proofs.Laws.{spelt, part-length}
 use Rattle.words.proofs.spells.Statement.{statement}

@@ -6,7 +6,8 @@ use mathlib.Core.Path.{_≡_, sym, _∙_, ap}
 use Prim.Native.Nat.{_≤_, _<_}
 use denote.Ref.{now}
 use lib.ListN.{getD, length}
-use Rattle.text.specs.Same.{same, same-true}
+use Rattle.text.specs.Same.{same}
+use Rattle.text.specs.SameLaws.{same-true}
 use Rattle.words.specs.Right.{is-word, is-plain, past, other}
 use Rattle.words.proofs.Laws.{too-short, too-long}
 use borrow.Author.Needs.{needs}
