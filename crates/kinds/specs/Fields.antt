@@ -12,8 +12,7 @@ use Rattle.own.specs.Kinds as kind
 use Rattle.kinds.specs.Shape.{halfRange, number}
 use Rattle.kinds.specs.Families as family
 
--- What low and high hold: nothing; a low, this or one of these; a 64-bit number, any or a bound; this low and the number of parameters;
--- the number of names; the numbers of names and of pairs.
+-- What low and high hold: nothing; a low, this or one of these; a number, any or a bound; this low and the number of parameters; of names; of names and pairs.
 pub data Fields : Type 0 where
   plain wide bounded names pairs : Fields
   low parameters : ℕ → Fields

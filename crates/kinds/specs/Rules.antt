@@ -23,8 +23,7 @@ the c = mark (c ∷ [])
 abbrev pub optional : Shape → Shape
 optional a = nothing ¦ a
 
--- A child: a type, a pattern, an expression, a block, an expression that is no block, an element of a block, a parameter, an enum arm; a
--- name that is an identifier, a function name.
+-- A child of a family of kinds, or a name of a family of classes.
 abbrev pub type : Shape
 type = part (of family.types)
 
@@ -118,11 +117,10 @@ armWith n c = form kind.BuiltinArm (low n) (the c ▸ parens typed ▸ body)
 abbrev pub armOf : ℕ → ℕ → Form
 armOf n c = form kind.BuiltinArm (low n) (the c ▸ body)
 
--- A call: what stands before the argument list.
+-- A call by what stands before its argument list, and `::<..>` after a word.
 abbrev pub callOf : ℕ → Shape → Form
 callOf n before = form kind.Call (low n) (before ▸ parens (list expression))
 
--- The turbofish `::<..>` after a word.
 abbrev pub generic : ℕ → Shape → Shape
 generic c a = the c ▸ the t.DoubleColon ▸ angles a
 

@@ -17,8 +17,7 @@ halfRange = 4294967296
 unfoldable pub number : ℕ → ℕ → ℕ
 number low high = low + halfRange * high
 
--- A child that a rule asks for: of one of these kinds; a name whose token is of one of these classes; a built-in arm of this low; a
--- number that is a bound; a number from 1.
+-- A child that a rule asks for: of one of these kinds; a name of one of these classes; a built-in arm of this low; a number that is a bound, or is from 1.
 pub data Part : Type 0 where
   of name : List ℕ → Part
   arm : ℕ → Part

@@ -7,7 +7,6 @@ use Prim.Native.Nat.{ℕ, suc}
 use lib.Dec.{eqb, leb, ltb}
 use lib.ListN.{getD}
 
--- the bytes from one to another
 pub record Range : Type 0 where
   pub least : ℕ
   pub most : ℕ
@@ -52,7 +51,6 @@ nameStarts = (chars "a" "z") ∷ (chars "A" "Z") ∷ underscore
 unfoldable pub nameBytes : List Range
 nameBytes = nameStarts ++ decimalDigits
 
--- b is this character
 abbrev pub is : Char → ℕ → Bool
 is c b = eqb b (code c)
 

@@ -6,7 +6,8 @@ use mathlib.Core.List.{[], _∷_, _++_}
 use mathlib.Core.List as list
 use Prim.Native.Nat.{ℕ}
 
--- Keywords.
+-- ---- keywords
+
 abbrev pub Pub : ℕ
 Pub = 1
 
@@ -43,7 +44,8 @@ Crate = 11
 abbrev pub Simc : ℕ
 Simc = 12
 
--- Control symbols.
+-- ---- control symbols
+
 abbrev pub Arrow : ℕ
 Arrow = 13
 
@@ -89,7 +91,8 @@ LAngle = 26
 abbrev pub RAngle : ℕ
 RAngle = 27
 
--- Numbers, booleans, names, jets, witnesses, parameters, macros. Bool and Macro are kinds and no classes: each of their words has its own, below.
+-- ---- numbers, booleans, names, jets, witnesses, parameters, macros; Bool and Macro are kinds and no classes: each of their words has its own, below
+
 abbrev pub DecLiteral : ℕ
 DecLiteral = 28
 
@@ -117,11 +120,10 @@ Param = 35
 abbrev pub Macro : ℕ
 Macro = 36
 
--- The words that the rules speak of have the classes from here on, in the order of RULE_WORDS:
+-- The words that the rules speak of have the classes from here on, in the order of RULE_WORDS: names first.
 abbrev pub words : ℕ
 words = 37
 
--- names,
 abbrev pub Left : ℕ
 Left = 37
 
@@ -143,7 +145,8 @@ Option = 42
 abbrev pub List : ℕ
 List = 43
 
--- The words of FUNCTION_RESERVED (`match` is a keyword, so class 52 never occurs).
+-- ---- the words of FUNCTION_RESERVED; `match` is a keyword, so class 52 never occurs
+
 abbrev pub unwrap-left : ℕ
 unwrap-left = 44
 
@@ -180,7 +183,8 @@ dbg = 55
 abbrev pub raw-hash : ℕ
 raw-hash = 56
 
--- Macros.
+-- ---- macros
+
 abbrev pub assert! : ℕ
 assert! = 57
 
@@ -193,7 +197,8 @@ dbg! = 59
 abbrev pub list! : ℕ
 list! = 60
 
--- Booleans.
+-- ---- booleans
+
 abbrev pub false : ℕ
 false = 61
 

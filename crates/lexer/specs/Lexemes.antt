@@ -29,7 +29,6 @@ none orElse y = y
 
 -- ---- trivia
 
--- whitespace
 unfoldable pub space : List ℕ → Option Lexeme
 space r = cond (among whitespace (first r)) (some (trivia (run (among whitespace) r))) none
 
@@ -102,13 +101,11 @@ macro r =
     let n = nameLength r + 1 in
     cond (isName r && begins (ascii "!") (drop (nameLength r) r)) (macroToken (wordOf MACROS (take n r)) n) none
 
--- the keywords are the kinds from Pub to Simc in the order of the words, of which the last, `simc`, is refused; the two words behind it are the
--- booleans; any other name is an identifier
+-- the keywords are the kinds from Pub on in the order of the words, of which `simc` is refused; behind it are the booleans; any other name is an identifier
 abbrev pub wordToken : Found → ℕ → Lexeme
 wordToken (Word k) n = cond (eqb (t.Pub + k) t.Simc) (refused refusal.Simc 0) (cond (ltb t.Simc (t.Pub + k)) (token t.Bool n) (token (t.Pub + k) n))
 wordToken Plain n = token t.Ident n
 
--- a word
 unfoldable pub word : List ℕ → Option Lexeme
 word r = cond (isName r) (some (wordToken (wordOf KEYWORDS (take (nameLength r) r)) (nameLength r))) none
 

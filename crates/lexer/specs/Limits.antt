@@ -42,7 +42,6 @@ depthAfter k d =
     (cond (eqb k t.RParen || eqb k t.RBracket || eqb k t.RBrace || eqb k t.RAngle) (d - 1)
     d)
 
--- how many `match` tokens stand in a row
 unfoldable pub rowAfter : ℕ → ℕ → ℕ
 rowAfter k m = cond (eqb k t.Match) (m + 1) 0
 
@@ -103,7 +102,6 @@ content (refused c p) ts size = replicate size 0
 unfoldable pub bufferOf : Limits → List ℕ → ℕ → List ℕ
 bufferOf l draft size = content (lexedOf l draft size) (tokensOf (lexemes draft)) size
 
--- the limits of these bytes and tokens
 abbrev pub limitsOf : ℕ → ℕ → Limits
 limitsOf b t = record { bytes = b; tokens = t }
 

@@ -11,7 +11,6 @@ use Rattle.text.specs.Refusals as refusal
 use Rattle.lexer.specs.Chars.{begins}
 use Rattle.lexer.specs.Lexemes.{Lexeme, token, trivia, refused, closing, nameLength, isName, trials, lexeme}
 
--- a token or trivia of n bytes
 abbrev pub Takes : ℕ → Lexeme → Type 0
 Takes n (token k m) = m ≡ n
 Takes n (trivia m) = m ≡ n

@@ -8,8 +8,7 @@ use Rattle.num.specs.Digits.{plain}
 use Rattle.num.specs.declared.Value.{Value}
 use Rattle.num.specs.declared.Value.the-variants.{Number, TooLarge}
 
--- The number that the digits make after those of v. The digit of a byte is the byte less 48, so `0` is 0 and `9` is 9;
--- a byte that is no digit counts likewise: 0 if it is below `0`, else what it is less 48.
+-- The number that the digits make after those of v. The digit of a byte is the byte less 48, 0 if it is below, also where it is no digit.
 unfoldable pub decimalFrom : ℕ → List ℕ → ℕ
 decimalFrom v [] = v
 decimalFrom v (b ∷ r) = decimalFrom (v * 10 + (b - 48)) r

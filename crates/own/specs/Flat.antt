@@ -14,7 +14,6 @@ use Rattle.own.specs.Tree.{Tok, Rec}
 abbrev pub holds : Rec → Tok → Bool
 holds r t = leb (r .start) (t .start) && leb (t .stop) (r .stop)
 
--- How many bytes a place has.
 abbrev pub width : Rec → ℕ
 width r = r .stop - r .start
 
@@ -31,12 +30,11 @@ row zero rs = []
 row (suc f) [] = []
 row (suc f) (r ∷ rs) = r ∷ row f (drop (r .size - 1) rs)
 
--- The children of the first record, through the sizes.
+-- The children of the first record, and of the record j, through the sizes.
 abbrev pub headChildren : List Rec → List Rec
 headChildren [] = []
 headChildren (r ∷ rs) = row (r .size) (take (r .size - 1) rs)
 
--- The children of the record j, through the sizes.
 abbrev pub children : List Rec → ℕ → List Rec
 children rs j = headChildren (drop j rs)
 
@@ -48,7 +46,6 @@ owns rs j t = holds (getD rs j blank) t && not (some (λ c. holds c t) (children
 abbrev pub owned : List Tok → List Rec → ℕ → List Tok
 owned ts rs j = keep (owns rs j) ts
 
--- f 0 + .. + f (n - 1).
 abbrev pub total : (ℕ → ℕ) → ℕ → ℕ
 total f zero = 0
 total f (suc n) = f 0 + total (λ j. f (suc j)) n
@@ -58,7 +55,6 @@ pub data Piece : Type 0 where
   tok : Tok → Piece
   part : Rec → Piece
 
--- Where a piece begins.
 abbrev pub from : Piece → ℕ
 from (tok t) = t .start
 from (part r) = r .start

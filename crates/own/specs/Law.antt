@@ -22,7 +22,6 @@ abbrev pub classAt : List Tok → ℕ → ℕ
 classAt [] at = 0
 classAt (t ∷ ts) at = cond (eqb (t .start) at) (t .class) (classAt ts at)
 
--- How a rule sees a piece, among the tokens ts.
 abbrev pub sortOf : List Tok → Piece → Sort
 sortOf ts (tok t) = word (t .class)
 sortOf ts (part r) = child (r .kind) (r .low) (r .high) (classAt ts (r .start))
@@ -35,7 +34,6 @@ made ts rs j = map (sortOf ts) (merge (children rs j) (owned ts rs j))
 abbrev pub Rule : Type 1
 Rule = ℕ → ℕ → ℕ → List Sort → Type 0
 
--- The class of the first token.
 abbrev pub firstClass : List Tok → ℕ
 firstClass [] = 0
 firstClass (t ∷ ts) = t .class
@@ -55,8 +53,7 @@ abbrev pub Ordered : ℕ → ℕ → List Rec → Type 0
 Ordered lo hi [] = lo ≤ hi
 Ordered lo hi (c ∷ cs) = (lo ≤ c .start) × (c .start < c .stop) × Ordered (c .stop) hi cs
 
--- The children of a match with built-in arms, between two places: the expression, then the arm that is Left, None or False, then
--- its partner; in order of place as they stand, or with the arms exchanged.
+-- The children of a match with built-in arms: the expression, the arm that is Left, None or False, its partner; in order of place so, or the arms exchanged.
 pub record Canonical (lo hi : ℕ) (cs : List Rec) : Type 0 where
   pub matched : Rec
   pub first : Rec

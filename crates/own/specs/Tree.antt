@@ -17,7 +17,6 @@ pub record Tok : Type 0 where
   pub start : ℕ
   pub stop : ℕ
 
--- The classes of tokens.
 unfoldable pub classesOf : List Tok → List ℕ
 classesOf = map (λ t. t .class)
 
@@ -34,7 +33,6 @@ pub record Node : Type 0 where
   pub high : ℕ
   pub items : Items
 
--- The node of a kind, low, high and items.
 abbrev pub node : ℕ → ℕ → ℕ → Items → Node
 node k l h is = record { kind = k; low = l; high = h; items = is }
 
@@ -114,12 +112,10 @@ module _ {A : Type 0} where
   exchange (e ∷ a ∷ b ∷ []) = e ∷ b ∷ a ∷ []
   exchange (e ∷ a ∷ b ∷ c ∷ l) = e ∷ a ∷ b ∷ c ∷ l
 
-  -- Exchanged or as they stand.
   abbrev pub arrange : Bool → List A → List A
   arrange true l = exchange l
   arrange false l = l
 
-  -- The lists of a list, one after the other.
   abbrev pub concat : List (List A) → List A
   concat [] = []
   concat (a ∷ l) = a ++ concat l
@@ -156,11 +152,10 @@ recordOf n =
 abbrev pub tokens : List Node → List Tok
 tokens ns = yield (roots ns)
 
--- All nodes of trees side by side, in the order handed over.
 abbrev pub all : List Node → List Node
 all ns = concat (groups (roots ns))
 
--- What is handed over of trees side by side: the records.
+-- What is handed over of trees side by side: their nodes, and the records of these.
 abbrev pub records : List Node → List Rec
 records ns = map recordOf (all ns)
 

@@ -7,9 +7,8 @@ use Prim.Native.Nat.{ℕ}
 use lib.Dec.{T}
 use Rattle.text.specs.Lists.{has}
 
--- Of the draft 1; of its bytes 2 to 5, "a byte over 127", "another byte starts no lexeme", "block comment never closed", "the word `simc`"; of
--- its tokens 6 to 8; of its shapes 9 to 14; of the tree buffer 15. The other rows stand above their cases in Outcome.antt and Faults.antt of
--- `grammar`.
+-- Of the draft 1; of its bytes 2 to 5; of its tokens 6 to 8; of its shapes 9 to 14; of the tree buffer 15. Each row stands above its case: in lexer's
+-- Rows.antt, and in Outcome.antt and Faults.antt of `grammar`.
 abbrev pub TooLong : ℕ
 TooLong = 1
 

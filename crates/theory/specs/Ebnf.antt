@@ -7,9 +7,8 @@ use mathlib.Core.Option.{some}
 use Prim.Native.Nat.{ℕ, suc, _≤_, _<_}
 use lib.ListN.{length, take, getD, getElem?}
 
--- An expression: nothing; a token of a class; a node of a category; a part that has a name; one after the other; one or the other;
--- any number of them; a list of them with a token of the class after each, but perhaps not after the last (`list`);
--- what may stand after an item of such a list (`tail`).
+-- An expression: nothing; a token of a class; a node of a category; a part that has a name; one after the other; one or the other; any number of them;
+-- a list of them with a token of the class after each, but perhaps not after the last (`list`); what may stand after an item of such a list (`tail`).
 pub data Ex : Type 0 where
   eps : Ex
   mark child part : ℕ → Ex

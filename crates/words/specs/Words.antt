@@ -22,7 +22,6 @@ KEYWORDS =
     map ascii
     ("pub" ∷ "use" ∷ "as" ∷ "fn" ∷ "let" ∷ "type" ∷ "mod" ∷ "const" ∷ "match" ∷ "enum" ∷ "crate" ∷ "simc" ∷ "true" ∷ "false" ∷ [])
 
--- the macros
 unfoldable pub MACROS : List (List ℕ)
 MACROS = map ascii ("assert!" ∷ "panic!" ∷ "dbg!" ∷ "list!" ∷ [])
 
@@ -34,7 +33,6 @@ MODULE_RESERVED = map ascii ("jet" ∷ "witness" ∷ "param" ∷ [])
 unfoldable pub RULE_NAMES : List (List ℕ)
 RULE_NAMES = map ascii ("Left" ∷ "Right" ∷ "Some" ∷ "None" ∷ "Either" ∷ "Option" ∷ "List" ∷ [])
 
--- the two booleans
 unfoldable pub BOOLEANS : List (List ℕ)
 BOOLEANS = map ascii ("false" ∷ "true" ∷ [])
 
@@ -52,7 +50,6 @@ BUILTIN_ALIASES =
     map ascii
     ("Ctx8" ∷ "Pubkey" ∷ "Message" ∷ "Message64" ∷ "Signature" ∷ "Scalar" ∷ "Fe" ∷ "Ge" ∷ "Gej" ∷ "Point" ∷ "Height" ∷ "Time" ∷ "Distance" ∷ "Duration" ∷ "Lock" ∷ "Outpoint" ∷ "Confidential1" ∷ "ExplicitAsset" ∷ "Asset1" ∷ "ExplicitAmount" ∷ "Amount1" ∷ "ExplicitNonce" ∷ "Nonce" ∷ "TokenAmount1" ∷ [])
 
--- the name of the Boolean type
 unfoldable pub BOOL : List (List ℕ)
 BOOL = map ascii ("bool" ∷ [])
 

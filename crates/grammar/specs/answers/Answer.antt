@@ -31,11 +31,10 @@ toksOf draft (t ∷ ts) = record { class = classOf draft (t .kind) (t .start) (t
 unfoldable pub startOf : List ℕ → List Token → ℕ → ℕ
 startOf draft ts k = cond (ltb k (length ts)) (getD ts k noToken .start) (length draft)
 
--- The trees of a draft with these tokens and this shape tree, side by side.
+-- The trees of a draft with these tokens and this shape tree, side by side, and its records.
 abbrev pub treesOf : List ℕ → List Token → Items → List Node
 treesOf draft ts r = recordTrees draft (toksOf draft ts) r
 
--- Its records.
 abbrev pub recordsFor : Entry → List ℕ → List Token → Items → List Rec
 recordsFor en draft ts r = recordsOf en (length draft) (treesOf draft ts r)
 

@@ -19,7 +19,6 @@ use Rattle.grammar.specs.shapes.Row.{Refused, never, byBound, byFold, by
 use Rattle.grammar.specs.shapes.Shapes.{rows}
 use Rattle.grammar.specs.records.Records.{sees, opening, firstTok, firstOf, decimal, recordItems}
 
--- A refusal: its number and its place.
 pub record Fault : Type 0 where
   pub number : ℕ
   pub place : ℕ
@@ -81,6 +80,5 @@ unfoldable pub earliest : List Fault → Option Fault
 earliest [] = none
 earliest (f ∷ l) = earlier f (earliest l)
 
--- The refusal of a shape tree, if it has one.
 unfoldable pub faultOf : List ℕ → List Tok → shape.Items → Option Fault
 faultOf draft ts r = earliest (faults draft r ts)

@@ -31,7 +31,6 @@ use Rattle.lexer.specs.Classes as t
 use Rattle.grammar.specs.shapes.Row.{Form, always, numbered, angled, lonely, aFunction, aTypeName, aPatternName, aBlock, aLiteral, aMatch, aName, anArm}
 use Rattle.grammar.specs.shapes.Shapes.{rows}
 
--- The fields of a record that its shape decides.
 pub record Head : Type 0 where
   pub kind : ℕ
   pub low : ℕ
@@ -102,8 +101,7 @@ unfoldable pub placeIn : ℕ → ℕ → List ℕ → ℕ → ℕ
 placeIn d n [] c = d
 placeIn d n (a ∷ l) c = cond (eqb c a) n (placeIn d (suc n) l c)
 
--- "4–7 alias, builtin (low 0–23 in `BuiltinAlias` order), bool, unsigned (`u1` to `u256`, powers of two only; low bits)":
--- by the text of the name. The names that a rule speaks of are none of these, so only a plain name is looked at.
+-- "4–7 alias, builtin (low 0–23 in `BuiltinAlias` order), bool, unsigned (`u1` to `u256`, powers of two only; low bits)": by the text of a plain name
 unfoldable pub builtinType : Found → Head
 builtinType (Word i) = head kind.Builtin i 0
 builtinType Plain = plain kind.Alias
@@ -138,12 +136,11 @@ literalHead c =
 unfoldable pub functionHead : List Sort → Head
 functionHead w = head kind.Function (cond (sees t.Pub w) 1 0 + cond (sees t.Arrow w) 2 0) (counted (kind.Parameter ∷ []) w)
 
--- "39 call | low 1–14 in `CallName` order": the tokens that calls begin with, in that order; `<T>::into` begins with `<`.
+-- "39 call | low 1–14 in `CallName` order": the tokens that calls begin with, in that order; `<T>::into` begins with `<`, a call of any other name with it.
 abbrev pub callWords : List ℕ
 callWords =
     t.Jet ∷ t.unwrap-left ∷ t.unwrap-right ∷ t.unwrap ∷ t.is-none ∷ t.assert! ∷ t.panic! ∷ t.dbg! ∷ t.LAngle ∷ t.Ident ∷ t.fold ∷ t.array-fold ∷ t.for-while ∷ t.raw-hash ∷ []
 
--- A call by the token that it begins with; any other is a function's name.
 unfoldable pub callHead : ℕ → Head
 callHead c = head kind.Call (placeIn call.Custom call.Jet callWords c) 0
 
@@ -159,8 +156,7 @@ calledHead w = cond (has wrappers (opening w) && lone w) (wrapperHead (opening w
 unfoldable pub aloneHead : ℕ → Head
 aloneHead c = cond (eqb c t.None) (plain kind.None) (plain kind.Variable)
 
--- What begins with a name, a macro, a jet or `<`: a call with a type or a function in `< >`; "Two or more names joined by `::` construct
--- an enum": "34 enum construction | low names"; a call or wrapper; a token alone.
+-- What begins with a name, a macro, a jet or `<`: a call with `< >`; "34 enum construction | low names", where `::` joins them; a call or wrapper; a token alone.
 unfoldable pub nameHead : List Sort → Head
 nameHead w = cond (sees t.LAngle w) (callHead (opening w)) (cond (sees t.DoubleColon w) (head kind.EnumConstruction (nameCount w) 0) (cond (sees t.LParen w) (calledHead w) (aloneHead (opening w))))
 
@@ -174,8 +170,7 @@ armHead w =
     cond (sees t.DoubleColon w) (head kind.EnumArm (nameCount w) (counted family.patterns w))
     (head kind.BuiltinArm (placeIn 0 arm.Left armWords (opening w)) 0)
 
--- The head of a form, from the text of its first token, the number of its decimal, and what it is made of: "18 block | low 1 with a last
--- expression"; "35 match, 36 enum match", by its arms; the others as above. The form of a shape of kind k is in its row.
+-- The head of a form, from the text of its first token, its number and its pieces: "18 block | low 1 with a last expression"; "35 match, 36 enum match", by its arms.
 unfoldable pub headOf : Form → List ℕ → ℕ → List Sort → Head
 headOf (always k) text n w = plain k
 headOf (numbered k) text n w = wide k n
@@ -216,11 +211,9 @@ arranged kind n none = none
 arranged kind n (mark t r) = placed (roleOf kind (t .class)) n t (arranged kind n r)
 arranged kind n (sub k l h js r) = sub k l h js (arranged kind n r)
 
--- The text of a token: that part of the draft.
 unfoldable pub textOf : List ℕ → Tok → List ℕ
 textOf draft t = partOf draft (t .start) (t .stop)
 
--- The first of a list of tokens, and the first of a class.
 unfoldable pub firstTok : List Tok → Tok
 firstTok ts = getD ts 0 no-token
 
@@ -232,7 +225,6 @@ firstOf c (t ∷ ts) = cond (eqb (t .class) c) t (firstOf c ts)
 unfoldable pub decimal : List ℕ → Items → Value
 decimal draft is = numberOf (textOf draft (firstOf t.DecLiteral (marks is)))
 
--- The head of the record of a shape of kind k, made of these items.
 unfoldable pub headFor : List ℕ → ℕ → Items → Head
 headFor draft k is = headOf (formOf k) (textOf draft (firstTok (marks is))) (reads (decimal draft is)) (sorts is)
 

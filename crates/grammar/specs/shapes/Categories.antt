@@ -28,8 +28,7 @@ single = 6
 abbrev pub arm : ℕ
 arm = 7
 
--- The parts that have a name, and are no shapes of their own: what stands between the braces of a block; an argument list; what
--- follows the first `::` of a path; that `::` and a path in an arm's head; a pattern with its type.
+-- The named parts: what the braces of a block hold; an argument list; a path from behind its first `::`, in an arm's head from that on; a pattern with its type.
 abbrev pub elements : Ex
 elements = part 0
 

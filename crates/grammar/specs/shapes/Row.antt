@@ -13,8 +13,7 @@ pub data Form : Type 0 where
   -- by its words and parts
   aFunction aTypeName aPatternName aBlock aLiteral aMatch aName anArm : Form
 
--- Which refusals of 9 to 14 a shape may have: none; 9 of a `List`; 9 of a `fold` and 10 of an `array_fold`; 11 to 14. `faultsBy` of
--- Faults.antt says when.
+-- Which refusals of 9 to 14 a shape may have: none; 9 of a `List`; 9 of a `fold` and 10 of an `array_fold`; 11 to 14 (`faultsBy`, Faults.antt).
 pub data Refused : Type 0 where
   never byBound byFold byArms : Refused
 

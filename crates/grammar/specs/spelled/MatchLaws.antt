@@ -106,15 +106,19 @@ module _ (a h c b h′ c′ : ℕ) where
   abbrev Partners : Type 0
   Partners = Spells rules.partners two
 
-  -- one of the pairs, and so one of their shapes
-  one-of : (p q : ℕ) → ((x y : ℕ) → T (eqb p x && eqb q y) → Spells (arms x y) two) → (l : List (ℕ × ℕ)) → T (some (λ r. eqb p (r .0) && eqb q (r .1)) l)
-      → Spells (foldr (λ r s. arms (r .0) (r .1) ¦ s) never l) two
+  -- the shape of one of these pairs
+  abbrev PairOf : List (ℕ × ℕ) → Type 0
+  PairOf l = Spells (foldr (λ r s. arms (r .0) (r .1) ¦ s) never l) two
+
+  abbrev among : ℕ → ℕ → List (ℕ × ℕ) → Bool
+  among p q = some (λ r. eqb p (r .0) && eqb q (r .1))
+
+  one-of : (p q : ℕ) → ((x y : ℕ) → T (eqb p x && eqb q y) → Spells (arms x y) two) → (l : List (ℕ × ℕ)) → T (among p q l) → PairOf l
   unfolding some
   one-of p q f [] t = absurd t
-  one-of p q f (r ∷ l) t = go (or-cases (eqb p (r .0) && eqb q (r .1)) (some (λ r. eqb p (r .0) && eqb q (r .1)) l) t) (one-of p q f l)
+  one-of p q f (r ∷ l) t = go (or-cases (eqb p (r .0) && eqb q (r .1)) (among p q l) t) (one-of p q f l)
     where
-      go : T (eqb p (r .0) && eqb q (r .1)) ⊎ T (some (λ r. eqb p (r .0) && eqb q (r .1)) l) → (T (some (λ r. eqb p (r .0) && eqb q (r .1)) l) → Spells (foldr (λ r s. arms (r .0) (r .1) ¦ s) never l) two)
-          → Spells (foldr (λ r s. arms (r .0) (r .1) ¦ s) never (r ∷ l)) two
+      go : T (eqb p (r .0) && eqb q (r .1)) ⊎ T (among p q l) → (T (among p q l) → PairOf l) → PairOf (r ∷ l)
       go (inl u) g = left (f (r .0) (r .1) u)
       go (inr u) g = right (g u)
 
