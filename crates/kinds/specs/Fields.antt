@@ -24,7 +24,6 @@ counted ks [] = 0
 counted ks (word c ∷ w) = counted ks w
 counted ks (child k l h c ∷ w) = cond (has ks k) 1 0 + counted ks w
 
--- Two 32-bit halves.
 unfoldable pub halves : ℕ → ℕ → Bool
 halves l h = ltb l halfRange && ltb h halfRange
 

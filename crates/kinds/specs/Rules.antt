@@ -164,7 +164,7 @@ forms =
     ∷ form kind.Left plain (the t.Left ▸ parens expression)
     ∷ form kind.Right plain (the t.Right ▸ parens expression)
     ∷ form kind.Some plain (the t.Some ▸ parens expression)
-    -- 22 None, 23 boolean (low 0 or 1), 24 decimal, 25 hexadecimal, 26 binary, 27 witness, 28 parameter value, 29 variable: token
+    -- 22 None, 23 boolean (low 0 or 1), 24 decimal, 25 hexadecimal, 26 binary, 27 witness, 28 parameter value, 29 variable (no `None`): token
     ∷ form kind.None plain (the t.None)
     ∷ form kind.Boolean (low 0) (the t.false)
     ∷ form kind.Boolean (low 1) (the t.true)
@@ -173,7 +173,6 @@ forms =
     ∷ form kind.Binary plain (the t.BinLiteral)
     ∷ form kind.Witness plain (the t.Witness)
     ∷ form kind.ParameterValue plain (the t.Param)
-    -- (a variable is no `None`: "`None` is itself unless `::` follows")
     ∷ form kind.Variable plain (mark (t.Ident ∷ t.Left ∷ t.Right ∷ t.Some ∷ t.Either ∷ t.Option ∷ t.List ∷ t.reserved))
     -- 30 parenthesised, 31 tuple, 32 array, 33 list: expressions; brackets, `list!`
     ∷ form kind.Parenthesised plain (parens expression)

@@ -9,7 +9,6 @@ use Rattle.kinds.specs.Shape.{Spells}
 use Rattle.kinds.specs.Fields.{holds}
 use Rattle.kinds.specs.Rules.{Form, forms}
 
--- The forms of a kind.
 unfoldable pub formsOf : ℕ → List Form
 formsOf kind = keep (λ f. eqb (f .kind) kind) forms
 

@@ -14,7 +14,6 @@ pub record Range : Type 0 where
 abbrev pub chars : Char → Char → Range
 chars a b = record { least = code a; most = code b }
 
--- a byte is in one of the ranges
 unfoldable pub among : List Range → ℕ → Bool
 among [] b = false
 among (s ∷ ss) b = (leb (s .least) b && leb b (s .most)) || among ss b
@@ -27,7 +26,6 @@ whitespace = record { least = 9; most = 13 } ∷ record { least = 32; most = 32 
 unfoldable pub lineEnds : List Range
 lineEnds = record { least = 10; most = 10 } ∷ record { least = 13; most = 13 } ∷ []
 
--- the bytes that are not over 127
 unfoldable pub plainBytes : List Range
 plainBytes = record { least = 0; most = 127 } ∷ []
 

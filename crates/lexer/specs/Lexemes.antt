@@ -157,7 +157,6 @@ noLexeme b = cond (ltb 127 b) (refused refusal.NotAscii 0) (refused refusal.NoLe
 abbrev pub trials : List (List ℕ → Option Lexeme)
 trials = space ∷ lineComment ∷ blockComment ∷ qualified ∷ macro ∷ hexadecimal ∷ binary ∷ decimal ∷ word ∷ mark marks ∷ []
 
--- what the first trial that finds something finds, and y where none does
 abbrev pub firstOf : List (List ℕ → Option Lexeme) → List ℕ → Lexeme → Lexeme
 firstOf [] r y = y
 firstOf (f ∷ fs) r y = f r orElse firstOf fs r y
@@ -165,7 +164,6 @@ firstOf (f ∷ fs) r y = f r orElse firstOf fs r y
 unfoldable pub lexeme : List ℕ → Lexeme
 lexeme r = firstOf trials r (noLexeme (first r))
 
--- a token by its kind, its start and the byte after it
 pub record Token : Type 0 where
   pub kind : ℕ
   pub start : ℕ

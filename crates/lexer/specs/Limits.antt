@@ -45,7 +45,6 @@ depthAfter k d =
 unfoldable pub rowAfter : ℕ → ℕ → ℕ
 rowAfter k m = cond (eqb k t.Match) (m + 1) 0
 
--- so many brackets open, or so many `match` tokens in a row, are too many
 abbrev pub passes : ℕ → ℕ → Bool
 passes d m = ltb mostOpen d || ltb mostInRow m
 

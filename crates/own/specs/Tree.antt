@@ -41,19 +41,17 @@ abbrev pub roots : List Node → Items
 roots [] = none
 roots (n ∷ ns) = sub (n .kind) (n .low) (n .high) (n .items) (roots ns)
 
--- All tokens, in the order of the text.
+-- In the order of the text: all tokens; the tokens of its own; the nodes right beneath.
 abbrev pub yield : Items → List Tok
 yield none = []
 yield (mark t r) = t ∷ yield r
 yield (sub k l h js r) = yield js ++ yield r
 
--- The tokens of its own, in the order of the text.
 abbrev pub marks : Items → List Tok
 marks none = []
 marks (mark t r) = t ∷ marks r
 marks (sub k l h js r) = marks r
 
--- The nodes right beneath, in the order of the text.
 abbrev pub kids : Items → List Node
 kids none = []
 kids (mark t r) = kids r

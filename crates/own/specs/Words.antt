@@ -34,7 +34,6 @@ abbrev pub tokWords : (ℕ → ℕ) → List Tok → List ℕ
 tokWords k [] = []
 tokWords k (t ∷ ts) = k (t .class) ∷ t .start ∷ t .stop ∷ tokWords k ts
 
--- writing: the words of records, and reading them back
 abbrev pub recWords : List Rec → List ℕ
 recWords [] = []
 recWords (r ∷ rs) = recThen (r .kind) (r .start) (r .stop) (r .low) (r .high) (r .size) (recWords rs)

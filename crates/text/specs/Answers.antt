@@ -7,14 +7,13 @@ pub data Answer : Type 0 where
   accepted : ℕ → ℕ → Answer
   refused : ℕ → ℕ → Answer
 
--- The same as four numbers.
 pub record Values : Type 0 where
   pub number : ℕ
   pub place : ℕ
   pub tokens : ℕ
   pub records : ℕ
 
--- An accepted draft has no number of a refusal, which is 0 here, and no place. "A refusal: both numbers 0".
+-- The same as four numbers. An accepted draft has no number of a refusal and no place: 0 here. "A refusal: both numbers 0".
 abbrev pub values : Answer → Values
 values (accepted n m) = record { number = 0; place = 0; tokens = n; records = m }
 values (refused c p) = record { number = c; place = p; tokens = 0; records = 0 }

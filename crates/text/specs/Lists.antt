@@ -6,7 +6,6 @@ use mathlib.Core.List.{List, [], _∷_}
 use Prim.Native.Nat.{ℕ, zero, suc, _-_}
 use lib.Dec.{eqb}
 
--- Whether a number is in a list.
 unfoldable pub has : List ℕ → ℕ → Bool
 has [] n = false
 has (m ∷ l) n = eqb m n || has l n
@@ -34,7 +33,6 @@ count (suc n) a = a ∷ count n (suc a)
 unfoldable pub span : ℕ → ℕ → List ℕ
 span a b = count (suc b - a) a
 
--- Some of a list has P.
 pub data Some {A : Type 0} (P : A → Type 0) : List A → Type 0 where
   here : {a : A} {l : List A} → P a → Some P (a ∷ l)
   there : {a : A} {l : List A} → Some P l → Some P (a ∷ l)

@@ -72,7 +72,6 @@ pub data Items : Type 0 where
   word : ℕ → Items → Items
   sub : ℕ → Items → Items → Items
 
--- The tokens in order.
 unfoldable pub yield : Items → List ℕ
 yield nil = []
 yield (word c r) = c ∷ yield r

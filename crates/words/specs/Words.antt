@@ -36,7 +36,6 @@ RULE_NAMES = map ascii ("Left" ∷ "Right" ∷ "Some" ∷ "None" ∷ "Either" �
 unfoldable pub BOOLEANS : List (List ℕ)
 BOOLEANS = map ascii ("false" ∷ "true" ∷ [])
 
--- every name, macro and boolean that the rules tell apart
 unfoldable pub RULE_WORDS : List (List ℕ)
 RULE_WORDS = RULE_NAMES ++ FUNCTION_RESERVED ++ MACROS ++ BOOLEANS
 

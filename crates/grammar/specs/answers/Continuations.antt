@@ -14,6 +14,7 @@ use Rattle.lexer.specs.Limits.{Limits}
 use Rattle.lexer.specs.Class.{classOf}
 use Rattle.lexer.specs.ClassTexts.{AllGiven, continuedWith}
 use Rattle.lexer.specs.ClassDrafts.{continued}
+use Rattle.text.specs.Part.{partOf}
 use Rattle.lexer.specs.Texts.{textIn, classIn}
 use Rattle.kinds.specs.Class as kinds
 use Rattle.grammar.specs.Entry.{Entry, startEx}
@@ -33,7 +34,7 @@ abbrev class-of : ℕ × List ℕ → ℕ
 class-of s = classOf (s .0) (s .1)
 
 classes-spelled : (draft : List ℕ) (ts : List Token) → classes draft ts ≡ map class-of (spelled draft ts)
-unfolding toksOf classesOf kinds.classOf textIn
+unfolding toksOf classesOf kinds.classOf
 classes-spelled draft [] = refl
 classes-spelled draft (t ∷ ts) = ap (λ l. kinds.classOf draft (t .kind) (t .start) (t .end) ∷ l) (classes-spelled draft ts)
 
@@ -61,7 +62,7 @@ module _ (en : Entry) (draft : List ℕ) (ts : List Token) (lexes : lexemes draf
   front = take k ts
 
   these-are : take k (spelled draft ts) ≡ spelled draft front
-  these-are = take-map (λ t. (t .kind, textIn draft t)) k ts
+  these-are = take-map (λ t. (t .kind, partOf draft (t .start) (t .end))) k ts
 
   classes-are : take k (classes draft ts) ≡ classes draft front
   classes-are =
@@ -79,6 +80,7 @@ module _ (en : Entry) (draft : List ℕ) (ts : List Token) (lexes : lexemes draf
 
   -- and a draft is written for these tokens and any classes behind them
   pub as-draft : (more : List ℕ) → WellShaped en (take k (classes draft ts) ++ more) → Continued en (take k (spelled draft ts))
+  unfolding textIn
   as-draft more w =
       let given : AllGiven more = λ c m. well-shaped-given en (take k (classes draft ts) ++ more) w c (later m) in
       let all : lexemes draft ≡ tokens (front ++ drop k ts) = lexes ∙ sym (ap tokens (take-drop k ts)) in

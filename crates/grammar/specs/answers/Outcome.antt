@@ -10,9 +10,9 @@ use Rattle.theory.specs.Ebnf.{Items, yield}
 use Rattle.lexer.specs.Lexemes.{Token, tokens, lexemes}
 use Rattle.lexer.specs.Limits.{Limits, tooDeep, room, noToken, tokenWords}
 use Rattle.lexer.specs.Rows.{Earliest}
-use Rattle.lexer.specs.Texts.{textIn}
 use Rattle.own.specs.Tree.{Rec, classesOf}
 use Rattle.own.specs.Words.{recWords}
+use Rattle.text.specs.Part.{partOf}
 use Rattle.text.specs.Widths.{tokWide, recWide}
 use Rattle.text.specs.Refusals as refusal
 use Rattle.grammar.specs.Entry.{Entry}
@@ -36,7 +36,7 @@ pub record Shaped (en : Entry) (l : Limits) (draft : List ℕ) (tw : ℕ) (ts : 
 
 -- Tokens as what they are in any draft: their kinds and texts.
 abbrev pub spelled : List ℕ → List Token → List (ℕ × List ℕ)
-spelled draft ts = map (λ t. (t .kind, textIn draft t)) ts
+spelled draft ts = map (λ t. (t .kind, partOf draft (t .start) (t .end))) ts
 
 -- Tokens "can be continued to a well-shaped draft": there is one whose first tokens they are.
 pub record Continued (en : Entry) (these : List (ℕ × List ℕ)) : Type 0 where
@@ -46,7 +46,7 @@ pub record Continued (en : Entry) (these : List (ℕ × List ℕ)) : Type 0 wher
   pub begins : take (length these) (spelled draft its-tokens) ≡ these
   pub well-shaped : WellShaped en (classesOf (toksOf draft its-tokens))
 
--- Row 8: "In 8, limits and refusals 9 to 14 are left aside."
+-- Row 8, both halves: "In 8, limits and refusals 9 to 14 are left aside."
 pub record Misshapen (en : Entry) (l : Limits) (draft : List ℕ) (tw p : ℕ) : Type 0 where
   pub its-tokens : List Token
   pub within : Within l draft tw its-tokens
@@ -73,7 +73,6 @@ pub data Refusal (en : Entry) (l : Limits) (draft : List ℕ) (tw rw : ℕ) : �
   -- 7: "over 48 brackets open, or over 8 `match` tokens in a row", at "the token that passes it"
   too-deep : {ts : List Token} {p : ℕ} → length draft ≤ l .bytes → lexemes draft ≡ tokens ts → length ts ≤ room l tw → tooDeep 0 0 ts ≡ some p
       → Refusal en l draft tw rw refusal.TooDeep p
-  -- 8, both halves
   misshapen : {p : ℕ} → Misshapen en l draft tw p → Refusal en l draft tw rw refusal.Misshapen p
   -- those of the shapes: "of 9 to 14 the earliest place"
   faulted : {ts : List Token} {r : Items} {f : Fault} → Shaped en l draft tw ts r → faultOf draft (toksOf draft ts) r ≡ some f → Refusal en l draft tw rw (f .number) (f .place)

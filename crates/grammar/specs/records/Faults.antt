@@ -27,7 +27,6 @@ pub record Fault : Type 0 where
 unfoldable pub unless : Bool → ℕ → Tok → List Fault
 unless ok n t = cond ok [] (record { number = n; place = t .start } ∷ [])
 
--- The lows of the built-in arms among the parts of a match.
 unfoldable pub armLows : List Sort → List ℕ
 armLows [] = []
 armLows (word c ∷ w) = armLows w

@@ -125,12 +125,9 @@ patternName text c = cond (eqb c t.Ident && same text (ascii "_")) (plain kind.I
 -- "22 None, 23 boolean (low 0 or 1), 24 decimal, 25 hexadecimal, 26 binary, 27 witness, 28 parameter value"
 unfoldable pub literalHead : ℕ → Head
 literalHead c =
-    cond (eqb c t.false) (head kind.Boolean 0 0)
-    (cond (eqb c t.true) (head kind.Boolean 1 0)
-    (cond (eqb c t.DecLiteral) (plain kind.Decimal)
-    (cond (eqb c t.HexLiteral) (plain kind.Hexadecimal)
-    (cond (eqb c t.BinLiteral) (plain kind.Binary)
-    (cond (eqb c t.Witness) (plain kind.Witness) (plain kind.ParameterValue))))))
+    cond (eqb c t.false) (head kind.Boolean 0 0) (cond (eqb c t.true) (head kind.Boolean 1 0)
+    (cond (eqb c t.DecLiteral) (plain kind.Decimal) (cond (eqb c t.HexLiteral) (plain kind.Hexadecimal)
+    (cond (eqb c t.BinLiteral) (plain kind.Binary) (cond (eqb c t.Witness) (plain kind.Witness) (plain kind.ParameterValue))))))
 
 -- "1 function | low 1 for pub, plus 2 for a result type; high parameters."
 unfoldable pub functionHead : List Sort → Head
@@ -221,14 +218,12 @@ unfoldable pub firstOf : ℕ → List Tok → Tok
 firstOf c [] = no-token
 firstOf c (t ∷ ts) = cond (eqb (t .class) c) t (firstOf c ts)
 
--- The decimal among the tokens of a shape, and its number.
 unfoldable pub decimal : List ℕ → Items → Value
 decimal draft is = numberOf (textOf draft (firstOf t.DecLiteral (marks is)))
 
 unfoldable pub headFor : List ℕ → ℕ → Items → Head
 headFor draft k is = headOf (formOf k) (textOf draft (firstTok (marks is))) (reads (decimal draft is)) (sorts is)
 
--- A record with a head and these items, and what follows.
 unfoldable pub recorded : ℕ → Head → Items → Items → Items
 recorded n h is r = sub (h .kind) (h .low) (h .high) (arranged (h .kind) n is) r
 

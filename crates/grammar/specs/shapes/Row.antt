@@ -10,7 +10,6 @@ pub data Form : Type 0 where
   always numbered angled : ℕ → Form
   -- the first kind if it has one part and no comma, otherwise the second: "`(e)` is parenthesised, `(e,)` and `()` tuples"
   lonely : ℕ → ℕ → Form
-  -- by its words and parts
   aFunction aTypeName aPatternName aBlock aLiteral aMatch aName anArm : Form
 
 -- Which refusals of 9 to 14 a shape may have: none; 9 of a `List`; 9 of a `fold` and 10 of an `array_fold`; 11 to 14 (`faultsBy`, Faults.antt).

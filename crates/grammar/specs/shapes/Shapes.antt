@@ -42,7 +42,6 @@ expression = child block ¦ child single
 abbrev pub head : Ex
 head = oneOf (t.false ∷ t.true ∷ []) ¦ mark t.None ⨾ optional headPath ¦ oneOf (t.Left ∷ t.Right ∷ t.Some ∷ []) ⨾ (round pair ¦ headPath) ¦ otherName ⨾ headPath
 
--- The table of shapes.
 abbrev pub rows : List Row
 rows =
     -- "Function: optional `pub`, `fn`, function name, `(` identifier `:` type, … `)`, optional thin arrow [..] with a type, a block."
