@@ -1,5 +1,4 @@
 pub mod Class
-pub mod Words
 pub mod Shape
 pub mod Families
 pub mod Derive
