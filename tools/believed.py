@@ -19,6 +19,7 @@ BEGIN, END = "<!-- made by tools/believed.py -->\n", "<!-- end -->\n"
 MOST = 1700
 ROOTS = [("crates/grammar/specs/answers/Promised.antt", "Promised"), ("crates/reader/specs/Read.antt", "meant"), ("crates/reader/specs/Read.antt", "returned"),
          ("crates/grammar/specs/Entry.antt", "oneFunction"), ("crates/lexer/specs/Limits.antt", "draftLimits")]
+PAPER = ["crates/" + part for part in ("text", "words", "lexer", "theory", "grammar/specs/shapes", "num", "own", "grammar/specs/records", "kinds", "grammar", "reader")]
 DEFINITION = re.compile(r"\s*(?:infix[lr]? .*|(?:abbrev|unfoldable) .*|(?:pub )?(?:data|record) .*)$")
 DECLARED = re.compile(r"\s*(?:abbrev |unfoldable )?(?:pub )?(?:data |record )?(«?[^\s:({=]+»?)\s*(?:[({].*)?:")
 
@@ -58,9 +59,13 @@ class File:
 
 class Believed:
     def __init__(self):
-        self.files, self.seen, self.order = {}, {}, []
+        self.files, self.seen, self.below = {}, {}, {}  # below: the files that a file's definitions use
         for name, definition in ROOTS:
             self.visit(name, definition)
+        self.order = []  # behind a file that it uses, and in the paper's order else
+        while len(self.order) < len(self.seen):
+            ready = [n for n in self.seen if n not in self.order and set(self.below.get(n, [])) <= set(self.order)]
+            self.order.append(min(ready, key=lambda n: next(i for i, part in enumerate(PAPER) if n.startswith(part))))
 
     def visit(self, name, definition):
         if not os.path.exists(os.path.join(ROOT, name)):
@@ -76,8 +81,11 @@ class Believed:
         text = "\n".join(re.sub(r"(^|\s)--.*$", "", line) for line in file.blocks[file.names[definition]])
         for word in re.findall(r"[^\s(){}\[\],;|]+", re.sub(r'"[^"]*"', " ", text)):
             self.resolve(file, word)
-        if name not in self.order:
-            self.order.append(name)
+
+    def use(self, file, name, definition):
+        self.visit(name, definition)
+        if self.seen.get(name) and name not in self.below.setdefault(file.name, []):
+            self.below[file.name].append(name)
 
     def resolve(self, file, word):
         word = word.lstrip(".")
@@ -85,10 +93,10 @@ class Believed:
             return self.visit(file.name, word)
         for form in (word, f"_{word}_"):
             if form in file.uses and path(file.uses[form][0]):
-                return self.visit(path(file.uses[form][0]), file.uses[form][1])
+                return self.use(file, path(file.uses[form][0]), file.uses[form][1])
         alias, _, rest = word.partition(".")
         if rest and alias in file.aliases and path(file.aliases[alias]):
-            self.visit(path(file.aliases[alias]), rest)
+            self.use(file, path(file.aliases[alias]), rest)
 
     def lines(self, name):
         return sum(len(self.files[name].blocks[i]) for i in self.seen[name])

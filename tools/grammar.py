@@ -297,7 +297,7 @@ def written(grammar, shapes, table, printer):
     out = [
         "-- Made by tools/grammar.py from Shapes.antt: do not edit; `tools/grammar.py --check` says whether it is up to date.",
         "-- The productions of the shapes with their LL(1) table, and what each nonterminal stands for. The script needs no trust: the",
-        "-- checks in WellShaped.antt are computed on what stands here.",
+        "-- checks in WellShapedLaws.antt are computed on what stands here.",
         "-- Assumes nothing.",
         "use mathlib.Core.Bool.{true, false}",
         "use mathlib.Core.List.{List, [], _∷_}",

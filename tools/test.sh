@@ -1,6 +1,7 @@
 #!/usr/bin/env bash
-# All tests: generated files are what their scripts write, the layout, then `rt ci` (every crate proved, every must-fail edit refused, every
-# program run), then what stands on that: the entry for C from C and from Rust, the drafts of docs/REFUSALS.md, the comparison with the partner.
+# All tests: generated files are what their scripts write, the layout, the grammar's table beside Earley's method, then `rt ci` (every crate proved, every
+# must-fail edit refused, every program run), then what stands on that: the definition of the answer beside the partner, the entry for C from C and from
+# Rust, the drafts of docs/REFUSALS.md, the comparison of the library with the partner.
 # The last line, 'N passed, 0 failed', is printed only where everything passed.
 set -euo pipefail
 cd "$(dirname "$0")/.."
@@ -15,11 +16,12 @@ run() {
     passed=$((passed + 1))
 }
 
-for script in tools/words.py tools/words_cases.py tools/bytes.py tools/lexer_cases.py tools/grammar.py tools/choice.py tools/cycle.py; do
+for script in tools/words.py tools/words_cases.py tools/bytes.py tools/lexer_cases.py tools/grammar.py tools/choice.py tools/cycle.py tools/believed.py; do
     run python3 "$script" --check
 done
 run diff <(python3 tools/num_cases.py) crates/num_cases/stdout
 run rt fmt --check
+run python3 tools/compare_grammar.py
 CARGO_TARGET_DIR=$work/rust cargo build --manifest-path rust/Cargo.toml --offline --release --quiet --package partner
 run "$work/rust/release/partner" --self-test
 run python3 tools/reader_cases.py --check --partner "$work/rust/release/partner"
@@ -31,6 +33,7 @@ last=$(tail -n 1 "$log")
 [[ $last =~ ^([0-9]+)\ passed,\ 0\ failed$ ]] || { echo "test: failed: rt ci: $last"; exit 1; }
 passed=$((passed + BASH_REMATCH[1]))
 
+run python3 tools/compare_answer.py "$work/rust/release/partner" 1 150 200
 run rt staticlib reader
 run bash tools/bindings.sh
 run bash tools/compare.sh

@@ -1,8 +1,7 @@
 -- The lexing step at a place of a draft, as the enum `Step`.
 -- Assumes nothing.
-use mathlib.Core.Bool.{Bool, true, false, cond}
+use mathlib.Core.Bool.{cond}
 use mathlib.Core.List.{List}
-use mathlib.Core.Path.{_≡_, refl, ap, _∙_}
 use Prim.Native.Nat.{ℕ, _+_, _-_}
 use lib.Dec.{ltb}
 use lib.ListN.{length, drop}
@@ -18,10 +17,10 @@ pub record Values : Type 0 where
   pub kind : ℕ
   pub next : ℕ
 
-abbrev goesOn : ℕ → ℕ → Values
+abbrev pub goesOn : ℕ → ℕ → Values
 goesOn k e = record { number = 0; place = 0; kind = k; next = e }
 
-abbrev stops : ℕ → ℕ → Values
+abbrev pub stops : ℕ → ℕ → Values
 stops c p = record { number = c; place = p; kind = 0; next = 0 }
 
 -- those of each case of `Step`,
@@ -58,17 +57,3 @@ commentAt draft i e = stepFrom (comment (e - i) (drop i draft)) i
 -- what stands at place i: nothing at the end of the draft and past it
 unfoldable pub stepOf : List ℕ → ℕ → Step
 stepOf draft i = cond (ltb i (length draft)) (lexemeAt draft i) Nothing
-
-values-from : (x : Lexeme) (i : ℕ) → values (stepFrom x i) ≡ valuesFrom x i
-values-from (token k n) i = refl
-values-from (trivia n) i = refl
-values-from (refused c n) i = refl
-
--- Both say the same.
-pub values-at : (draft : List ℕ) (i : ℕ) {r : Step} → r ≡ stepOf draft i → values r ≡ valuesAt draft i
-unfolding stepOf valuesAt
-values-at draft i e = ap values e ∙ go (ltb i (length draft))
-  where
-    go : (b : Bool) → values (cond b (lexemeAt draft i) Nothing) ≡ cond b (valuesFrom (lexeme (drop i draft)) i) (stops 0 0)
-    go true = values-from (lexeme (drop i draft)) i
-    go false = refl

@@ -21,7 +21,7 @@ use Rattle.grammar.specs.answers.Answer.{toksOf, treesOf, Reading, unread, read
 use Rattle.grammar.specs.answers.Outcome.{Accepted}
 use Rattle.grammar.specs.answers.OutcomeLaws.{read-faultless}
 use Rattle.grammar.specs.answers.Laws.{law-1}
-use Rattle.grammar.specs.shapes.WellShaped.{shape-exactly}
+use Rattle.grammar.specs.shapes.WellShapedLaws.{shape-exactly}
 use Rattle.grammar.specs.spelled.TreeTokens.{top-function}
 use Rattle.lines.specs.Lines.{lineBytes, lines, lines-length}
 use Rattle.grammar.specs.answers.Lines.{listed, listing}

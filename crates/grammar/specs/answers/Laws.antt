@@ -30,7 +30,8 @@ use Rattle.kinds.specs.Ownership as kinds
 use Rattle.kinds.specs.Class.{classOf}
 use Rattle.grammar.specs.shapes.Shapes.{shapes}
 use Rattle.grammar.specs.Entry.{Entry, oneFunction, startEx, recordsOf, Owned, over}
-use Rattle.grammar.specs.shapes.WellShaped.{WellShaped, shapeOf, shape-exactly, one-shape}
+use Rattle.grammar.specs.shapes.WellShaped.{WellShaped, shapeOf}
+use Rattle.grammar.specs.shapes.WellShapedLaws.{shape-exactly, one-shape}
 use Rattle.grammar.specs.spelled.TreeTokens.{keeps-tokens}
 use Rattle.grammar.specs.records.Faults.{faultOf}
 use Rattle.grammar.specs.records.FaultNumbers.{fault-numbers}

@@ -21,7 +21,8 @@ use Rattle.text.specs.Answers.{Answer, accepted, refused}
 use Rattle.text.specs.Refusals as refusal
 use Rattle.grammar.specs.shapes.Shapes.{shapes}
 use Rattle.grammar.specs.Entry.{Entry, startEx}
-use Rattle.grammar.specs.shapes.WellShaped.{Shape, shapeOf, shape-exactly, stuck-shape-exactly}
+use Rattle.grammar.specs.shapes.WellShaped.{Shape, shapeOf}
+use Rattle.grammar.specs.shapes.WellShapedLaws.{shape-exactly, stuck-shape-exactly}
 use Rattle.grammar.specs.records.Faults.{Fault, faultOf}
 use Rattle.grammar.specs.answers.Answer.{toksOf, startOf, recordsFor, Reading, unread, read, faulty, shaped, lexed, reading, fitted, answer}
 use Rattle.grammar.specs.answers.Outcome.{Within, Shaped, Misshapen, Refusal, too-long, bad-bytes, too-many, too-deep, misshapen, faulted, no-room, Accepted}

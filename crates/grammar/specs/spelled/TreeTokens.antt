@@ -12,7 +12,8 @@ use Rattle.own.specs.Tree.{Tok, classesOf, Items, none, mark, sub, Node, node, 
 use Rattle.own.specs.Kinds as kind
 use Rattle.grammar.specs.shapes.ShapeKind.{FunctionShape}
 use Rattle.grammar.specs.Entry.{Entry, oneFunction}
-use Rattle.grammar.specs.shapes.WellShaped.{Shape, Nodes, no-more, a-node, shape-function, shape-nodes, shapeOf, shape-exactly}
+use Rattle.grammar.specs.shapes.WellShaped.{Shape, shapeOf}
+use Rattle.grammar.specs.shapes.WellShapedLaws.{Nodes, no-more, a-node, shape-function, shape-nodes, shape-exactly}
 use Rattle.grammar.specs.records.Records.{Role, aMark, asName, asNumber, roleOf, placed, arranged, firstTok, reads, decimal, functionHead, headOf, formOf, Head, headFor, recorded, recordItems, recordTrees}
 
 pub length-classes : (ts : List Tok) → length (classesOf ts) ≡ length ts

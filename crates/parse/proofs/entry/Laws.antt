@@ -27,7 +27,8 @@ use Rattle.own.specs.WordLaws.{words-are}
 use Rattle.kinds.specs.Class.{classOf}
 use Rattle.grammar.specs.shapes.TablesIndex.{n-function}
 use Rattle.grammar.specs.Entry.{Entry, oneFunction}
-use Rattle.grammar.specs.shapes.WellShaped.{shapeOf, reads-shape, reads-too-few, sticks-shape}
+use Rattle.grammar.specs.shapes.WellShaped.{shapeOf}
+use Rattle.grammar.specs.shapes.WellShapedLaws.{reads-shape, reads-too-few, sticks-shape}
 use Rattle.grammar.specs.spelled.TreeTokens.{length-classes, whole-trees, is-shape}
 use Rattle.grammar.specs.records.Records.{recordItems}
 use Rattle.grammar.specs.records.Faults.{Fault, faults, earliest, faultOf}

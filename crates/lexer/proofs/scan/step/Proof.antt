@@ -1,7 +1,7 @@
 -- The step with the table of classes, and its numbers.
 -- Assumes nothing.
 use borrow.Author.Needs.{needs}
-use Rattle.lexer.specs.Step.{values-at}
+use Rattle.lexer.proofs.StepValues.{values-at}
 use Rattle.lexer.proofs.scan.step.Statement.{statement}
 use Rattle.lexer.proofs.scan.step.Tie as tie
 
