@@ -1,15 +1,15 @@
 -- Lists as a reader finds them, one item after the other: nothing; an item; an item, a comma and a list. Each is a list of the rules.
 -- Assumes nothing.
 use mathlib.Core.List.{List, [], _∷_, _++_, append-assoc, append-nil}
-use mathlib.Core.Path.{_≡_, refl, sym, ap, _∙_, subst}
+use mathlib.Core.Path.{refl, subst}
 use Prim.Native.Nat.{ℕ}
 use borrow.Author.Tests.{eq-eqb}
 use lib.Dec.{T}
 use Rattle.text.specs.Lists.{has}
 use Rattle.own.specs.Law.{Sort, word}
 use Rattle.lexer.specs.Classes as t
-use Rattle.kinds.specs.Shape.{Shape, nothing, many, _▸_, _¦_, Spells, empty, one-mark, seq, left, right, stop, more}
-use Rattle.kinds.specs.Rules.{the, optional, some, list, commaList}
+use Rattle.kinds.specs.Shape.{Shape, Spells, empty, one-mark, seq, left, right, stop, more}
+use Rattle.kinds.specs.Rules.{the, some, list, commaList}
 
 -- One token of a class.
 pub the-mark : (c : ℕ) → Spells (the c) (word c ∷ [])

@@ -97,7 +97,6 @@ arms a b = part (arm a) ▸ part (arm b) ¦ part (arm b) ▸ part (arm a)
 abbrev pub partners : Shape
 partners = foldr (λ p s. arms (p .0) (p .1) ¦ s) never arm.partners
 
--- One form of a kind, with what its fields hold and its shape.
 pub record Form : Type 0 where
   pub kind : ℕ
   pub fields : Fields

@@ -41,6 +41,7 @@ pub data Shape : Type 0 where
   _▸_ _¦_ : Shape → Shape → Shape
   many : Shape → Shape
 
+-- The sequences that a shape has.
 pub data Spells : Shape → List Sort → Type 0 where
   empty : Spells nothing []
   one-mark : {cs : List ℕ} (c : ℕ) → T (has cs c) → Spells (mark cs) (word c ∷ [])

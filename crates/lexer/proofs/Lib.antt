@@ -10,4 +10,4 @@ pub mod Steps
 pub mod Nesting
 pub mod Filling
 pub mod TokenClass
-pub mod StepValues
+pub mod StepNumbers

@@ -1,10 +1,10 @@
 -- The sets of bytes that document 01, "Lexemes", speaks of, and runs of them.
 -- Assumes nothing.
-use mathlib.Core.Bool.{Bool, true, false, _&&_, _||_, not}
+use mathlib.Core.Bool.{Bool, true, false, _&&_, _||_}
 use mathlib.Core.List.{List, [], _∷_, _++_}
 use Prim.Native.Char.{Char, code}
 use Prim.Native.Nat.{ℕ, suc}
-use lib.Dec.{eqb, leb, ltb}
+use lib.Dec.{eqb, leb}
 use lib.ListN.{getD}
 
 pub record Range : Type 0 where

@@ -20,7 +20,8 @@ use Rattle.words.specs.declared.Found.the-variants.{Word, Plain}
 use Rattle.lexer.specs.Chars.{among, whitespace, lineEnds, plainBytes, binaryDigits, decimalDigits, hexDigits, underscore, nameStarts, nameBytes, run, begins}
 use Rattle.lexer.specs.Class.{wordClass, classOf}
 use Rattle.lexer.specs.Classes as t
-use Rattle.lexer.specs.ClassLaws.{or-second, other-class}
+use Rattle.lexer.specs.ClassLaws.{or-second, other-class, identifier-class, function-name-class}
+use Rattle.lexer.specs.ClassLaw.{ClassLaw}
 use Rattle.lexer.specs.ClassTexts.{Sample, samples, wordKinds, neverGiven, given, AllGiven, sampleIn, sampleOf, sampled, draftOf, continuedWith}
 use Rattle.lexer.specs.Lexemes.{token, space, comment, lineComment, inside, closing, blockComment, nameLength, qualified, macro, word, digits, hexadecimal, binary, decimal, marks, mark, noLexeme, lexeme, Token, tokens, lexemes}
 use Rattle.lexer.specs.SameLexeme.{sameLexeme, same-lexeme}
@@ -76,7 +77,10 @@ sample-tests c s =
 
 -- computed over all classes
 samples-pass : T (every {A = ℕ} (λ c x. not (given c) || all (sample-tests c (sampleOf c))) 0 (replicate (t.true + 1) 0))
-unfolding sameLexeme samples sampleIn given neverGiven classOf wordOf find same FUNCTION_RESERVED KEYWORDS MACROS MODULE_RESERVED RULE_NAMES BOOLEANS RULE_WORDS ascii asciiFrom among whitespace lineEnds plainBytes binaryDigits decimalDigits hexDigits underscore nameStarts nameBytes run begins space comment lineComment inside closing blockComment nameLength qualified macro word digits hexadecimal binary decimal marks mark noLexeme lexeme has
+unfolding sameLexeme samples sampleIn given neverGiven classOf wordOf find same FUNCTION_RESERVED KEYWORDS MACROS MODULE_RESERVED RULE_NAMES BOOLEANS
+    RULE_WORDS ascii asciiFrom among whitespace lineEnds plainBytes binaryDigits decimalDigits hexDigits underscore nameStarts nameBytes run begins
+    space comment lineComment inside closing blockComment nameLength qualified macro word digits hexadecimal binary decimal marks mark noLexeme lexeme
+    has
 samples-pass = tt
 
 module _ (c : ℕ) (g : T (given c)) where
@@ -186,3 +190,10 @@ module _ (draft : List ℕ) (front rest : List Token) (e : lexemes draft ≡ tok
     parts-each {A = ℕ × List ℕ} (λ k w. (k, w)),
     parts-each classOf ∙ ap (λ l. map (λ t. classOf (t .kind) (textIn draft t)) front ++ l) (sampled-classes cs g),
   )
+
+-- ---- the class of a token, whatever its text
+
+pub class-law : {k : ℕ} {w : List ℕ} {c : ℕ} → c ≡ classOf k w → OneToken k w → ClassLaw k w c
+class-law {k} {w} e o =
+    subst (ClassLaw k w) (sym e)
+    (record { identifier = identifier-class o; function-name = function-name-class o; word = λ d g h. named-class d g h o })

@@ -33,8 +33,7 @@ macro c s = record { class = c; kind = t.Macro; text = s }
 abbrev pub boolean : ℕ → String → Sample
 boolean c s = record { class = c; kind = t.Bool; text = s }
 
--- The keywords and the marks have one text each; so have the words that the rules name, the macros and the booleans. Of numbers, names, jets,
--- witnesses and parameters this is one text of many.
+-- The words that the rules name, the macros and the booleans have this one text (`named-class`); of the other classes it is a text.
 unfoldable pub samples : List Sample
 samples =
     kind t.Ident "x"

@@ -5,7 +5,7 @@ use mathlib.Core.List.{List, [], _∷_}
 use mathlib.Core.Option.{Option, none, some}
 use Prim.Native.Nat.{ℕ, zero, suc, _+_, _-_}
 use Prim.Native.String.{String}
-use lib.Dec.{eqb, ltb, leb}
+use lib.Dec.{eqb, ltb}
 use lib.ListN.{length, take, drop}
 use Rattle.text.specs.Ascii.{ascii}
 use Rattle.text.specs.Refusals as refusal
@@ -164,6 +164,7 @@ firstOf (f ∷ fs) r y = f r orElse firstOf fs r y
 unfoldable pub lexeme : List ℕ → Lexeme
 lexeme r = firstOf trials r (noLexeme (first r))
 
+-- "kind [..], start, end (the byte after)"
 pub record Token : Type 0 where
   pub kind : ℕ
   pub start : ℕ

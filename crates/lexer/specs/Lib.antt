@@ -24,6 +24,7 @@ pub mod Alone
 pub mod TextLaws
 pub mod TokenKinds
 pub mod ClassTexts
+pub mod ClassLaw
 pub mod ClassLaws
 pub mod SameLexeme
 pub mod ClassDrafts

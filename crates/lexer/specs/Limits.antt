@@ -63,7 +63,7 @@ room l size = min (l .tokens) (size / tokWide)
 abbrev pub noToken : Token
 noToken = record { kind = 0; start = 0; end = 0 }
 
--- The paper's answer for each case of `Lexed`: there are no records yet.
+-- The paper's answer for each case of `Lexed`, as far as rows 1 to 7 decide it: `accepted n 0` says that none of them applies; there are no records yet.
 abbrev pub meant : Lexed → Answer
 meant (Tokens n) = accepted n 0
 meant (Refused c p) = refused c p

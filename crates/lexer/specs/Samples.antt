@@ -1,16 +1,15 @@
 -- Short drafts of document 01, and those that show the order of trial: what the definition makes of each is computed.
 -- Assumes nothing.
-use mathlib.Core.List.{List, [], _∷_, _++_, map}
+use mathlib.Core.List.{[], _∷_}
 use mathlib.Core.Path.{_≡_, refl}
 use Prim.Native.Nat.{ℕ}
-use Prim.Native.String.{String}
 use Rattle.text.specs.Ascii.{ascii, asciiFrom}
 use Rattle.text.specs.Refusals as refusal
 use Rattle.text.specs.Same.{same}
 use Rattle.words.specs.Words.{KEYWORDS, MACROS, MODULE_RESERVED, find, wordOf}
 use Rattle.lexer.specs.Classes as t
 use Rattle.lexer.specs.Chars.{among, whitespace, lineEnds, plainBytes, binaryDigits, decimalDigits, hexDigits, underscore, nameStarts, nameBytes, run, begins}
-use Rattle.lexer.specs.Lexemes.{space, comment, lineComment, inside, closing, blockComment, nameLength, qualified, macro, word, digits, hexadecimal, binary, decimal, marks, mark, noLexeme, lexeme, Token, Lexemes, tokens, refusedAt, lexemesFrom, lexemes}
+use Rattle.lexer.specs.Lexemes.{space, comment, lineComment, inside, closing, blockComment, nameLength, qualified, macro, word, digits, hexadecimal, binary, decimal, marks, mark, noLexeme, lexeme, Token, tokens, refusedAt, lexemesFrom, lexemes}
 
 abbrev tok : ℕ → ℕ → ℕ → Token
 tok k a e = record { kind = k; start = a; end = e }

@@ -11,34 +11,34 @@ use Rattle.lexer.specs.declared.Step.the-variants.{Token, Trivia, Refuse
 
 -- "Each step of the reading answers either a next place or a refusal": the numbers of a step. Where there is no refusal its number and place are 0,
 -- and so are the kind where no token stands and the next place where there is none.
-pub record Values : Type 0 where
+pub record Numbers : Type 0 where
   pub number : ℕ
   pub place : ℕ
   pub kind : ℕ
   pub next : ℕ
 
-abbrev pub goesOn : ℕ → ℕ → Values
+abbrev pub goesOn : ℕ → ℕ → Numbers
 goesOn k e = record { number = 0; place = 0; kind = k; next = e }
 
-abbrev pub stops : ℕ → ℕ → Values
+abbrev pub stops : ℕ → ℕ → Numbers
 stops c p = record { number = c; place = p; kind = 0; next = 0 }
 
 -- those of each case of `Step`,
-abbrev pub values : Step → Values
-values (Token k e) = goesOn k e
-values (Trivia e) = goesOn 0 e
-values (Refused c p) = stops c p
-values Nothing = stops 0 0
+abbrev pub numbers : Step → Numbers
+numbers (Token k e) = goesOn k e
+numbers (Trivia e) = goesOn 0 e
+numbers (Refused c p) = stops c p
+numbers Nothing = stops 0 0
 
 -- and those that the lexeme at place i has.
-abbrev pub valuesFrom : Lexeme → ℕ → Values
-valuesFrom (token k n) i = goesOn k (i + n)
-valuesFrom (trivia n) i = goesOn 0 (i + n)
-valuesFrom (refused c n) i = stops c (i + n)
+abbrev pub numbersFrom : Lexeme → ℕ → Numbers
+numbersFrom (token k n) i = goesOn k (i + n)
+numbersFrom (trivia n) i = goesOn 0 (i + n)
+numbersFrom (refused c n) i = stops c (i + n)
 
 -- What a step at place i is to answer; there is nothing at the end of the draft and past it.
-unfoldable pub valuesAt : List ℕ → ℕ → Values
-valuesAt draft i = cond (ltb i (length draft)) (valuesFrom (lexeme (drop i draft)) i) (stops 0 0)
+unfoldable pub numbersAt : List ℕ → ℕ → Numbers
+numbersAt draft i = cond (ltb i (length draft)) (numbersFrom (lexeme (drop i draft)) i) (stops 0 0)
 
 -- the lexeme at place i
 abbrev pub stepFrom : Lexeme → ℕ → Step

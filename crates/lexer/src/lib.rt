@@ -6,6 +6,8 @@ ghost use lib.ListN.{length};
 ghost use Rattle.text.specs.Part.{partOf};
 ghost use Rattle.lexer.specs.Classes as t;
 ghost use Rattle.lexer.specs.Class.{classOf};
+ghost use Rattle.lexer.specs.ClassLaw.{ClassLaw};
+ghost use Rattle.lexer.specs.Texts.{OneToken};
 ghost use Rattle.lexer.specs.Limits.{draftLimits, meant, lexedOf, bufferOf};
 use words::Found;
 use words::Table;
@@ -63,8 +65,8 @@ fn may_be_word(kind: u32) -> bool
     }
 }
 
-// The class of a token for the rules: its kind, or that of the word or macro that it is.
-pub fn class(draft: &[u8], kind: u32, start: usize, end: usize) -> u32
+// The class of a token: its kind, or that of the word or macro that it is.
+fn class_of(draft: &[u8], kind: u32, start: usize, end: usize) -> u32
     ensures { λ r. ⌜ r ≡ classOf kind (partOf (now (draft .entry)) start end) ⌝ }
 {
     if may_be_word(kind) {
@@ -75,4 +77,12 @@ pub fn class(draft: &[u8], kind: u32, start: usize, end: usize) -> u32
         return classes::WORDS + k as u32;
     }
     kind
+}
+
+// The class of a token for the rules; of a token, it says which name, macro or word it is.
+pub fn class(draft: &[u8], kind: u32, start: usize, end: usize) -> u32
+    ensures answer { λ r. ⌜ r ≡ classOf kind (partOf (now (draft .entry)) start end) ⌝ }
+    ensures law { λ r. ⌜ (OneToken kind (partOf (now (draft .entry)) start end) → ClassLaw kind (partOf (now (draft .entry)) start end) r) ⌝ }
+{
+    class_of(draft, kind, start, end)
 }

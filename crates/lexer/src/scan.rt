@@ -9,7 +9,7 @@ ghost use Rattle.lexer.specs.Chars.{among, decimalDigits, nameStarts};
 ghost use Rattle.lexer.specs.Lexemes.{macro, qualified};
 ghost use Rattle.lexer.specs.Bytes.{byteClass, ClassTable};
 ghost use Rattle.lexer.specs.Bytes as byte;
-ghost use Rattle.lexer.specs.Step.{values, valuesAt, lexemeAt, stepOf};
+ghost use Rattle.lexer.specs.Step.{numbers, numbersAt, lexemeAt, stepOf};
 ghost use Rattle.lexer.specs.Places.{Named, Based, keywordAt, decimalAt};
 use crate::Step;
 use crate::byte;
@@ -293,7 +293,7 @@ pub(crate) fn step_with(classes: &[u8; 256], draft: &[u8], at: usize) -> Step
 // The lexing step: what stands at a place of the draft.
 pub fn step(draft: &[u8], at: usize) -> Step
     ensures answer { λ r. ⌜ r ≡ stepOf (now (draft .entry)) at ⌝ }
-    ensures values { λ r. ⌜ values r ≡ valuesAt (now (draft .entry)) at ⌝ }
+    ensures numbers { λ r. ⌜ numbers r ≡ numbersAt (now (draft .entry)) at ⌝ }
 {
     let classes = class_table();
     step_with(&classes, draft, at)

@@ -1,7 +1,8 @@
--- Good bounds and good sizes (document 01, refusals 9 and 10), as tests that antt computes.
+-- Good bounds and good sizes (document 01, refusals 9 and 10), as tests that antt computes and as what they say.
 -- Assumes nothing.
 use mathlib.Core.Bool.{Bool, false, not}
-use Prim.Native.Nat.{ℕ, _^_}
+use mathlib.Core.Path.{_≡_}
+use Prim.Native.Nat.{ℕ, _^_, _≤_}
 use lib.Dec.{eqb}
 use Rattle.text.specs.Lists.{some, span}
 use Rattle.num.specs.declared.Value.{Value}
@@ -20,3 +21,11 @@ boundOk TooLarge = false
 unfoldable pub sizeOk : Value → Bool
 sizeOk (Number n) = not (eqb n 0)
 sizeOk TooLarge = false
+
+-- What the tests say: 2 to the k for some k from 1 to 63
+abbrev pub Bound : Value → Type 0
+Bound v = (k : ℕ) × (1 ≤ k) × (k ≤ 63) × (v ≡ Number (2 ^ k))
+
+-- and some number from 1 on
+abbrev pub Size : Value → Type 0
+Size v = (n : ℕ) × (1 ≤ n) × (v ≡ Number n)

@@ -12,15 +12,7 @@ use Rattle.text.specs.Table.{is-true}
 use Rattle.text.specs.ListLaws.{some-count, count-some}
 use Rattle.num.specs.declared.Value.{Value}
 use Rattle.num.specs.declared.Value.the-variants.{Number, TooLarge}
-use Rattle.num.specs.Bound.{isBound, boundOk, sizeOk}
-
--- 2 to the k for some k from 1 to 63
-abbrev pub Bound : Value → Type 0
-Bound v = (k : ℕ) × (1 ≤ k) × (k ≤ 63) × (v ≡ Number (2 ^ k))
-
--- some number from 1 on
-abbrev pub Size : Value → Type 0
-Size v = (n : ℕ) × (1 ≤ n) × (v ≡ Number n)
+use Rattle.num.specs.Bound.{isBound, boundOk, sizeOk, Bound, Size}
 
 -- such a power, where the test passes
 pub power-of : (n : ℕ) → isBound n ≡ true → (k : ℕ) × (1 ≤ k) × (k ≤ 63) × (n ≡ 2 ^ k)

@@ -150,10 +150,10 @@ recordOf n =
 abbrev pub tokens : List Node → List Tok
 tokens ns = yield (roots ns)
 
+-- What is handed over of trees side by side: their nodes, in the order handed over, and the records of these.
 abbrev pub all : List Node → List Node
 all ns = concat (groups (roots ns))
 
--- What is handed over of trees side by side: their nodes, and the records of these.
 abbrev pub records : List Node → List Rec
 records ns = map recordOf (all ns)
 

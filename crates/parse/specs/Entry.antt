@@ -1,4 +1,4 @@
--- What `parse` hands over (document 01, "What the reader hands over", from row 8 on): from a draft and the words of its token buffer to
+-- What `parse` hands over (document 01, "What the reader hands over": row 6 for a count that is too large, and from row 8 on): from a draft and the words of its token buffer to
 -- the answer and every word of the tree buffer. What the draft is read as, and how many tokens there may be, are parameters.
 -- Assumes nothing: these are definitions.
 use mathlib.Core.Bool.{Bool, cond, _||_}
@@ -43,8 +43,8 @@ abbrev pub answered : Answer → code.Answer
 answered (accepted n m) = Records m
 answered (refused c p) = Refused c p
 
--- The answer for a draft, its n tokens in these words, and a tree buffer of rw words. Too many tokens are refusal 6; its place is left to the lexer,
--- which knows the first token too many, and is 0 here.
+-- The answer for a draft, its n tokens in these words, and a tree buffer of rw words. Too many tokens are refusal 6. Row 6's place is
+-- the lexer's to give: here it is 0, and `read` never comes to it (`not-many` of its laws).
 unfoldable pub answerOf : Entry → ℕ → List ℕ → List ℕ → ℕ → ℕ → Answer
 answerOf en most draft words n rw = cond (tooMany most n (length words)) (refused refusal.TooMany 0) (fitted rw (readingOf en draft (tokensIn n words)))
 

@@ -1,7 +1,7 @@
 -- What the functions of the cycle and of arms' heads say besides: of the records of what was read (J, before tokens became records; L, as
 -- laid), of the m tokens that belong to no record yet, and of their two numbers a and b.
 -- Assumes nothing: these are definitions.
-use mathlib.Core.Bool.{Bool, true, false, cond, _||_}
+use mathlib.Core.Bool.{true, false, cond, _||_}
 use mathlib.Core.List.{List, [], _∷_, _++_}
 use mathlib.Core.Logic.{_⊎_}
 use mathlib.Core.Path.{_≡_}
@@ -17,7 +17,7 @@ use Rattle.own.specs.Kinds as kind
 use Rattle.kinds.specs.Fields.{counted}
 use Rattle.kinds.specs.Families as family
 use Rattle.lexer.specs.Classes as t
-use Rattle.grammar.specs.records.Records.{Head, head, sees, nameCount, lone, unended, armHead, arranged}
+use Rattle.grammar.specs.records.Records.{head, sees, nameCount, lone, unended, armHead, arranged}
 use Rattle.grammar.specs.shapes.Tables.{table}
 use Rattle.grammar.specs.shapes.TablesIndex.{n-single}
 use Rattle.text.specs.Refusals as refusal

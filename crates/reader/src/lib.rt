@@ -19,7 +19,8 @@ pub enum Reading {
 
 // Reads a draft: three words a token, six words a record, zeros behind them; on a refusal every word of both buffers is 0.
 pub fn read(draft: &[u8], tokens: &mut [u32], tree: &mut [u32]) -> Reading
-    ensures answer { λ r. ⌜ returned r ≡ values (answer oneFunction draftLimits (now (draft .entry)) (length (now (tokens .entry))) (length (now (tree .entry)))) ⌝ }
+    ensures answer { λ r. ⌜ meant r ≡ answer oneFunction draftLimits (now (draft .entry)) (length (now (tokens .entry))) (length (now (tree .entry))) ⌝ }
+    ensures values { λ r. ⌜ returned r ≡ values (answer oneFunction draftLimits (now (draft .entry)) (length (now (tokens .entry))) (length (now (tree .entry)))) ⌝ }
     ensures tokens { λ _. ⌜ now (tokens .exit) ≡ tokenBuffer oneFunction draftLimits (now (draft .entry)) (length (now (tokens .entry))) (length (now (tree .entry))) ⌝ }
     ensures tree { λ _. ⌜ now (tree .exit) ≡ treeBuffer oneFunction draftLimits (now (draft .entry)) (length (now (tokens .entry))) (length (now (tree .entry))) ⌝ }
     ensures laws { λ r. ⌜ Promised oneFunction draftLimits (now (draft .entry)) (length (now (tokens .entry))) (length (now (tree .entry))) (meant r) (now (tokens .exit)) (now (tree .exit)) ⌝ }

@@ -65,11 +65,10 @@ wordsOf ModuleReserved = MODULE_RESERVED
 wordsOf RuleWords = RULE_WORDS
 wordsOf TypeNames = TYPE_NAMES
 
--- the first word of the list that p is, counted from k
+-- the first word of the list that p is, counted from k, and Plain if it is none; counted from 0
 unfoldable pub find : List ℕ → ℕ → List (List ℕ) → Found
 find p k [] = Plain
 find p k (w ∷ ws) = cond (same p w) (Word k) (find p (k + 1) ws)
 
--- which word of the list p is, counted from 0, and Plain if it is none
 unfoldable pub wordOf : List (List ℕ) → List ℕ → Found
 wordOf ws p = find p 0 ws

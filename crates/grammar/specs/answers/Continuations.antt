@@ -2,11 +2,10 @@
 -- of classes, and both say the same.
 -- Assumes nothing.
 use mathlib.Core.List.{List, [], _∷_, _++_, map, List·Memᴰ, Memᴰ·append-right}
-use mathlib.Core.Logic.{_↔_}
 use mathlib.Core.Path.{_≡_, refl, sym, ap, ap₂, _∙_, subst}
 use Prim.Native.Nat.{ℕ, zero, suc, _≤_, _<_}
 use native.Mathlib.Omega.{arith}
-use lib.ListN.{length, take, drop}
+use lib.ListN.{length, take, drop, take-append-drop}
 use Rattle.own.specs.Tree.{classesOf}
 use Rattle.theory.specs.Ebnf.{FirstWrong}
 use Rattle.lexer.specs.Lexemes.{Token, tokens, lexemes}
@@ -48,11 +47,6 @@ take-map f zero l = refl
 take-map f (suc k) [] = refl
 take-map f (suc k) (a ∷ l) = ap (λ m. f a ∷ m) (take-map f k l)
 
-take-drop : {A : Type 0} (k : ℕ) (l : List A) → take k l ++ drop k l ≡ l
-take-drop zero l = refl
-take-drop (suc k) [] = refl
-take-drop (suc k) (a ∷ l) = ap (λ m. a ∷ m) (take-drop k l)
-
 take-front : {A : Type 0} (k l : List A) → take (length k) (k ++ l) ≡ k
 take-front [] l = refl
 take-front (a ∷ k) l = ap (λ m. a ∷ m) (take-front k l)
@@ -76,14 +70,14 @@ module _ (en : Entry) (draft : List ℕ) (ts : List Token) (lexes : lexemes draf
       let e : take n cs ≡ take k (classes draft ts) =
       ap (take n) (classes-spelled (c .draft) (c .its-tokens)) ∙ take-map class-of n (spelled (c .draft) (c .its-tokens)) ∙ ap (map class-of) (c .begins)
       ∙ sym (ap (take k) (classes-spelled draft ts) ∙ take-map class-of k (spelled draft ts)) in
-      (drop n cs, subst (WellShaped en) (sym (take-drop n cs) ∙ ap (λ l. l ++ drop n cs) e) (c .well-shaped))
+      (drop n cs, subst (WellShaped en) (sym (take-append-drop n cs) ∙ ap (λ l. l ++ drop n cs) e) (c .well-shaped))
 
   -- and a draft is written for these tokens and any classes behind them
   pub as-draft : (more : List ℕ) → WellShaped en (take k (classes draft ts) ++ more) → Continued en (take k (spelled draft ts))
   unfolding textIn
   as-draft more w =
       let given : AllGiven more = λ c m. well-shaped-given en (take k (classes draft ts) ++ more) w c (later m) in
-      let all : lexemes draft ≡ tokens (front ++ drop k ts) = lexes ∙ sym (ap tokens (take-drop k ts)) in
+      let all : lexemes draft ≡ tokens (front ++ drop k ts) = lexes ∙ sym (ap tokens (take-append-drop k ts)) in
       let d = continued draft front (drop k ts) all more given in
       record {
         draft = continuedWith draft front more;

@@ -4,17 +4,15 @@ use mathlib.Core.List.{List, _++_}
 use mathlib.Core.Option.{none}
 use mathlib.Core.Logic.{_↔_}
 use mathlib.Core.Path.{_≡_, refl, sym, ap, ap₂, _∙_, subst}
-use Prim.Native.Nat.{ℕ, suc, _+_, _-_, _*_, _≤_, _<_}
-use native.Mathlib.Decide.{decLt}
+use Prim.Native.Nat.{ℕ, _+_, _-_, _*_, _≤_}
 use native.Mathlib.Omega.{arith}
-use borrow.Author.Tests.{lt-ltb, le-ltb}
 use lib.Dec.{T}
-use lib.ListN.{length, getD, take, drop, replicate, length-append, length-replicate}
+use lib.ListN.{length, drop, replicate, length-append, length-replicate}
 use lib.Seq.{drop-at}
-use Rattle.theory.specs.Ebnf.{Items, FirstWrong}
+use Rattle.theory.specs.Ebnf.{Items}
 use Rattle.theory.specs.Parse.{found}
 use Rattle.lexer.specs.Lexemes.{Token}
-use Rattle.lexer.specs.Limits.{Limits, noToken, tokenWords, tokensOf, bufferOf}
+use Rattle.lexer.specs.Limits.{Limits, tokenWords, tokensOf, bufferOf}
 use Rattle.lexer.specs.Limits as lexer
 use Rattle.lexer.specs.RowLaws as rows
 use Rattle.lexer.specs.Tokens.{lexeme-refused}
@@ -28,19 +26,18 @@ use Rattle.own.specs.WordLaws.{recs-words}
 use Rattle.kinds.specs.Ownership.{Right}
 use Rattle.kinds.specs.Ownership as kinds
 use Rattle.kinds.specs.Class.{classOf}
-use Rattle.grammar.specs.shapes.Shapes.{shapes}
-use Rattle.grammar.specs.Entry.{Entry, oneFunction, startEx, recordsOf, Owned, over}
-use Rattle.grammar.specs.shapes.WellShaped.{WellShaped, shapeOf}
+use Rattle.grammar.specs.Entry.{Entry, oneFunction, recordsOf, Owned, over}
+use Rattle.grammar.specs.shapes.WellShaped.{shapeOf}
 use Rattle.grammar.specs.shapes.WellShapedLaws.{shape-exactly, one-shape}
 use Rattle.grammar.specs.spelled.TreeTokens.{keeps-tokens}
 use Rattle.grammar.specs.records.Faults.{faultOf}
 use Rattle.grammar.specs.records.FaultNumbers.{fault-numbers}
 use Rattle.grammar.specs.spelled.RecordLaws.{is-right}
-use Rattle.grammar.specs.answers.Answer.{toksOf, startOf, treesOf, recordsFor, read, reading, answer, content, tokensRead, recordsIn, tokenBuffer, recordsRead, treeBuffer}
+use Rattle.grammar.specs.answers.Answer.{toksOf, treesOf, recordsFor, read, reading, answer, content, tokensRead, recordsIn, tokenBuffer, recordsRead, treeBuffer}
 use Rattle.grammar.specs.answers.Outcome.{Shaped, Misshapen, Refusal, too-long, bad-bytes, too-many, too-deep, misshapen, faulted, no-room, Accepted, Written}
 use Rattle.grammar.specs.answers.OutcomeLaws.{refused-exactly, accepted-exactly, lexed-within, read-faultless}
 use Rattle.grammar.specs.answers.Promised.{Promised}
-use Rattle.grammar.specs.answers.TokensInOrder.{tokens-in-order, toks-length, classes-length, token-words-length, record-words-length, tokens-read-back}
+use Rattle.grammar.specs.answers.TokensInOrder.{tokens-in-order, toks-length, token-words-length, record-words-length, tokens-read-back}
 
 -- Right trees are owned as each entry promises, and then there are no more records than it says.
 owned-at : (en : Entry) (len : ℕ) (ns : List Node) → Right ns → Owned en len (tokens ns) (recordsOf en len ns)
@@ -226,3 +223,25 @@ promised {en} {l} {draft} {tw} {rw} {a} {ts} {rs} e f g =
       zeros = λ c p h. let z = law-4-refused en l draft tw rw c p (sym e ∙ h) in (f ∙ z .0, g ∙ z .1);
       owned = λ n m h. subst (λ u. Owned en (length draft) (toks (classOf draft) n u) (recs m rs)) (sym f) (subst (λ u. Owned en (length draft) (toks (classOf draft) n (tokenBuffer en l draft tw rw)) (recs m u)) (sym g) (law-3 en l draft tw rw n m (sym e ∙ h)));
     }
+
+-- What keeps the promise is the definition's answer, with its words:
+pub promised-is : {en : Entry} {l : Limits} {draft : List ℕ} {tw rw : ℕ} {a : Answer} {ts rs : List ℕ} → Promised en l draft tw rw a ts rs
+    → (a ≡ answer en l draft tw rw) × (ts ≡ tokenBuffer en l draft tw rw) × (rs ≡ treeBuffer en l draft tw rw)
+promised-is {en} {l} {draft} {tw} {rw} {a} {ts} {rs} p = go (answer en l draft tw rw) refl
+  where
+    go : (x : Answer) → answer en l draft tw rw ≡ x → (a ≡ answer en l draft tw rw) × (ts ≡ tokenBuffer en l draft tw rw) × (rs ≡ treeBuffer en l draft tw rw)
+    go (accepted n m) e =
+        let d = law-1 en l draft tw rw n m .0 e in
+        let v = p .written n m d in
+        let w = law-1-words en l draft tw rw n m d in
+        (p .accepts n m .1 d ∙ sym e, v .token-words ∙ sym (w .token-words), v .record-words ∙ sym (w .record-words))
+    go (refused c q) e =
+        let f = p .refuses c q .1 (refusals-in-order en l draft tw rw c q .0 e) in
+        let z = p .zeros c q f in
+        let y = law-4-refused en l draft tw rw c q e in
+        (f ∙ sym e, z .0 ∙ sym (y .0), z .1 ∙ sym (y .1))
+
+-- so two answers, with their words, that keep it are the same.
+pub one-promise : {en : Entry} {l : Limits} {draft : List ℕ} {tw rw : ℕ} {a b : Answer} {ts us rs vs : List ℕ}
+    → Promised en l draft tw rw a ts rs → Promised en l draft tw rw b us vs → (a ≡ b) × (ts ≡ us) × (rs ≡ vs)
+one-promise p q = let x = promised-is p in let y = promised-is q in (x .0 ∙ sym (y .0), x .1 ∙ sym (y .1), x .2 ∙ sym (y .2))

@@ -11,17 +11,16 @@ use borrow.Author.Tests.{ltb-true, ltb-false, lt-ltb, le-ltb}
 use lib.Dec.{ltb}
 use lib.ListN.{length, getD}
 use Rattle.own.specs.Tree.{classesOf}
-use Rattle.theory.specs.Ebnf.{Items, yield, FirstWrong}
+use Rattle.theory.specs.Ebnf.{Items}
 use Rattle.theory.specs.Parse.{Found, found, stuck}
 use Rattle.lexer.specs.Lexemes.{Token, Lexemes, tokens, refusedAt, lexemes}
 use Rattle.lexer.specs.RowLaws as rows
 use Rattle.lexer.specs.Limits.{Limits, tooDeep, room, noToken, deep, judged, lexedOf, tokensOf}
-use Rattle.text.specs.Widths.{tokWide, recWide}
+use Rattle.text.specs.Widths.{recWide}
 use Rattle.text.specs.Answers.{Answer, accepted, refused}
 use Rattle.text.specs.Refusals as refusal
-use Rattle.grammar.specs.shapes.Shapes.{shapes}
-use Rattle.grammar.specs.Entry.{Entry, startEx}
-use Rattle.grammar.specs.shapes.WellShaped.{Shape, shapeOf}
+use Rattle.grammar.specs.Entry.{Entry}
+use Rattle.grammar.specs.shapes.WellShaped.{shapeOf}
 use Rattle.grammar.specs.shapes.WellShapedLaws.{shape-exactly, stuck-shape-exactly}
 use Rattle.grammar.specs.records.Faults.{Fault, faultOf}
 use Rattle.grammar.specs.answers.Answer.{toksOf, startOf, recordsFor, Reading, unread, read, faulty, shaped, lexed, reading, fitted, answer}

@@ -1,6 +1,6 @@
 -- The place of every refusal lies in the draft, or is its length.
 -- Assumes nothing.
-use mathlib.Core.Bool.{Bool, true, false, cond, _||_}
+use mathlib.Core.Bool.{Bool, true, false, cond}
 use mathlib.Core.List.{List, [], _∷_}
 use mathlib.Core.Option.{some}
 use mathlib.Core.Path.{_≡_, refl}
@@ -14,16 +14,16 @@ use Rattle.text.specs.Answers.{refused}
 use Rattle.text.specs.Refusals as refusal
 use Rattle.theory.specs.Ebnf as shape
 use Rattle.lexer.specs.Lexemes.{Token}
-use Rattle.lexer.specs.Limits.{Limits, noToken, depthAfter, rowAfter, tooDeep, room}
+use Rattle.lexer.specs.Limits.{Limits, noToken, depthAfter, rowAfter, passes, tooDeep, room}
 use Rattle.lexer.specs.RowLaws as rows
 use Rattle.lexer.specs.Tokens.{Between, tokens-between, lexeme-refused}
 use Rattle.own.specs.Tree.{Tok, Items, marks}
-use Rattle.own.specs.Lists.{All, nil, _&_}
+use Rattle.own.specs.Lists.{All, nil, _&_, all-append}
 use Rattle.lexer.specs.Classes as t
 use Rattle.grammar.specs.shapes.Row.{Refused, never, byBound, byFold, byArms}
 use Rattle.grammar.specs.records.Records.{opening, firstTok, firstOf, recorded, recordItems}
 use Rattle.grammar.specs.records.Faults.{Fault, unless, faultsBy, refusedOf, faultsAt, faults, faultOf}
-use Rattle.grammar.specs.records.FaultNumbers.{both, chosen, of-answered}
+use Rattle.grammar.specs.records.FaultNumbers.{chosen, of-answered}
 use Rattle.grammar.specs.Entry.{Entry}
 use Rattle.grammar.specs.answers.Answer.{toksOf, startOf, answer}
 use Rattle.grammar.specs.answers.Outcome.{Refusal, too-long, bad-bytes, too-many, too-deep, misshapen, faulted, no-room}
@@ -40,7 +40,7 @@ deep-before : (at m d n : ℕ) (ts : List Token) (p : ℕ) → Between at m ts �
 unfolding tooDeep
 deep-before at m d n [] p b e = let z : _≡_ {A = ℕ} 0 1 = cc in absurd (omega arith)
 deep-before at m d n (u ∷ ts) p b e =
-    go (ltb 48 (depthAfter (u .kind) d) || ltb 8 (rowAfter (u .kind) n)) e (deep-before (u .end) m (depthAfter (u .kind) d) (rowAfter (u .kind) n) ts p (b .3))
+    go (passes (depthAfter (u .kind) d) (rowAfter (u .kind) n)) e (deep-before (u .end) m (depthAfter (u .kind) d) (rowAfter (u .kind) n) ts p (b .3))
   where
     go : (c : Bool) → cond c (some (u .start)) (tooDeep (depthAfter (u .kind) d) (rowAfter (u .kind) n) ts) ≡ some p
         → (tooDeep (depthAfter (u .kind) d) (rowAfter (u .kind) n) ts ≡ some p → p < m) → p < m
@@ -104,8 +104,8 @@ unfolding faults
 faults-start draft m shape.nil ts s = nil
 faults-start draft m (shape.word c r) ts s = faults-start draft m r (drop 1 ts) (starts-drop m 1 ts s)
 faults-start draft m (shape.sub k js r) ts s =
-    both (λ g. g .place ≤ m) (at-start draft m k (recordItems draft js ts) (marks-start draft m js ts s))
-    (both (λ g. g .place ≤ m) (faults-start draft m js ts s)
+    all-append (at-start draft m k (recordItems draft js ts) (marks-start draft m js ts s))
+    (all-append (faults-start draft m js ts s)
     (faults-start draft m r (drop (length (shape.yield js)) ts) (starts-drop m (length (shape.yield js)) ts s)))
 
 fault-start : (draft : List ℕ) (m : ℕ) (ts : List Tok) (r : shape.Items) (f : Fault) → Starts m ts → faultOf draft ts r ≡ some f → f .place ≤ m

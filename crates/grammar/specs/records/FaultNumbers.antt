@@ -12,7 +12,7 @@ use Rattle.text.specs.Refusals as refusal
 use Rattle.text.specs.Lists.{has, Some, here, there}
 use Rattle.theory.specs.Ebnf as shape
 use Rattle.own.specs.Tree.{Tok, Items, marks}
-use Rattle.own.specs.Lists.{All, nil, _&_}
+use Rattle.own.specs.Lists.{All, nil, _&_, all-append}
 use Rattle.own.specs.Kinds as kind
 use Rattle.own.specs.Law.{sorts}
 use Rattle.lexer.specs.Classes as t
@@ -23,10 +23,6 @@ use Rattle.grammar.specs.records.Faults.{Fault, unless, armLows, mates, 
 use Rattle.grammar.specs.records.FaultLaws.{earliest-first}
 
 module _ (P : Fault → Type 0) where
-  pub both : {k l : List Fault} → All P k → All P l → All P (k ++ l)
-  both nil b = b
-  both (p & a) b = p & both a b
-
   pub chosen : (b : Bool) {k l : List Fault} → All P k → All P l → All P (cond b k l)
   chosen true a c = a
   chosen false a c = c
@@ -89,8 +85,8 @@ unfolding faults
 all-numbered draft shape.nil ts = nil
 all-numbered draft (shape.word c r) ts = all-numbered draft r (drop 1 ts)
 all-numbered draft (shape.sub k js r) ts =
-    both Numbered (at-numbered draft k (recordItems draft js ts))
-    (both Numbered (all-numbered draft js ts) (all-numbered draft r (drop (length (shape.yield js)) ts)))
+    all-append (at-numbered draft k (recordItems draft js ts))
+    (all-append (all-numbered draft js ts) (all-numbered draft r (drop (length (shape.yield js)) ts)))
 
 -- The number of a refusal of a shape tree is one of the family.
 pub fault-numbers : (draft : List ℕ) (ts : List Tok) (r : shape.Items) (f : Fault) → faultOf draft ts r ≡ some f → T (has refusal.ofShapes (f .number))

@@ -1,11 +1,13 @@
 -- The refusals of the shapes, each with its place, and the earliest of a shape tree (document 01, "What the reader hands over").
 -- Assumes nothing.
-use mathlib.Core.Bool.{Bool, true, false, _&&_, _||_, not, cond}
+use mathlib.Core.Bool.{Bool, false, _||_, not, cond}
 use mathlib.Core.List.{List, [], _∷_, _++_, map}
 use mathlib.Core.Option.{Option, none, some}
-use Prim.Native.Nat.{ℕ}
+use mathlib.Core.Path.{_≡_}
+use Prim.Native.Nat.{ℕ, _≤_}
 use lib.Dec.{eqb, ltb}
 use lib.ListN.{length, drop, getD}
+use Rattle.text.specs.Lists.{Some}
 use Rattle.text.specs.Refusals as refusal
 use Rattle.num.specs.declared.Value.{Value}
 use Rattle.num.specs.Bound.{boundOk, sizeOk}
@@ -13,6 +15,7 @@ use Rattle.theory.specs.Ebnf as shape
 use Rattle.own.specs.Tree.{Tok, Items, marks, partner}
 use Rattle.own.specs.Law.{Sort, word, child, sorts}
 use Rattle.own.specs.Kinds as kind
+use Rattle.own.specs.Lists.{All}
 use Rattle.kinds.specs.Fields.{counted}
 use Rattle.lexer.specs.Classes as t
 use Rattle.grammar.specs.shapes.Row.{Refused, never, byBound, byFold, byArms}
@@ -81,3 +84,8 @@ earliest (f ∷ l) = earlier f (earliest l)
 
 unfoldable pub faultOf : List ℕ → List Tok → shape.Items → Option Fault
 faultOf draft ts r = earliest (faults draft r ts)
+
+-- A refusal that a list has, none of which is earlier.
+pub record EarliestFault (f : Fault) (l : List Fault) : Type 0 where
+  pub one-of : Some (λ g. f ≡ g) l
+  pub first : All (λ g. f .place ≤ g .place) l

@@ -31,6 +31,7 @@ use Rattle.lexer.specs.Classes as t
 use Rattle.grammar.specs.shapes.Row.{Form, always, numbered, angled, lonely, aFunction, aTypeName, aPatternName, aBlock, aLiteral, aMatch, aName, anArm}
 use Rattle.grammar.specs.shapes.Shapes.{rows}
 
+-- The fields of a record that its shape decides.
 pub record Head : Type 0 where
   pub kind : ℕ
   pub low : ℕ
@@ -182,6 +183,7 @@ headOf anArm text n w = armHead w
 headOf aBlock text n w = head kind.Block (cond (unended false w) 1 0) 0
 headOf aMatch text n w = cond (ltb 0 (counted (kind.EnumArm ∷ []) w)) (plain kind.EnumMatch) (plain kind.Match)
 
+-- The form in the row of number k.
 unfoldable pub formOf : ℕ → Form
 formOf k = getD (map (λ r. r .form) rows) k (always 0)
 

@@ -1,17 +1,15 @@
 -- Drafts and their records, from the text to the six numbers of each record, by computation: one of each kind of type, pattern, call, expression and
 -- match. The drafts that the paper marks ● stand in cases/Known.antt.
 -- Assumes nothing.
-use mathlib.Core.Bool.{_||_, cond}
-use mathlib.Core.List.{List, [], _∷_, _++_, map}
+use mathlib.Core.List.{List, [], _∷_, map}
 use mathlib.Core.Option.{Option, none, some}
 use mathlib.Core.Path.{_≡_, refl}
 use Prim.Native.Nat.{ℕ}
 use Prim.Native.String.{String}
-use lib.ListN.{length, drop}
+use lib.ListN.{drop}
 use Rattle.text.specs.Ascii.{ascii, asciiFrom}
 use Rattle.text.specs.Part.{partOf}
 use Rattle.text.specs.Same.{same}
-use Rattle.text.specs.Refusals as refusal
 use Rattle.text.specs.Lists.{has, count, span}
 use Rattle.words.specs.Words.{KEYWORDS, MACROS, MODULE_RESERVED, RULE_WORDS, RULE_NAMES, FUNCTION_RESERVED, BOOLEANS, BOOL, UINT_TYPES, BUILTIN_ALIASES, find, wordOf}
 use Rattle.num.specs.Digits as digits
@@ -28,7 +26,7 @@ use Rattle.theory.specs.Same.{ex}
 use Rattle.theory.specs.Exec.{thenWord, thenRest, thenSub, exec}
 use Rattle.theory.specs.Fuel.{saves, need}
 use Rattle.theory.specs.Parse.{Found, found, stuck, judge, parse}
-use Rattle.own.specs.Tree.{Tok, Node, partner, canonical, turned, Rec, records}
+use Rattle.own.specs.Tree.{Tok, partner, canonical, turned, Rec, records}
 use Rattle.own.specs.Kinds as kind
 use Rattle.own.specs.Arms as arm
 use Rattle.own.specs.Calls as call

@@ -20,7 +20,7 @@ use Rattle.theory.specs.Trees.{one-node}
 use Rattle.theory.specs.Same.{ex, ofSort, alternatives, eqList, eqEx, sameRow, sames}
 use Rattle.theory.specs.Walk.{Reads, Sticks}
 use Rattle.theory.specs.Fuel.{saves, need, paidRow, paid}
-use Rattle.theory.specs.Parse.{Found, found, stuck, parse, Checked}
+use Rattle.theory.specs.Parse.{found, stuck, Checked}
 use Rattle.theory.specs.Theorems.{found-exactly, unique, stuck-exactly, no-tree, reads-found, reads-stuck, sticks-stuck}
 use Rattle.grammar.specs.shapes.Categories.{function}
 use Rattle.grammar.specs.shapes.ShapeKind.{FunctionShape}

@@ -1,35 +1,26 @@
--- The laws of HeadLaws.antt for a block and for a match.
+-- The law of HeadLaws.antt for a block.
 -- Assumes nothing.
-use mathlib.Core.Bool.{Bool, true, false, _&&_, _||_, not, cond}
+use mathlib.Core.Bool.{true, false, _&&_, not, cond}
 use mathlib.Core.List.{List, [], _∷_, _++_, append-nil, append-assoc}
-use mathlib.Core.Logic.{_⊎_, inl, inr}
 use mathlib.Core.Path.{_≡_, refl, sym, ap, _∙_, subst}
-use Prim.Native.Nat.{ℕ, zero, suc, _+_, _≤_, _<_}
+use Prim.Native.Nat.{ℕ}
 use native.Mathlib.Omega.{arith}
-use borrow.Author.Tests.{eq-eqb, ne-eqb, eqb-true, lt-ltb, eqb-false}
-use lib.Dec.{T, eqb, eqb→eq, ltb}
-use lib.ListN.{length}
-use Rattle.text.specs.Same.{differ}
-use Rattle.text.specs.Table.{is-true, first-of, second-of, or-cases}
-use Rattle.text.specs.Lists.{some, all, here, there, has, count, span}
-use Rattle.num.specs.Bound.{isBound}
-use Rattle.own.specs.Tree.{partner}
+use borrow.Author.Tests.{eq-eqb, ne-eqb}
+use lib.Dec.{T, eqb, eqb→eq}
+use Rattle.text.specs.Lists.{some, all, has, count, span}
 use Rattle.own.specs.Law.{Sort, word, child}
 use Rattle.own.specs.Kinds as kind
-use Rattle.kinds.specs.Shape.{Part, of, arm, Shape, nothing, never, part, mark, _▸_, _¦_, many, number, fits, Spells, empty, one-mark, one-part, seq, left, right, stop, more}
-use Rattle.kinds.specs.Fields.{counted, holds}
-use Rattle.kinds.specs.Rules.{the, element, expression, braces, enumArm, arms, forms}
-use Rattle.kinds.specs.Spelled.{Spelled, formsOf}
+use Rattle.kinds.specs.Shape.{_▸_, many, fits, Spells, empty, one-mark, one-part, seq, left, right, stop, more}
+use Rattle.kinds.specs.Rules.{the, element, expression, forms}
+use Rattle.kinds.specs.Spelled.{formsOf}
 use Rattle.lexer.specs.Classes as class
-use Rattle.grammar.specs.spelled.Rows.{Row, r-end, r-more, pairs, variants}
-use Rattle.grammar.specs.spelled.Inclusion.{all-has, dealt, roled, rowIn, marksOf, isPart, kindsOf, onlyKinds, tokenIn, pieceIn, shapeIn, manyIn, atomIn}
+use Rattle.grammar.specs.spelled.Rows.{r-end, r-more, pairs, variants}
+use Rattle.grammar.specs.spelled.Inclusion.{rowIn, marksOf, isPart, kindsOf, onlyKinds, tokenIn, pieceIn, shapeIn, manyIn, atomIn}
 use Rattle.grammar.specs.spelled.Decisions.{one-has}
 use Rattle.grammar.specs.spelled.FormTests.{SpelledAs, formIn, fixed}
 use Rattle.grammar.specs.spelled.HeadLaws.{exactIn, exact-sound}
-use Rattle.grammar.specs.spelled.Rules.{elementsShape, has-within}
-use Rattle.grammar.specs.records.Records.{Head, head, Role, aMark, roleOf, unended}
-use Rattle.grammar.specs.records.Records as rec
-use Rattle.grammar.specs.records.Faults.{armLows, mates, armsFault}
+use Rattle.grammar.specs.spelled.Rules.{elementsShape}
+use Rattle.grammar.specs.records.Records.{head, roleOf, unended}
 
 -- ---- a block
 

@@ -1,30 +1,30 @@
 -- The laws of HeadLaws.antt for the forms that count or hold a number: a function, types with a number or `< >`, what begins with a
 -- name, and arms.
 -- Assumes nothing.
-use mathlib.Core.Bool.{Bool, true, false, _&&_, _||_, not, cond}
+use mathlib.Core.Bool.{Bool, true, false, _&&_, _||_, cond}
 use mathlib.Core.List.{List, [], _∷_}
 use mathlib.Core.Logic.{_⊎_, inl, inr}
 use mathlib.Core.Path.{_≡_, refl, sym, ap, _∙_, subst}
 use Prim.Native.Nat.{ℕ, _+_, _≤_}
 use native.Mathlib.Omega.{arith}
-use lib.Dec.{T, eqb, eqb→eq}
-use Rattle.text.specs.Table.{is-true, first-of, second-of, or-cases}
-use Rattle.text.specs.Lists.{some, all, has, count, span}
+use lib.Dec.{T}
+use Rattle.text.specs.Table.{first-of, second-of, or-cases}
+use Rattle.text.specs.Lists.{all, has, count, span}
 use Rattle.num.specs.Bound.{isBound}
-use Rattle.own.specs.Law.{Sort, word, child}
+use Rattle.own.specs.Law.{Sort}
 use Rattle.own.specs.Kinds as kind
 use Rattle.own.specs.Arms as arm
-use Rattle.kinds.specs.Shape.{Part, Shape, number, Spells}
-use Rattle.kinds.specs.Fields.{counted, halves}
+use Rattle.kinds.specs.Shape.{Shape, Spells}
+use Rattle.kinds.specs.Fields.{counted}
 use Rattle.kinds.specs.Families as family
 use Rattle.lexer.specs.Classes as class
 use Rattle.grammar.specs.spelled.Rows.{Row, variants}
 use Rattle.grammar.specs.spelled.Inclusion.{dealt}
 use Rattle.grammar.specs.spelled.Decisions.{sure, free, row-sure, row-free, lacks, row-lacks, counted-dealt, names-dealt}
-use Rattle.grammar.specs.spelled.FormTests.{SpelledAs, by-rows, formIn, Numbers, form-sound, noNumber, fixed, fixed-holds, anyNumber, aBound, ofParameters, ofNames, ofPairs, counts, Says}
-use Rattle.grammar.specs.spelled.FormTests.{loneRow, crowdedRow, lone-sound, crowded-sound, judge, judge-sound, halves-of, number-of}
+use Rattle.grammar.specs.spelled.FormTests.{SpelledAs, by-rows, formIn, noNumber, anyNumber, aBound, ofParameters, ofPairs, counts, Says}
+use Rattle.grammar.specs.spelled.FormTests.{halves-of, number-of}
 use Rattle.grammar.specs.spelled.HeadLaws.{opened, opened-sound, exactIn, exact-sound, count-sound}
-use Rattle.grammar.specs.records.Records.{Role, asName, aMark, roleOf, Head, head, wide, sees, opening, nameCount, lone, placeIn, functionHead, callHead, wrapperHead, calledHead, aloneHead, nameHead, armHead, lowHalf, highHalf, largest, armWords}
+use Rattle.grammar.specs.records.Records.{roleOf, head, wide, sees, opening, nameCount, placeIn, functionHead, armHead, largest, armWords}
 use Rattle.grammar.specs.records.Records as rec
 
 -- three tests that pass

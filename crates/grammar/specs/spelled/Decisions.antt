@@ -1,28 +1,25 @@
--- What a row says of the decisions of Records.antt: which tokens it surely has or has not, how many names and parts; and the test that
--- a row is of one of the forms of a kind.
+-- What a row says of the decisions of Records.antt: which tokens it surely has or has not, and how many names and parts.
 -- Assumes nothing.
 use mathlib.Core.Bool.{Bool, true, false, _&&_, _||_, not, cond, or-true}
 use mathlib.Core.List.{List, [], _∷_, _++_}
 use mathlib.Core.Logic.{_⊎_, inl, inr}
 use mathlib.Core.Path.{_≡_, refl, sym, ap, ap₂, _∙_, subst}
-use Prim.Native.Nat.{ℕ, suc, _+_, _<_}
+use Prim.Native.Nat.{ℕ, _+_}
 use native.Mathlib.Omega.{arith}
 use lib.Dec.{T, eqb, eqb→eq}
-use Rattle.text.specs.Table.{is-true, first-of, second-of, or-cases, or-left, or-right}
-use Rattle.text.specs.Lists.{Some, some, all, has}
-use Rattle.text.specs.ListLaws.{some-sound, all-some, from-some}
+use Rattle.text.specs.Table.{is-true, first-of, second-of, or-cases}
+use Rattle.text.specs.Lists.{some, all, has}
 use Rattle.own.specs.Law.{Sort, word, child}
 use Rattle.own.specs.Kinds as kind
-use Rattle.kinds.specs.Shape.{Part, of, name, arm, bound, size, Shape, nothing, never, part, _▸_, _¦_, many, fits, Spells, empty, one-mark, one-part, seq, left, right, stop, more}
+use Rattle.kinds.specs.Shape.{Shape, nothing, never, part, _▸_, _¦_, many, Spells, empty, one-mark, one-part, seq, left, right, stop, more}
 use Rattle.kinds.specs.Shape as k
-use Rattle.kinds.specs.Fields.{Fields, plain, low, among, wide, bounded, parameters, names, pairs, counted, holds}
-use Rattle.kinds.specs.Rules.{the, Form}
+use Rattle.kinds.specs.Fields.{counted}
+use Rattle.kinds.specs.Rules.{the}
 use Rattle.kinds.specs.Build.{the-mark}
-use Rattle.kinds.specs.Spelled.{formsOf, Written, Spelled}
 use Rattle.lexer.specs.Classes as class
-use Rattle.grammar.specs.spelled.Rows.{Row, r-end, r-more, variants, variants-in}
-use Rattle.grammar.specs.spelled.Inclusion.{all-has, roled, dealt, onlyKinds, kindsOf, fit-kinds, rowIn, atomIn, row-into}
-use Rattle.grammar.specs.records.Records.{Role, aMark, asName, asNumber, roleOf, sees, opening, nameCount, lowHalf, highHalf}
+use Rattle.grammar.specs.spelled.Rows.{Row, r-end, r-more}
+use Rattle.grammar.specs.spelled.Inclusion.{all-has, roled, dealt, onlyKinds, kindsOf, fit-kinds}
+use Rattle.grammar.specs.records.Records.{Role, aMark, asName, asNumber, roleOf, sees, opening, nameCount}
 
 -- ---- which tokens a row has
 

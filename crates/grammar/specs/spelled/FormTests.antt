@@ -1,29 +1,26 @@
 -- The computed tests that each row of a shape is of the form of the kind that Records.antt decides, and that they are sound.
 -- Assumes nothing.
-use mathlib.Core.Bool.{Bool, true, false, _&&_, _||_, not, cond}
+use mathlib.Core.Bool.{Bool, true, false, _&&_, _||_, not}
 use mathlib.Core.List.{List, [], _∷_, _++_, map, append-assoc}
 use mathlib.Core.Logic.{_⊎_, inl, inr}
-use mathlib.Core.Path.{_≡_, refl, sym, ap, ap₂, _∙_, subst}
+use mathlib.Core.Path.{_≡_, refl, sym, ap, _∙_, subst}
 use Prim.Native.Nat.{ℕ, zero, suc, _+_, _≤_, _<_}
 use native.Mathlib.Omega.{arith}
 use borrow.Author.Tests.{eq-eqb, lt-ltb, ltb-true, ltb-false}
 use lib.Dec.{T, eqb, eqb→eq, ltb}
-use lib.ListN.{getD}
 use Rattle.text.specs.Same.{differ}
-use Rattle.text.specs.Table.{is-true, first-of, second-of, or-cases, pair}
-use Rattle.text.specs.Lists.{Some, here, there, some, all, has, span}
+use Rattle.text.specs.Table.{first-of, second-of, or-cases, pair}
+use Rattle.text.specs.Lists.{Some, here, there, some, all, has}
 use Rattle.text.specs.ListLaws.{some-sound, all-some, from-some}
 use Rattle.num.specs.declared.Value.{Value}
 use Rattle.num.specs.declared.Value.the-variants.{Number, TooLarge}
 use Rattle.num.specs.Bound.{boundOk, sizeOk, isBound, isBound}
 use Rattle.own.specs.Law.{Sort, word, child}
 use Rattle.own.specs.Kinds as kind
-use Rattle.theory.specs.Ebnf.{eps}
-use Rattle.kinds.specs.Shape.{Part, of, name, arm, bound, size, Shape, nothing, never, part, _▸_, _¦_, many, number, fits, Spells, empty, one-mark, one-part, seq, left, right, stop, more, halfRange}
+use Rattle.kinds.specs.Shape.{Part, Shape, nothing, never, part, _▸_, _¦_, many, number, fits, Spells, one-mark, one-part, stop, more, halfRange}
 use Rattle.kinds.specs.Shape as k
 use Rattle.kinds.specs.Fields.{Fields, plain, low, among, wide, bounded, parameters, names, pairs, counted, halves, holds}
-use Rattle.kinds.specs.Rules.{the, Form}
-use Rattle.kinds.specs.Spelled.{formsOf, Written, Spelled}
+use Rattle.kinds.specs.Spelled.{formsOf, Spelled}
 use Rattle.kinds.specs.Families as family
 use Rattle.lexer.specs.Classes as class
 use Rattle.grammar.specs.spelled.Rows.{Row, r-end, r-more, row-join, variants, variants-in}

@@ -1,37 +1,34 @@
--- One law for each way in which a shape decides the head of its record: where the rows of the shape pass a computed test, what it spells,
--- its tokens in their roles, is of the rule of the kind decided.
+-- The laws of the ways in which a shape decides the head of its record: always one kind, alone or not, a literal, a name of a type, a pattern. Others
+-- stand in CountedLaws, NameLaws, BlockLaws and MatchLaws.
 -- Assumes nothing.
 use mathlib.Core.Bool.{Bool, true, false, _&&_, _||_, not, cond}
-use mathlib.Core.List.{List, [], _∷_, _++_, map}
+use mathlib.Core.List.{List, [], _∷_}
 use mathlib.Core.Logic.{_⊎_, inl, inr}
-use mathlib.Core.Path.{_≡_, refl, sym, ap, ap₂, _∙_, subst}
-use Prim.Native.Nat.{ℕ, zero, suc, _+_, _≤_, _<_, _^_}
+use mathlib.Core.Path.{_≡_, refl, sym, subst}
+use Prim.Native.Nat.{ℕ, _+_, _<_, _^_}
 use native.Mathlib.Omega.{arith}
-use borrow.Author.Tests.{eq-eqb}
-use lib.Dec.{T, eqb, eqb→eq}
+use lib.Dec.{T, eqb}
 use lib.ListN.{length}
 use Rattle.text.specs.Ascii.{ascii}
 use Rattle.text.specs.Same.{same}
-use Rattle.text.specs.Table.{is-true, first-of, second-of, or-cases}
-use Rattle.text.specs.Lists.{some, all, has, count, span}
+use Rattle.text.specs.Table.{first-of, second-of, or-cases}
+use Rattle.text.specs.Lists.{all}
 use Rattle.words.specs.Words.{BOOL, UINT_TYPES, BUILTIN_ALIASES, find, wordOf}
 use Rattle.words.specs.declared.Found.{Found}
 use Rattle.words.specs.declared.Found.the-variants.{Word, Plain}
-use Rattle.own.specs.Law.{Sort, word, child}
+use Rattle.own.specs.Law.{Sort}
 use Rattle.own.specs.Kinds as kind
-use Rattle.kinds.specs.Shape.{Part, of, name, arm, bound, size, Shape, nothing, never, part, _▸_, _¦_, many, fits, Spells}
+use Rattle.kinds.specs.Shape.{Shape, nothing, never, part, _▸_, _¦_, many, Spells}
 use Rattle.kinds.specs.Shape as k
-use Rattle.kinds.specs.Fields.{counted}
 use Rattle.kinds.specs.Rules.{the}
 use Rattle.lexer.specs.Classes as class
 use Rattle.grammar.specs.spelled.Rows.{Row, variants}
 use Rattle.grammar.specs.spelled.Inclusion.{dealt}
-use Rattle.grammar.specs.spelled.Decisions.{sure, free, row-sure, row-free, row-opening, row-opened, lacks, row-lacks, counted-dealt, names-dealt}
-use Rattle.grammar.specs.spelled.FormTests.{SpelledAs, by-rows, formIn, Numbers, form-sound, noNumber, no-numbers, fixed, fixed-holds, Count, anyNumber, aBound, ofParameters, ofNames, ofPairs, counts, Says, counts-hold}
-use Rattle.grammar.specs.spelled.FormTests.{allBelow, below-all, loneRow, crowdedRow, lone-sound, crowded-sound, judge, judge-sound, halves-of}
-use Rattle.grammar.specs.records.Records.{Role, asName, aMark, roleOf, Head, head, wide, sees, opening, nameCount, lone, builtinType, unsignedType, boolType, typeName, patternName, literalHead}
+use Rattle.grammar.specs.spelled.Decisions.{row-opening, row-opened}
+use Rattle.grammar.specs.spelled.FormTests.{SpelledAs, by-rows, formIn, form-sound, noNumber, no-numbers, fixed, fixed-holds, Count, counts, Says, counts-hold}
+use Rattle.grammar.specs.spelled.FormTests.{allBelow, below-all, loneRow, crowdedRow, lone-sound, crowded-sound, judge, judge-sound}
+use Rattle.grammar.specs.records.Records.{Head, head, opening, lone, builtinType, unsignedType, boolType, typeName, patternName, literalHead}
 use Rattle.grammar.specs.records.Records as rec
-use Rattle.grammar.specs.records.Records.{functionHead, callHead, wrapperHead, calledHead, aloneHead, nameHead, armHead, lowHalf, highHalf}
 
 -- A row begins with one of some classes, and passes a test with each.
 unfoldable pub opened : (ℕ → List Shape → Bool) → List Shape → Bool

@@ -1,18 +1,18 @@
 -- Tokens in their roles, as a rule sees them, and a computed test that what one shape spells, its tokens in their roles, another spells.
 -- Assumes nothing.
-use mathlib.Core.Bool.{Bool, true, false, _&&_, _||_}
+use mathlib.Core.Bool.{Bool, true, false, _&&_}
 use mathlib.Core.List.{List, [], _∷_, _++_}
 use mathlib.Core.Logic.{_⊎_, inl, inr}
 use mathlib.Core.Path.{_≡_, refl, sym, ap, _∙_, subst}
 use Prim.Native.Nat.{ℕ}
 use lib.Dec.{T, eqb, eqb→eq}
 use Rattle.text.specs.Table.{first-of, second-of, or-cases}
-use Rattle.text.specs.Lists.{Some, some, all, has}
+use Rattle.text.specs.Lists.{some, all, has}
 use Rattle.text.specs.ListLaws.{some-sound, all-some, from-some}
 use Rattle.own.specs.Tree.{Tok, Items, none, mark, sub, yield}
 use Rattle.own.specs.Law.{Sort, word, child, sorts, firstClass}
 use Rattle.own.specs.Kinds as kind
-use Rattle.kinds.specs.Shape.{Part, of, name, arm, bound, size, Shape, nothing, never, part, _▸_, _¦_, many, fits, Spells, empty, one-mark, one-part, seq, left, right, stop, more}
+use Rattle.kinds.specs.Shape.{Part, of, name, arm, bound, size, Shape, nothing, never, part, _▸_, _¦_, many, fits, Spells, one-mark, one-part, right, stop, more}
 use Rattle.kinds.specs.Shape as k
 use Rattle.lexer.specs.Classes as class
 use Rattle.grammar.specs.spelled.Rules.{has-within}

@@ -11,7 +11,7 @@ use lib.Dec.{T, eqb, eqb→eq, ltb}
 use lib.ListN.{length}
 use Rattle.text.specs.Table.{first-of, second-of, or-cases, pair}
 use Rattle.text.specs.Refusals as refusal
-use Rattle.text.specs.Lists.{all, some, here, there, has, count, span}
+use Rattle.text.specs.Lists.{all, some, here, has, count, span}
 use Rattle.own.specs.Tree.{partner}
 use Rattle.own.specs.Law.{Sort, word, child}
 use Rattle.own.specs.Kinds as kind

@@ -1,35 +1,27 @@
 -- The law of HeadLaws.antt for what begins with a name, a macro, a jet or `<`.
 -- Assumes nothing.
 use mathlib.Core.Bool.{Bool, true, false, _&&_, _||_, not, cond}
-use mathlib.Core.List.{List, [], _∷_, _++_, append-nil}
+use mathlib.Core.List.{List, [], _∷_}
 use mathlib.Core.Logic.{_⊎_, inl, inr}
-use mathlib.Core.Path.{_≡_, refl, sym, ap, _∙_, subst}
-use Prim.Native.Nat.{ℕ, suc, _+_, _≤_, _<_}
+use mathlib.Core.Path.{_≡_, refl}
+use Prim.Native.Nat.{ℕ}
 use native.Mathlib.Omega.{arith}
-use borrow.Author.Tests.{ltb-true, lt-ltb}
-use lib.Dec.{T, eqb, eqb→eq, ltb}
-use lib.ListN.{length}
+use lib.Dec.{T}
 use Rattle.text.specs.Table.{is-true, first-of, second-of, or-cases}
-use Rattle.text.specs.Lists.{some, all, here, there, has, count, span}
-use Rattle.own.specs.Tree.{partner}
-use Rattle.own.specs.Law.{Sort, word, child}
+use Rattle.text.specs.Lists.{all, has}
+use Rattle.own.specs.Law.{Sort}
 use Rattle.own.specs.Kinds as kind
-use Rattle.kinds.specs.Shape.{Part, of, arm, bound, size, Shape, nothing, part, mark, _▸_, _¦_, many, fits, Spells, empty, one-mark, one-part, seq, left, right, stop, more}
-use Rattle.kinds.specs.Fields.{counted, holds}
-use Rattle.kinds.specs.Rules.{the, element, expression, braces, wrappers}
-use Rattle.kinds.specs.Rules as rules
-use Rattle.kinds.specs.Spelled.{Spelled, formsOf}
+use Rattle.kinds.specs.Shape.{Part, Shape, Spells}
+use Rattle.kinds.specs.Rules.{wrappers}
 use Rattle.lexer.specs.Classes as class
-use Rattle.grammar.specs.spelled.Rows.{Row, r-end, r-more, variants}
+use Rattle.grammar.specs.spelled.Rows.{Row, variants}
 use Rattle.grammar.specs.spelled.Inclusion.{dealt}
 use Rattle.grammar.specs.spelled.Decisions.{not-true, sure, free, row-sure, row-free, lacks, row-lacks}
 use Rattle.grammar.specs.spelled.FormTests.{SpelledAs, by-rows, formIn, Numbers, form-sound, noNumber, fixed, fixed-holds, ofNames, counts, Says}
 use Rattle.grammar.specs.spelled.FormTests.{and-false, loneRow, crowdedRow, lone-sound, crowded-sound, judge, judge-sound}
 use Rattle.grammar.specs.spelled.HeadLaws.{opened, opened-sound, exactIn, exact-sound, count-sound}
 use Rattle.grammar.specs.spelled.CountedLaws.{names-construction, second-third}
-use Rattle.grammar.specs.spelled.Rules.{elementsShape}
-use Rattle.grammar.specs.records.Records.{Head, head, roleOf, sees, opening, nameCount, lone, unended, placeIn, callHead, wrapperHead, calledHead, aloneHead, nameHead}
-use Rattle.grammar.specs.records.Records as rec
+use Rattle.grammar.specs.records.Records.{head, sees, opening, nameCount, lone, callHead, wrapperHead, calledHead, aloneHead, nameHead}
 
 module _ (n : ℕ) (ok : ℕ → Part → Bool) where
   -- a wrapper, or a call of a name

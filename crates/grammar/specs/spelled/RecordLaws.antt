@@ -7,29 +7,27 @@ use mathlib.Core.List.{List, [], _∷_, _++_, append-assoc, append-nil}
 use mathlib.Core.Option.{some}
 use mathlib.Core.Option as option
 use mathlib.Core.Path.{_≡_, refl, sym, ap, _∙_, subst}
-use Prim.Native.Nat.{ℕ, zero, suc, _≤_, _<_}
+use Prim.Native.Nat.{ℕ, _≤_}
 use native.Mathlib.Omega.{arith}
-use borrow.Author.Tests.{eqb-true, leb-true, eq-eqb}
-use lib.Dec.{T, eqb, eqb→eq, leb}
+use borrow.Author.Tests.{eqb-true, leb-true}
+use lib.Dec.{T, eqb, leb}
 use lib.ListN.{length, drop, getD, getElem?}
 use Rattle.text.specs.Part.{partOf}
-use Rattle.text.specs.Table.{is-true, first-of, second-of}
 use Rattle.text.specs.Refusals as refusal
-use Rattle.text.specs.Lists.{all, here, there, has}
+use Rattle.text.specs.Lists.{all, here, has}
 use Rattle.num.specs.Digits as digits
 use Rattle.num.specs.Value.{decimalFrom, fitted, numberOf}
 use Rattle.num.specs.Bound.{boundOk, sizeOk}
-use Rattle.num.specs.declared.Value.{Value}
 use Rattle.num.specs.declared.Value.the-variants.{Number, TooLarge}
 use Rattle.theory.specs.Ebnf as shape
 use Rattle.theory.specs.Ebnf.{Ex, m-end, m-word, m-sub, m-choice}
 use Rattle.theory.specs.Parse.{found}
-use Rattle.own.specs.Tree.{Tok, Items, none, mark, sub, Node, node, roots, yield, marks, Each, InOrder, tokens, records, classesOf}
+use Rattle.own.specs.Tree.{Tok, Items, none, mark, sub, roots, yield, marks, Each, InOrder, tokens, records, classesOf}
 use Rattle.own.specs.Flat.{no-token}
 use Rattle.own.specs.Law.{Sort, word, child, Ownership, firstClass, sorts, Keeps}
 use Rattle.own.specs.Kinds as kind
 use Rattle.kinds.specs.Shape.{of, fits, _▸_, Spells, empty, one-mark, one-part, seq}
-use Rattle.kinds.specs.Fields.{counted, halves, holds}
+use Rattle.kinds.specs.Fields.{counted, holds}
 use Rattle.kinds.specs.Rules.{the}
 use Rattle.kinds.specs.Rules as rules
 use Rattle.kinds.specs.Build.{the-mark}
@@ -40,16 +38,16 @@ use Rattle.lexer.specs.Classes as class
 use Rattle.grammar.specs.shapes.ShapeKind.{ListTypeShape, MatchShape, FoldingShape}
 use Rattle.grammar.specs.shapes.Shapes.{shapes}
 use Rattle.grammar.specs.Entry.{Entry}
-use Rattle.grammar.specs.shapes.WellShaped.{Shape, shapeOf}
-use Rattle.grammar.specs.records.Records.{Head, head, Role, aMark, asName, asNumber, roleOf, placed, arranged, lowHalf, highHalf, reads, sees, opening, textOf, firstTok, firstOf, decimal, headOf, formOf, headFor, recorded, recordItems, recordTrees, largest}
-use Rattle.grammar.specs.records.Faults.{Fault, unless, armLows, armsFault, faultsAt, faults, faultOf}
+use Rattle.grammar.specs.shapes.WellShaped.{shapeOf}
+use Rattle.grammar.specs.records.Records.{Role, aMark, asName, asNumber, roleOf, placed, arranged, lowHalf, highHalf, reads, sees, opening, textOf, firstTok, firstOf, decimal, headOf, formOf, headFor, recorded, recordItems, recordTrees, largest}
+use Rattle.grammar.specs.records.Faults.{unless, armLows, armsFault, faultsAt, faults, faultOf}
 use Rattle.grammar.specs.records.FaultLaws.{none-exactly}
 use Rattle.grammar.specs.spelled.TreeTokens.{whole-trees, is-shape, its-yield, keeps-tokens}
 use Rattle.grammar.specs.spelled.Rules.{kindsIn, seen, row, row-append, pair-in, items-in, choice-in, has-within}
-use Rattle.grammar.specs.spelled.Inclusion.{dealt, sorts-arranged}
+use Rattle.grammar.specs.spelled.Inclusion.{sorts-arranged}
 use Rattle.grammar.specs.spelled.FormTests.{SpelledAs, halves-of}
 use Rattle.grammar.specs.spelled.ShapeTests.{bodyShape}
-use Rattle.grammar.specs.spelled.ShapeLaws.{Given, Kept, kept, has-law, kind-of-category}
+use Rattle.grammar.specs.spelled.ShapeLaws.{Given, kept, has-law, kind-of-category}
 
 -- ---- the tokens that become records of their own
 

@@ -1,24 +1,17 @@
--- Shapes of the rules as rows without choices, and a computed test that all that one shape spells, its tokens in their roles, another
--- spells too. The test is sound.
+-- Shapes of the rules as rows without choices: what a row spells, the rows that a shape may be, and that a shape spells what one of them does.
 -- Assumes nothing.
-use mathlib.Core.Bool.{Bool, true, false, _&&_, _||_}
 use mathlib.Core.List.{List, [], _∷_, _++_, map, append-assoc, append-nil}
 use mathlib.Core.Logic.{_⊎_, inl, inr}
-use mathlib.Core.Path.{_≡_, refl, sym, ap, ap₂, _∙_, subst}
-use Prim.Native.Nat.{ℕ, zero, suc, _<_}
+use mathlib.Core.Path.{_≡_, refl, sym, ap, _∙_, subst}
+use Prim.Native.Nat.{_<_}
 use native.Mathlib.Omega.{arith}
-use lib.Dec.{T, eqb, eqb→eq}
 use lib.ListN.{length}
-use Rattle.text.specs.Table.{first-of, second-of, or-cases}
-use Rattle.text.specs.Lists.{Some, here, there, some, all, has}
-use Rattle.text.specs.ListLaws.{some-sound, all-some, from-some, only-one}
-use Rattle.own.specs.Tree.{Tok, Items, none, mark, sub}
-use Rattle.own.specs.Law.{Sort, word, child, sorts}
-use Rattle.kinds.specs.Shape.{Part, of, name, arm, bound, size, Shape, nothing, never, part, _▸_, _¦_, many, fits, Spells, empty, one-mark, one-part, seq, left, right, stop, more}
+use Rattle.text.specs.Lists.{Some, here, there}
+use Rattle.text.specs.ListLaws.{only-one}
+use Rattle.own.specs.Tree.{mark}
+use Rattle.own.specs.Law.{Sort}
+use Rattle.kinds.specs.Shape.{Shape, nothing, never, part, _▸_, _¦_, many, Spells, empty, one-mark, one-part, seq, left, right, stop, more}
 use Rattle.kinds.specs.Shape as k
-use Rattle.lexer.specs.Classes as class
-use Rattle.grammar.specs.spelled.Rules.{has-within}
-use Rattle.grammar.specs.records.Records.{Role, aMark, asName, asNumber, roleOf, placed, arranged, lowHalf, highHalf}
 
 -- ---- rows
 

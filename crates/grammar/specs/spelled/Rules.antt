@@ -14,13 +14,11 @@ use Rattle.theory.specs.Ebnf as shape
 use Rattle.text.specs.Table.{first-of, second-of, or-cases}
 use Rattle.text.specs.Lists.{has, all, count, span}
 use Rattle.text.specs.ListLaws.{has-left, has-right}
-use Rattle.own.specs.Law.{Sort, word}
+use Rattle.own.specs.Law.{Sort}
 use Rattle.own.specs.Kinds as kind
-use Rattle.kinds.specs.Shape.{Shape, nothing, never, mark, of, name, arm, bound, size, _▸_, _¦_, many, Spells, empty, one-mark, one-part, left, right, stop, more, fits}
+use Rattle.kinds.specs.Shape.{Shape, nothing, never, mark, of, _▸_, _¦_, many, Spells, empty, one-mark, one-part, left, right, stop, more, fits}
 use Rattle.kinds.specs.Shape as k
 use Rattle.kinds.specs.Rules.{the, optional, element, expression}
-use Rattle.kinds.specs.Rules as rules
-use Rattle.kinds.specs.Build.{the-mark}
 use Rattle.kinds.specs.Families as family
 use Rattle.lexer.specs.Classes as t
 use Rattle.grammar.specs.shapes.Shapes.{shapes}

@@ -1,6 +1,6 @@
 -- The law of each kind of shape: without refusals 9 to 14 at it, its record spells the rule of its kind, and is of a kind of its category.
 -- Assumes nothing.
-use mathlib.Core.Bool.{Bool, true, false, _&&_, _||_, not, cond}
+use mathlib.Core.Bool.{Bool, true, false, _&&_, cond}
 use mathlib.Core.List.{List, [], _∷_}
 use mathlib.Core.Option.{some}
 use mathlib.Core.Path.{_≡_, refl, sym, ap, _∙_, subst}
@@ -8,7 +8,7 @@ use Prim.Native.Nat.{ℕ, zero, suc, _+_, _≤_, _<_}
 use native.Mathlib.Omega.{arith}
 use borrow.Author.Tests.{eq-eqb, ltb-true, ltb-false, lt-ltb}
 use lib.Dec.{T, eqb, eqb→eq, ltb}
-use lib.ListN.{getD, getElem?, length, List·getD-eq-default}
+use lib.ListN.{getElem?, length, List·getD-eq-default}
 use Rattle.text.specs.Ascii.{ascii}
 use Rattle.text.specs.Same.{same}
 use Rattle.text.specs.Table.{is-true, first-of, second-of, or-right}

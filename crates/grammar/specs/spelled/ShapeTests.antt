@@ -1,18 +1,15 @@
--- The computed tests of HeadLaws.antt and its like at each kind of shape, and with them the law of each: what a shape spells, its tokens
--- in their roles, is of the rule of the kind that Records.antt decides.
+-- The computed tests of HeadLaws.antt and its like at each kind of shape.
 -- Assumes nothing.
 use mathlib.Core.Bool.{Bool, true, false, cond}
-use mathlib.Core.List.{List, [], _∷_}
-use mathlib.Core.Path.{_≡_, refl, sym, ap, _∙_, subst}
-use Prim.Native.Nat.{ℕ, _≤_, _<_}
+use mathlib.Core.List.{List}
+use Prim.Native.Nat.{ℕ}
 use native.Mathlib.Omega.{arith}
 use lib.Dec.{T, eqb}
 use lib.ListN.{getD}
 use Rattle.text.specs.Lists.{some, all, has, span, count}
 use Rattle.theory.specs.Ebnf.{eps}
-use Rattle.own.specs.Law.{Sort}
 use Rattle.own.specs.Kinds as kind
-use Rattle.kinds.specs.Shape.{Part, of, name, arm, bound, size, Shape, fits, Spells}
+use Rattle.kinds.specs.Shape.{Part, of, name, arm, bound, size, Shape, fits}
 use Rattle.kinds.specs.Rules.{forms}
 use Rattle.kinds.specs.Spelled.{formsOf}
 use Rattle.lexer.specs.Classes as class
@@ -21,11 +18,11 @@ use Rattle.grammar.specs.spelled.Rules.{kindsIn, both, seen, partShapes,
 use Rattle.grammar.specs.spelled.Rows.{pairs, variants}
 use Rattle.grammar.specs.spelled.Inclusion.{rowIn, atomIn, manyIn, shapeIn, pieceIn, tokenIn, marksOf, isPart, kindsOf, onlyKinds}
 use Rattle.grammar.specs.spelled.Decisions.{free, freeOf, sure, isThe, lacks}
-use Rattle.grammar.specs.spelled.FormTests.{SpelledAs, formIn, noNumber, fixed, counts, anyNumber, aBound, hasParts, loneRow, crowdedRow, unroll, judge, allBelow}
+use Rattle.grammar.specs.spelled.FormTests.{formIn, noNumber, fixed, counts, anyNumber, aBound, hasParts, loneRow, crowdedRow, unroll, judge, allBelow}
 use Rattle.grammar.specs.spelled.HeadLaws.{opened, exactIn, lonelyRow, literalRow, typeRow, patternRow}
 use Rattle.grammar.specs.spelled.CountedLaws.{functionCase, functionRow, angledRow, armRow}
 use Rattle.grammar.specs.spelled.NameLaws.{wrapsRow, callsRow, genericRow, pathRow, parensRow, aloneRow, plainRow, nameRow, nameRows}
-use Rattle.grammar.specs.records.Records.{roleOf, placeIn, literalHead, callHead, wrapperHead, aloneHead, head}
+use Rattle.grammar.specs.records.Records.{roleOf, placeIn, literalHead, callHead, wrapperHead, aloneHead}
 use Rattle.grammar.specs.records.Records as rec
 use Rattle.grammar.specs.shapes.ShapeKind.{FunctionShape, ParameterShape, EitherTypeShape, OptionTypeShape, ListTypeShape, NamedTypeShape}
 use Rattle.grammar.specs.shapes.ShapeKind.{TupleTypeShape, ArrayTypeShape, NamePatternShape, TuplePatternShape, ArrayPatternShape, AssignmentShape}

@@ -1,14 +1,14 @@
 -- The record trees of a shape tree have exactly the draft's tokens, in order, and those of one function are one, a function's.
 -- Assumes nothing.
-use mathlib.Core.List.{List, [], _∷_, _++_, append-nil}
+use mathlib.Core.List.{List, [], _∷_, _++_}
 use mathlib.Core.Path.{_≡_, refl, sym, ap, ap₂, subst, _∙_}
-use Prim.Native.Nat.{ℕ, zero, suc, _+_, _≤_}
+use Prim.Native.Nat.{ℕ, suc, _≤_}
 use native.Mathlib.Omega.{arith}
 use lib.ListN.{length, take, drop, length-append, length-drop}
 use lib.Seq.{take-add, take-length}
 use Rattle.theory.specs.Ebnf as shape
 use Rattle.theory.specs.Parse.{found}
-use Rattle.own.specs.Tree.{Tok, classesOf, Items, none, mark, sub, Node, node, roots, yield, tokens}
+use Rattle.own.specs.Tree.{Tok, classesOf, Items, none, mark, sub, Node, roots, yield, tokens}
 use Rattle.own.specs.Kinds as kind
 use Rattle.grammar.specs.shapes.ShapeKind.{FunctionShape}
 use Rattle.grammar.specs.Entry.{Entry, oneFunction}

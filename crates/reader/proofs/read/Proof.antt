@@ -62,7 +62,7 @@ returns c =
     let a1 = sym g in
     let a2 = c .before .before .before .before .before .before .before .before .before .lex .ensures .1 ∙ law.lexer-zeros d k h ∙ law.refused-tokens oneFunction d k z g in
     let a3 = c .before .before .clear .ensures ∙ law.refused-tree oneFunction d k z g in
-    (ap values a1, (a2, (a3, promised a1 a2 a3)))
+    (a1, (ap values a1, (a2, (a3, promised a1 a2 a3))))
 
 same-length-3 : tie.Need-same-length-3
 same-length-3 c =
@@ -81,7 +81,7 @@ returns-2 c =
     let b1 = c .before .before .before .before .parsed .ensures .0 ∙ ap (λ i. answer oneFunction draftLimits d i z) l in
     let b2 = c .before .before .before .before .parsed .ensures .1 .0 ∙ ap (λ i. tokenBuffer oneFunction draftLimits d i z) l in
     let b3 = c .before .before .before .before .parsed .ensures .1 .1 ∙ ap (λ i. treeBuffer oneFunction draftLimits d i z) l in
-    (ap values b1, (b2, (b3, promised b1 b2 b3)))
+    (b1, (ap values b1, (b2, (b3, promised b1 b2 b3))))
 
 pub read-spec : {M : Type 1} → statement M
 read-spec = tie.close (tie.spec lex-requires enum-known-lexed clear-requires enum-known-lexed-2 parsed-requires same-length same-length-2 returns

@@ -1,7 +1,7 @@
 -- The step with the table of classes, and its numbers.
 -- Assumes nothing.
 use borrow.Author.Needs.{needs}
-use Rattle.lexer.proofs.StepValues.{values-at}
+use Rattle.lexer.proofs.StepNumbers.{numbers-at}
 use Rattle.lexer.proofs.scan.step.Statement.{statement}
 use Rattle.lexer.proofs.scan.step.Tie as tie
 
@@ -12,7 +12,7 @@ step-with-requires : tie.Need-step-with-requires
 step-with-requires c κs = search needs
 
 returns : tie.Need-returns
-returns c = let e = c .step-with .ensures in (e, values-at _ _ e)
+returns c = let e = c .step-with .ensures in (e, numbers-at _ _ e)
 
 pub step-spec : {M : Type 1} → statement M
 step-spec = tie.close (tie.spec class-table-requires step-with-requires returns)

@@ -54,7 +54,7 @@ class-requires c κs = search needs
 returns : tie.Need-returns
 returns c =
     let a = c .before .before .before .before .before .before .before .before .args in
-    token-in (now (a .draft)) (now (a .tokens)) (a .count) (a .at) (c .class .result) (c .before .before .before .before .before .if1 .taken) (c .before .before .before .before .if2 .taken) (c .class .ensures)
+    token-in (now (a .draft)) (now (a .tokens)) (a .count) (a .at) (c .class .result) (c .before .before .before .before .before .if1 .taken) (c .before .before .before .before .if2 .taken) (c .class .ensures .0)
 
 returns-2 : tie.Need-returns-2
 returns-2 c =

@@ -59,8 +59,8 @@ returns c =
     let t = c .before .before .before .before .before .before .before .before .before .before .before .before .read .last .1 .1 .0 in
     let n = c .before .before .before .before .before .before .reading .given .0 .0 in
     let m = c .before .before .before .before .before .before .reading .given .0 .1 .0 in
-    let a = c .before .before .before .before .before .before .before .before .before .before .before .before .read .ensures .1 .1 .1 .accepts n m .0 (ap meant (c .before .before .before .before .before .before .reading .given .1)) in
-    let e = c .before .before .before .before .before .before .before .before .before .before .before .before .read .ensures .1 .1 .0 in
+    let a = c .before .before .before .before .before .before .before .before .before .before .before .before .read .ensures .1 .1 .1 .1 .accepts n m .0 (ap meant (c .before .before .before .before .before .before .reading .given .1)) in
+    let e = c .before .before .before .before .before .before .before .before .before .before .before .before .read .ensures .1 .1 .1 .0 in
     let l = all-listed t m z (law.records-fit d t x y n m a e) (c .before .before .list .ensures .0) (c .before .before .list .ensures .1) in
     law.accepted-is d t x y n m z (l .0) (l .1) a e
 
@@ -84,7 +84,7 @@ returns-2 c =
     let z = length (c .before .before .before .before .before .before .before .before .before .before .before .before .before .before .before .before .before .before .args .out .now) in
     let c2 = c .before .before .before .before .before .reading2 .given .0 .0 in
     let p = c .before .before .before .before .before .reading2 .given .0 .1 .0 in
-    let b = c .before .before .before .before .before .before .before .before .before .before .before .read .ensures .1 .1 .1 .refuses c2 p .0 (ap meant (c .before .before .before .before .before .reading2 .given .1)) in
+    let b = c .before .before .before .before .before .before .before .before .before .before .before .read .ensures .1 .1 .1 .1 .refuses c2 p .0 (ap meant (c .before .before .before .before .before .reading2 .given .1)) in
     law.refused-is d x y c2 p z (c .before .before .refusal .ensures .0) (c .before .before .refusal .ensures .1) b
 
 pub list-by-spec : {M : Type 1} → statement M
