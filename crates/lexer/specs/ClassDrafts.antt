@@ -12,7 +12,7 @@ use Rattle.text.specs.Lists.{has}
 use Rattle.text.specs.Ascii.{ascii, asciiFrom}
 use Rattle.text.specs.Same.{same}
 use Rattle.text.specs.SameLaws.{same-true}
-use Rattle.text.specs.Table.{all, each, every, at, is-true, first-of, second-of}
+use Rattle.text.specs.Table.{all, each, every, at, is-true, first-of, second-of, implied}
 use Rattle.words.specs.Right.{Says, says}
 use Rattle.words.specs.Words.{FUNCTION_RESERVED, KEYWORDS, MACROS, MODULE_RESERVED, RULE_NAMES, BOOLEANS, RULE_WORDS, find, wordOf}
 use Rattle.words.specs.declared.Found.{Found}
@@ -20,7 +20,7 @@ use Rattle.words.specs.declared.Found.the-variants.{Word, Plain}
 use Rattle.lexer.specs.Chars.{among, whitespace, lineEnds, plainBytes, binaryDigits, decimalDigits, hexDigits, underscore, nameStarts, nameBytes, run, begins}
 use Rattle.lexer.specs.Class.{wordClass, classOf}
 use Rattle.lexer.specs.Classes as t
-use Rattle.lexer.specs.ClassLaws.{or-second, other-class, identifier-class, function-name-class}
+use Rattle.lexer.specs.ClassLaws.{other-class, identifier-class, function-name-class}
 use Rattle.lexer.specs.ClassLaw.{ClassLaw}
 use Rattle.lexer.specs.ClassTexts.{Sample, samples, wordKinds, neverGiven, given, AllGiven, sampleIn, sampleOf, sampled, draftOf, continuedWith}
 use Rattle.lexer.specs.Lexemes.{token, space, comment, lineComment, inside, closing, blockComment, nameLength, qualified, macro, word, digits, hexadecimal, binary, decimal, marks, mark, noLexeme, lexeme, Token, tokens, lexemes}
@@ -93,7 +93,7 @@ module _ (c : ℕ) (g : T (given c)) where
   passes =
       let l = leb→le c t.true (second-of (leb t.Pub c) (leb c t.true) (first-of (leb t.Pub c && leb c t.true) _ g)) in
       each (sample-tests c (sampleOf c))
-      (or-second (given c) _ (at {A = ℕ} (λ c x. not (given c) || all (sample-tests c (sampleOf c))) (replicate (t.true + 1) 0) 0 samples-pass c (omega arith)) g)
+      (implied (given c) _ (at {A = ℕ} (λ c x. not (given c) || all (sample-tests c (sampleOf c))) (replicate (t.true + 1) 0) 0 samples-pass c (omega arith)) g)
 
   -- A class's sample is one token, and has that class.
   pub sample-token : OneToken (sampleOf c .kind) v
@@ -115,8 +115,8 @@ module _ (c : ℕ) (g : T (given c)) where
       of-word : List·Memᴰ k wordKinds → classOf k w ≡ c → w ≡ v
       of-word m e =
           let q : c ≡ t.words + i = omega arith in
-          let l = ltb→lt i (length RULE_WORDS) (or-second (leb t.words c) (ltb i (length RULE_WORDS)) (passes 2) a) in
-          word-class k w m i l .0 (e ∙ q) ∙ same-true (getD RULE_WORDS i []) v (is-true _ (or-second (leb t.words c) (same (getD RULE_WORDS i []) v) (passes 3) a))
+          let l = ltb→lt i (length RULE_WORDS) (implied (leb t.words c) (ltb i (length RULE_WORDS)) (passes 2) a) in
+          word-class k w m i l .0 (e ∙ q) ∙ same-true (getD RULE_WORDS i []) v (is-true _ (implied (leb t.words c) (same (getD RULE_WORDS i []) v) (passes 3) a))
 
       go : Kind w k → classOf k w ≡ c → w ≡ v
       go (a-name e l q) r = of-word (List·Memᴰ·tail (List·Memᴰ·head e)) r

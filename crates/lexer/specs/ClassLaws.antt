@@ -13,7 +13,7 @@ use lib.ListN.{length, replicate}
 use Rattle.text.specs.Ascii.{ascii, asciiFrom}
 use Rattle.text.specs.Lists.{has}
 use Rattle.text.specs.Same.{same}
-use Rattle.text.specs.Table.{every, at, first-of, second-of}
+use Rattle.text.specs.Table.{every, at, first-of, second-of, implied}
 use Rattle.words.specs.Members.{found-in, plain-out, found-passes}
 use Rattle.words.specs.Words.{FUNCTION_RESERVED, KEYWORDS, MACROS, RULE_NAMES, BOOLEANS, RULE_WORDS, find, wordOf}
 use Rattle.words.specs.declared.Found.{Found}
@@ -131,14 +131,10 @@ name-given w l q = go (wordOf RULE_WORDS w) refl
 
 -- ---- the other tokens
 
-pub or-second : (a b : Bool) → T (not a || b) → T a → T b
-or-second true b h t = h
-or-second false b h t = absurd t
-
 other-passes : (k : ℕ) → T (otherKind k) → T (not (eqb k t.Bool || eqb k t.Ident || eqb k t.Macro) && nameless k)
 other-passes k h =
     let l : k < t.words = ltb→lt k t.words (second-of (leb t.Pub k) (ltb k t.words) (first-of (leb t.Pub k && ltb k t.words) _ h)) in
-    or-second (otherKind k) _
+    implied (otherKind k) _
     (at {A = ℕ} (λ k x. not (otherKind k) || (not (eqb k t.Bool || eqb k t.Ident || eqb k t.Macro) && nameless k)) (replicate t.words 0) 0 others-pass k l) h
 
 -- a kind that is a class itself
@@ -163,7 +159,7 @@ sort-of {k} {w} o = go (kind-of w k o)
     go (a-boolean i e q b) =
         unnamed (λ f. omega arith)
         (subst (λ j. T (nameless (classOf j w))) (sym e)
-        (or-second (ltb t.Simc (t.Pub + i)) _ (found-passes (λ i w. not (ltb t.Simc (t.Pub + i)) || nameless (classOf t.Bool w)) KEYWORDS booleans-pass w i q) (subst T (sym b) tt)))
+        (implied (ltb t.Simc (t.Pub + i)) _ (found-passes (λ i w. not (ltb t.Simc (t.Pub + i)) || nameless (classOf t.Bool w)) KEYWORDS booleans-pass w i q) (subst T (sym b) tt)))
     go (a-macro i e q) =
         unnamed (λ f. omega arith) (subst (λ j. T (nameless (classOf j w))) (sym e) (found-passes (λ i w. nameless (classOf t.Macro w)) MACROS macros-pass w i q))
     go (another h) =

@@ -1,6 +1,6 @@
 -- A rule of a table, proved at all of its entries by one test that antt computes, one entry after the other.
 -- Assumes nothing.
-use mathlib.Core.Bool.{Bool, true, false, _&&_, _||_}
+use mathlib.Core.Bool.{Bool, true, false, _&&_, _||_, not}
 use mathlib.Core.List.{List, [], _∷_}
 use mathlib.Core.Logic.{_⊎_, inl, inr}
 use mathlib.Core.Path.{_≡_, refl, _∙_, subst, sym}
@@ -17,6 +17,10 @@ is-true false t = absurd t
 pub is-false : (b : Bool) → ¬ T b → b ≡ false
 is-false true f = absurd (f tt)
 is-false false f = refl
+
+pub not-true : (b : Bool) → T (not b) → b ≡ false
+not-true true t = absurd t
+not-true false t = refl
 
 -- both tests of a pair pass
 pub first-of : (a b : Bool) → T (a && b) → T a
@@ -43,6 +47,11 @@ or-right false b t = t
 pub or-cases : (a b : Bool) → T (a || b) → T a ⊎ T b
 or-cases true b t = inl tt
 or-cases false b t = inr t
+
+-- where the first passes the second does
+pub implied : (a b : Bool) → T (not a || b) → T a → T b
+implied true b t u = t
+implied false b t u = absurd u
 
 -- all tests of a list pass, and so does each
 abbrev pub all : List Bool → Bool

@@ -9,7 +9,7 @@ use Prim.Native.Nat.{ℕ, _≤_}
 use native.Mathlib.Omega.{arith}
 use borrow.Author.Tests.{ltb-true, ltb-false}
 use lib.Dec.{ltb}
-use Rattle.text.specs.Lists.{Some, here, there}
+use Rattle.text.specs.Lists.{here, there}
 use Rattle.own.specs.Lists.{All, nil, _&_}
 use Rattle.grammar.specs.records.Faults.{Fault, earlier, earliest, EarliestFault}
 

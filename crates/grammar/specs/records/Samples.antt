@@ -7,6 +7,9 @@ use mathlib.Core.Path.{_≡_, refl}
 use Prim.Native.Nat.{ℕ}
 use Prim.Native.String.{String}
 use lib.ListN.{drop}
+use Rattle.kinds.specs.Class as kinds
+use Rattle.lexer.specs.Limits.{tokensOf}
+use Rattle.grammar.specs.answers.Answer.{toksOf}
 use Rattle.text.specs.Ascii.{ascii, asciiFrom}
 use Rattle.text.specs.Part.{partOf}
 use Rattle.text.specs.Same.{same}
@@ -17,7 +20,7 @@ use Rattle.num.specs.Value.{decimalFrom, fitted, numberOf}
 use Rattle.num.specs.Bound.{boundOk, sizeOk, isBound}
 use Rattle.lexer.specs.Chars.{among, whitespace, lineEnds, plainBytes, binaryDigits, decimalDigits, hexDigits, underscore, nameStarts, nameBytes, run, begins}
 use Rattle.lexer.specs.Lexemes as lex
-use Rattle.lexer.specs.Lexemes.{Token, Lexemes, tokens, refusedAt, lexemes}
+use Rattle.lexer.specs.Lexemes.{lexemes}
 use Rattle.lexer.specs.Class.{classOf}
 use Rattle.theory.specs.Grammar.{look, row, alt, pick}
 use Rattle.theory.specs.Machine.{choose}
@@ -26,7 +29,7 @@ use Rattle.theory.specs.Same.{ex}
 use Rattle.theory.specs.Exec.{thenWord, thenRest, thenSub, exec}
 use Rattle.theory.specs.Fuel.{saves, need}
 use Rattle.theory.specs.Parse.{Found, found, stuck, judge, parse}
-use Rattle.own.specs.Tree.{Tok, partner, canonical, turned, Rec, records}
+use Rattle.own.specs.Tree.{Tok, partner, canonical, turned, Rec, records, classesOf}
 use Rattle.own.specs.Kinds as kind
 use Rattle.own.specs.Arms as arm
 use Rattle.own.specs.Calls as call
@@ -39,19 +42,6 @@ use Rattle.grammar.specs.records.Records.{lowHalf, highHalf, reads, sees
 use Rattle.grammar.specs.records.Records.{literalHead, functionHead, callHead, wrapperHead, calledHead, aloneHead, nameHead, armHead, headOf, formOf, roleOf, placed, arranged}
 use Rattle.grammar.specs.records.Records.{textOf, firstTok, firstOf, decimal, headFor, recorded, recordItems, recordTrees}
 use Rattle.grammar.specs.records.Faults.{Fault, unless, armLows, mates, armsFault, faultsAt, faults, earlier, earliest, faultOf}
-
--- The tokens of a draft with their classes; none if it does not lex.
-unfoldable pub classed : List ℕ → List Token → List Tok
-classed draft [] = []
-classed draft (t ∷ ts) = record { class = classOf (t .kind) (partOf draft (t .start) (t .end)); start = t .start; stop = t .end } ∷ classed draft ts
-
-unfoldable pub toksOf : List ℕ → Lexemes → List Tok
-toksOf draft (tokens ts) = classed draft ts
-toksOf draft (refusedAt c p) = []
-
-unfoldable pub classes : List Tok → List ℕ
-classes [] = []
-classes (t ∷ ts) = t .class ∷ classes ts
 
 -- The numbers of a record, and those other than its place.
 abbrev pub line : Rec → List ℕ
@@ -71,7 +61,7 @@ handed show draft ts (stuck p) = []
 
 -- The records of a draft; it opens all that it computes with.
 unfoldable pub recordsOf : (Rec → List ℕ) → String → List (List ℕ)
-unfolding classed toksOf classes judged handed ascii asciiFrom partOf same KEYWORDS MACROS MODULE_RESERVED RULE_WORDS RULE_NAMES FUNCTION_RESERVED
+unfolding toksOf classesOf kinds.classOf judged handed ascii asciiFrom partOf same KEYWORDS MACROS MODULE_RESERVED RULE_WORDS RULE_NAMES FUNCTION_RESERVED
     BOOLEANS BOOL UINT_TYPES BUILTIN_ALIASES find wordOf digits.plain decimalFrom fitted numberOf isBound boundOk sizeOk among whitespace lineEnds
     plainBytes binaryDigits decimalDigits hexDigits underscore nameStarts nameBytes run begins lex.space lex.comment lex.lineComment lex.inside
     lex.closing lex.blockComment lex.nameLength lex.qualified lex.macro lex.word lex.digits lex.hexadecimal lex.binary lex.decimal lex.marks
@@ -82,8 +72,8 @@ unfolding classed toksOf classes judged handed ascii asciiFrom partOf same KEYWO
     recordItems recordTrees unless armLows mates armsFault faultsAt faults earlier earliest faultOf
 recordsOf show text =
     let draft = ascii text in
-    let ts = toksOf draft (lexemes draft) in
-    handed show draft ts (shapeOf oneFunction (classes ts))
+    let ts = toksOf draft (tokensOf (lexemes draft)) in
+    handed show draft ts (shapeOf oneFunction (classesOf ts))
 
 -- The same numbers of the drafts that follow, without places.
 abbrev pub made : String → List (List ℕ)

@@ -7,7 +7,8 @@ use mathlib.Core.Path.{_≡_, refl, sym, ap, ap₂, _∙_, subst}
 use Prim.Native.Nat.{ℕ, _+_}
 use native.Mathlib.Omega.{arith}
 use lib.Dec.{T, eqb, eqb→eq}
-use Rattle.text.specs.Table.{is-true, first-of, second-of, or-cases}
+use Rattle.text.specs.ListLaws.{all-has}
+use Rattle.text.specs.Table.{is-true, first-of, second-of, or-cases, not-true}
 use Rattle.text.specs.Lists.{some, all, has}
 use Rattle.own.specs.Law.{Sort, word, child}
 use Rattle.own.specs.Kinds as kind
@@ -18,7 +19,7 @@ use Rattle.kinds.specs.Rules.{the}
 use Rattle.kinds.specs.Build.{the-mark}
 use Rattle.lexer.specs.Classes as class
 use Rattle.grammar.specs.spelled.Rows.{Row, r-end, r-more}
-use Rattle.grammar.specs.spelled.Inclusion.{all-has, roled, dealt, onlyKinds, kindsOf, fit-kinds}
+use Rattle.grammar.specs.spelled.Inclusion.{roled, dealt, onlyKinds, kindsOf, fit-kinds}
 use Rattle.grammar.specs.records.Records.{Role, aMark, asName, asNumber, roleOf, sees, opening, nameCount}
 
 -- ---- which tokens a row has
@@ -60,10 +61,6 @@ sees-append c (word d ∷ v) w = go (eqb d c) (sees-append c v w)
     go false e = e
 sees-append c (child x l h d ∷ v) w = sees-append c v w
 
-pub not-true : (b : Bool) → T (not b) → b ≡ false
-not-true true t = absurd t
-not-true false t = refl
-
 -- a number that is in a list, and one that is not, differ
 apart : (cs : List ℕ) (c d : ℕ) → T (not (has cs c)) → T (has cs d) → eqb d c ≡ false
 apart cs c d n h = go (eqb d c) refl
@@ -98,7 +95,7 @@ the-sound : (c : ℕ) (a : Shape) {w : List Sort} → T (isThe c a) → Spells a
 unfolding isThe sees
 the-sound c nothing t p = absurd t
 the-sound c never t p = absurd t
-the-sound c (k.mark cs) t (one-mark d h) = rw (is-true (eqb d c) (all-has (λ x. eqb x c) cs t d h)) refl
+the-sound c (k.mark cs) t (one-mark d h) = rw (is-true (eqb d c) (all-has (λ x. eqb x c) cs d t h)) refl
 the-sound c (part x) t p = absurd t
 the-sound c (x ▸ y) t p = absurd t
 the-sound c (x ¦ y) t p = absurd t
@@ -134,7 +131,7 @@ pub record Opened (f : ℕ → Bool) (l : List Shape) (w : List Sort) : Type 0 w
   pub spelled : Row (the class ∷ l) w
 
 pub row-opened : (f : ℕ → Bool) (cs : List ℕ) {l : List Shape} {w : List Sort} → T (all f cs) → Row (k.mark cs ∷ l) w → Opened f l w
-row-opened f cs t (r-more (one-mark c h) r) = record { class = c; passes = all-has f cs t c h; spelled = r-more (self c) r }
+row-opened f cs t (r-more (one-mark c h) r) = record { class = c; passes = all-has f cs c t h; spelled = r-more (self c) r }
   where
     self : (x : ℕ) → Spells (the x) (word x ∷ [])
     self x = the-mark x
@@ -163,7 +160,7 @@ lacks-sound ks t empty = refl
 lacks-sound ks t (one-mark d h) = refl
 lacks-sound ks t (one-part {p = p} n l h d i) =
     let u = fit-kinds p n l h d (first-of (onlyKinds p) (all (λ m. not (has ks m)) (kindsOf p)) t) i in
-    rw (not-true (has ks n) (all-has (λ m. not (has ks m)) (kindsOf p) (second-of (onlyKinds p) (all (λ m. not (has ks m)) (kindsOf p)) t) n u)) refl
+    rw (not-true (has ks n) (all-has (λ m. not (has ks m)) (kindsOf p) n (second-of (onlyKinds p) (all (λ m. not (has ks m)) (kindsOf p)) t) u)) refl
 lacks-sound ks t (seq {a = a} {b = b} {v = v} {w = w} p q) =
     omega (arith, counted-append ks v w, lacks-sound ks (first-of (lacks ks a) (lacks ks b) t) p, lacks-sound ks (second-of (lacks ks a) (lacks ks b) t) q)
 lacks-sound ks t (left {a = a} {b = b} p) = lacks-sound ks (first-of (lacks ks a) (lacks ks b) t) p

@@ -2,13 +2,12 @@
 -- Assumes nothing.
 use mathlib.Core.Bool.{Bool, true, false, _&&_}
 use mathlib.Core.List.{List, [], _∷_, _++_}
-use mathlib.Core.Logic.{_⊎_, inl, inr}
 use mathlib.Core.Path.{_≡_, refl, sym, ap, _∙_, subst}
 use Prim.Native.Nat.{ℕ}
 use lib.Dec.{T, eqb, eqb→eq}
-use Rattle.text.specs.Table.{first-of, second-of, or-cases}
+use Rattle.text.specs.Table.{first-of, second-of}
 use Rattle.text.specs.Lists.{some, all, has}
-use Rattle.text.specs.ListLaws.{some-sound, all-some, from-some}
+use Rattle.text.specs.ListLaws.{some-sound, all-some, from-some, all-has}
 use Rattle.own.specs.Tree.{Tok, Items, none, mark, sub, yield}
 use Rattle.own.specs.Law.{Sort, word, child, sorts, firstClass}
 use Rattle.own.specs.Kinds as kind
@@ -52,16 +51,6 @@ sorts-arranged K n (mark t r) =
 sorts-arranged K n (sub k l h js r) = ap (λ m. child k l h (firstClass (yield js)) ∷ m) (sorts-arranged K n r)
 
 -- ---- the test
-
--- What passes for all of a list passes for each of it.
-pub all-has : (f : ℕ → Bool) (cs : List ℕ) → T (all f cs) → (c : ℕ) → T (has cs c) → T (f c)
-unfolding all has
-all-has f [] t c h = absurd h
-all-has f (a ∷ cs) t c h = go (or-cases (eqb a c) (has cs c) h) (all-has f cs (second-of (f a) (all f cs) t) c)
-  where
-    go : T (eqb a c) ⊎ T (has cs c) → (T (has cs c) → T (f c)) → T (f c)
-    go (inl e) g = subst (λ (x : ℕ). T (f x)) (eqb→eq a c e) (first-of (f a) (all f cs) t)
-    go (inr e) g = g e
 
 -- The classes of a mark; none of any other shape.
 unfoldable pub marksOf : Shape → List ℕ
@@ -224,7 +213,7 @@ module _ (K n : ℕ) (ok : Part → Bool) where
     unfolding pieceIn dealt
     piece-sound nothing b t w p = absurd t
     piece-sound never b t w p = absurd t
-    piece-sound (k.mark cs) b t w (one-mark c h) = token-sound (roleOf K c) c b (all-has (λ x. tokenIn (roleOf K x) x b) cs t c h)
+    piece-sound (k.mark cs) b t w (one-mark c h) = token-sound (roleOf K c) c b (all-has (λ x. tokenIn (roleOf K x) x b) cs c t h)
     piece-sound (part p) b t w (one-part k l h c i) =
         let u = first-of (onlyKinds p) (isPart (λ q. all (has (kindsOf q)) (kindsOf p)) b) t in
         part-spells (λ q. all (has (kindsOf q)) (kindsOf p)) (child k l h c)

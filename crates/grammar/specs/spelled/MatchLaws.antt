@@ -9,7 +9,8 @@ use native.Mathlib.Omega.{arith}
 use borrow.Author.Tests.{eqb-true, eqb-false, lt-ltb}
 use lib.Dec.{T, eqb, eqb→eq, ltb}
 use lib.ListN.{length}
-use Rattle.text.specs.Table.{first-of, second-of, or-cases, pair}
+use Rattle.text.specs.ListLaws.{all-has}
+use Rattle.text.specs.Table.{first-of, second-of, or-cases, pair, not-true}
 use Rattle.text.specs.Refusals as refusal
 use Rattle.text.specs.Lists.{all, some, here, has, count, span}
 use Rattle.own.specs.Tree.{partner}
@@ -23,8 +24,8 @@ use Rattle.kinds.specs.Rules as rules
 use Rattle.kinds.specs.Spelled.{Spelled, formsOf}
 use Rattle.kinds.specs.Families as family
 use Rattle.lexer.specs.Classes as class
-use Rattle.grammar.specs.spelled.Inclusion.{all-has, dealt, roled}
-use Rattle.grammar.specs.spelled.Decisions.{not-true, counted-append}
+use Rattle.grammar.specs.spelled.Inclusion.{dealt, roled}
+use Rattle.grammar.specs.spelled.Decisions.{counted-append}
 use Rattle.grammar.specs.spelled.FormTests.{SpelledAs}
 use Rattle.grammar.specs.spelled.Rules.{expression-in}
 use Rattle.grammar.specs.records.Records.{aMark, roleOf}
@@ -229,7 +230,7 @@ match-law n f (seq (one-mark a i) (seq e (seq (one-mark b j) (seq {v = v} m (one
     go : {u : List Sort} → Spells (part (of family.blocks) ¦ part (of family.singles)) u → armsFault (counted (kind.EnumArm ∷ []) (word a ∷ (u ++ (word b ∷ (v ++ (word d ∷ [])))))) (armLows (word a ∷ (u ++ (word b ∷ (v ++ (word d ∷ [])))))) ≡ 0
         → Spells (part (of family.expressions)) u → SpelledAs (cond (ltb 0 (counted (kind.EnumArm ∷ []) (word a ∷ (u ++ (word b ∷ (v ++ (word d ∷ []))))))) (rec.plain kind.EnumMatch) (rec.plain kind.Match)) n (word a ∷ (u ++ (word b ∷ (v ++ (word d ∷ [])))))
     go e g (one-part x l h c y) =
-        let k = all-has (λ z. not (eqb z kind.BuiltinArm) && not (has (kind.EnumArm ∷ []) z)) family.expressions matched-kinds x y in
+        let k = all-has (λ z. not (eqb z kind.BuiltinArm) && not (has (kind.EnumArm ∷ []) z)) family.expressions x matched-kinds y in
         let p = not-true (eqb x kind.BuiltinArm) (first-of (not (eqb x kind.BuiltinArm)) (not (has (kind.EnumArm ∷ []) x)) k) in
         let q = not-true (has (kind.EnumArm ∷ []) x) (second-of (not (eqb x kind.BuiltinArm)) (not (has (kind.EnumArm ∷ []) x)) k) in
         let s : cond (has (kind.EnumArm ∷ []) x) 1 0 + counted (kind.EnumArm ∷ []) (v ++ (word d ∷ [])) ≡ counted (kind.EnumArm ∷ []) v = rw q (omega (arith, count-end v d)) in

@@ -7,7 +7,7 @@ use mathlib.Core.Path.{_≡_, refl}
 use Prim.Native.Nat.{ℕ}
 use native.Mathlib.Omega.{arith}
 use lib.Dec.{T}
-use Rattle.text.specs.Table.{is-true, first-of, second-of, or-cases}
+use Rattle.text.specs.Table.{is-true, first-of, second-of, or-cases, not-true}
 use Rattle.text.specs.Lists.{all, has}
 use Rattle.own.specs.Law.{Sort}
 use Rattle.own.specs.Kinds as kind
@@ -16,7 +16,7 @@ use Rattle.kinds.specs.Rules.{wrappers}
 use Rattle.lexer.specs.Classes as class
 use Rattle.grammar.specs.spelled.Rows.{Row, variants}
 use Rattle.grammar.specs.spelled.Inclusion.{dealt}
-use Rattle.grammar.specs.spelled.Decisions.{not-true, sure, free, row-sure, row-free, lacks, row-lacks}
+use Rattle.grammar.specs.spelled.Decisions.{sure, free, row-sure, row-free, lacks, row-lacks}
 use Rattle.grammar.specs.spelled.FormTests.{SpelledAs, by-rows, formIn, Numbers, form-sound, noNumber, fixed, fixed-holds, ofNames, counts, Says}
 use Rattle.grammar.specs.spelled.FormTests.{and-false, loneRow, crowdedRow, lone-sound, crowded-sound, judge, judge-sound}
 use Rattle.grammar.specs.spelled.HeadLaws.{opened, opened-sound, exactIn, exact-sound, count-sound}

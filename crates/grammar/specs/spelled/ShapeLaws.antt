@@ -9,6 +9,7 @@ use native.Mathlib.Omega.{arith}
 use borrow.Author.Tests.{eq-eqb, ltb-true, ltb-false, lt-ltb}
 use lib.Dec.{T, eqb, eqb→eq, ltb}
 use lib.ListN.{getElem?, length, List·getD-eq-default}
+use Rattle.text.specs.ListLaws.{all-has}
 use Rattle.text.specs.Ascii.{ascii}
 use Rattle.text.specs.Same.{same}
 use Rattle.text.specs.Table.{is-true, first-of, second-of, or-right}
@@ -33,7 +34,6 @@ use Rattle.grammar.specs.shapes.ShapeKind.{CastCallShape, NamedShape, Ba
 use Rattle.grammar.specs.shapes.Categories as category
 use Rattle.grammar.specs.shapes.Shapes.{rows, shapes}
 use Rattle.grammar.specs.spelled.Rules.{kindsIn, both, seen, partShapes, has-within, nth-none}
-use Rattle.grammar.specs.spelled.Inclusion.{all-has}
 use Rattle.grammar.specs.spelled.Decisions.{freeOf, free-sound}
 use Rattle.grammar.specs.spelled.FormTests.{SpelledAs, Numbers, noNumber, no-numbers, good-bound, good-size, number-of, allBelow, below-all}
 use Rattle.grammar.specs.spelled.HeadLaws.{exactIn, exact-sound, always-law, lonely-law, literal-law, type-law, pattern-law}
@@ -233,7 +233,7 @@ unfolding calledHead callHead possible
 called-kind w = go (has wrappers (opening w)) refl (lone w)
   where
     go : (a : Bool) → has wrappers (opening w) ≡ a → (b : Bool) → T (has (possible aName) (cond (a && b) (wrapperHead (opening w)) (callHead (opening w)) .kind))
-    go true e true = all-has (λ c. has (possible aName) (wrapperHead c .kind)) wrappers wrapper-kinds (opening w) (subst (λ y. T y) (sym e) tt)
+    go true e true = all-has (λ c. has (possible aName) (wrapperHead c .kind)) wrappers (opening w) wrapper-kinds (subst (λ y. T y) (sym e) tt)
     go true e false = self-has kind.Call _
     go false e b = self-has kind.Call _
 

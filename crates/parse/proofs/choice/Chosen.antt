@@ -9,14 +9,11 @@ use native.Mathlib.Omega.{arith}
 use borrow.Author.Tests.{eq-eqb, ne-eqb, ltb-true, ltb-false}
 use lib.Dec.{T, eqb, eqb→eq, ltb}
 use lib.ListN.{getElem?}
+use Rattle.text.specs.Table.{implied}
 use Rattle.theory.specs.Grammar.{Sym, tok, nt, Case, on, look, Row, row, alt, pick, blank}
 use Rattle.theory.specs.Machine.{choose, expand}
 use Rattle.grammar.specs.shapes.Tables.{table}
 use Rattle.parse.proofs.rule.ByClass.{pastClasses, run, sweep, beyond}
-
-or-not : (a b : Bool) → T (not a || b) → T a → T b
-or-not true b t u = t
-or-not false b t u = absurd u
 
 same-number : (a b : ℕ) → a ≡ b → T (eqb a b)
 same-number a b e = rw (eq-eqb a b e) tt
@@ -30,7 +27,7 @@ where-chosen A i f o t c e = go (ltb c pastClasses) refl
     no false u v = absurd v
 
     go : (b : Bool) → ltb c pastClasses ≡ b → T (f c)
-    go true h = or-not (eqb (choose table A c) i) (f c) (sweep (λ c. not (eqb (choose table A c) i) || f c) t c (ltb-true c pastClasses h)) (same-number (choose table A c) i e)
+    go true h = implied (eqb (choose table A c) i) (f c) (sweep (λ c. not (eqb (choose table A c) i) || f c) t c (ltb-true c pastClasses h)) (same-number (choose table A c) i e)
     go false h = no (eqb (row table A .other) i) o (same-number (row table A .other) i (sym (beyond A c (ltb-false c pastClasses h)) ∙ e))
 
 -- The alternative is this one class.

@@ -10,6 +10,7 @@ use borrow.Author.Tests.{eq-eqb, ne-eqb, lt-ltb, le-ltb, ltb-true, ltb-false}
 use lib.Dec.{eqb, ltb}
 use lib.ListN.{length, drop, getD, replicate, length-replicate}
 use lib.Seq.{sets, sets-eq}
+use Rattle.grammar.specs.answers.TokensInOrder.{record-words-length}
 use Rattle.text.specs.Same.{differ}
 use Rattle.lexer.specs.Lexemes.{Token}
 use Rattle.lexer.specs.Buffer.{tokensIn}
@@ -62,10 +63,6 @@ unfolding toksOf
 start-toks draft [] i = refl
 start-toks draft (t ∷ ts) zero = refl
 start-toks draft (t ∷ ts) (suc i) = start-toks draft ts i
-
-length-rec : (rs : List Rec) → length (recWords rs) ≡ recWide * length rs
-length-rec [] = refl
-length-rec (r ∷ rs) = let e = length-rec rs in omega arith
 
 drop-zeros : (k n x : ℕ) → drop k (replicate n x) ≡ replicate (n - k) x
 drop-zeros zero n x = let e : n ≡ n - 0 = omega arith in ap (λ (m : ℕ). replicate m x) e
@@ -238,7 +235,7 @@ module _ (draft words′ : List ℕ) (n : ℕ) (h : tokWide * n ≤ length words
         its-words = ap (λ (u : Items). concat (wordGroups u)) laid-is ∙ sym (words-are ns)
 
         its-count : length (records ns) ≡ z .out
-        its-count = omega (arith, length-words (w .L), ap length its-words, length-rec (records ns), w .lays .sized, s .out-is)
+        its-count = omega (arith, length-words (w .L), ap length its-words, record-words-length (records ns), w .lays .sized, s .out-is)
 
         its-fit : recWide * z .out ≤ k → l′ ≡ recWords (records ns) ++ replicate (k - length (recWords (records ns))) 0
         its-fit g =

@@ -13,7 +13,7 @@ use borrow.Author.Tests.{eq-eqb, ne-eqb}
 use lib.Dec.{T, eqb, eqb→eq, ltb, ltb→lt}
 use lib.ListN.{length, getD}
 use Rattle.text.specs.Same.{differ}
-use Rattle.text.specs.Table.{is-true}
+use Rattle.text.specs.Table.{is-true, not-true}
 use Rattle.text.specs.Lists.{has}
 use Rattle.num.specs.Value.{numberOf}
 use Rattle.num.specs.declared.Value.{Value}
@@ -131,10 +131,6 @@ and-both : (a b : Bool) → T (a && b) → T a × T b
 and-both true b h = (tt, h)
 and-both false b h = absurd h
 
-is-false : (b : Bool) → T (not b) → b ≡ false
-is-false true h = absurd h
-is-false false h = refl
-
 -- What the class of a call's first token is not: `<`, `::`, `,`, a decimal.
 abbrev apart : ℕ → Bool
 apart a = not (eqb a t.LAngle) && (not (eqb a t.DoubleColon) && (not (eqb a t.Comma) && not (eqb a t.DecLiteral)))
@@ -150,7 +146,7 @@ is-apart c h =
     let p = and-both (not (eqb c t.LAngle)) (not (eqb c t.DoubleColon) && (not (eqb c t.Comma) && not (eqb c t.DecLiteral))) h in
     let q = and-both (not (eqb c t.DoubleColon)) (not (eqb c t.Comma) && not (eqb c t.DecLiteral)) (p .1) in
     let r = and-both (not (eqb c t.Comma)) (not (eqb c t.DecLiteral)) (q .1) in
-    record { angle = is-false (eqb c t.LAngle) (p .0); colons = is-false (eqb c t.DoubleColon) (q .0); comma = is-false (eqb c t.Comma) (r .0); decimal = is-false (eqb c t.DecLiteral) (r .1) }
+    record { angle = not-true (eqb c t.LAngle) (p .0); colons = not-true (eqb c t.DoubleColon) (q .0); comma = not-true (eqb c t.Comma) (r .0); decimal = not-true (eqb c t.DecLiteral) (r .1) }
 
 -- The tokens that calls begin with.
 module _ (c : ℕ) where
@@ -201,7 +197,7 @@ module _ (c : ℕ) where
   -- no wrappers,
   pub simple-unwrapped : choose table n-single c ≡ choice.SimpleCall → has wrappers c ≡ false
   unfolding choose row table look has
-  simple-unwrapped e = is-false (has wrappers c) (where-chosen n-single choice.SimpleCall (λ a. not (has wrappers a)) tt tt c e)
+  simple-unwrapped e = not-true (has wrappers c) (where-chosen n-single choice.SimpleCall (λ a. not (has wrappers a)) tt tt c e)
 
   -- names,
   pub named-name : choose table n-single c ≡ choice.Named → has t.identifiers c ≡ true
@@ -227,19 +223,19 @@ module _ (c : ℕ) where
   -- other than `None`,
   pub named-variable : choose table n-single c ≡ choice.Named → eqb c t.None ≡ false
   unfolding choose row table look
-  named-variable e = is-false (eqb c t.None) (where-chosen n-single choice.Named (λ a. not (eqb a t.None)) tt tt c e)
+  named-variable e = not-true (eqb c t.None) (where-chosen n-single choice.Named (λ a. not (eqb a t.None)) tt tt c e)
 
   pub typed-variable : choose table n-single c ≡ choice.Typed → eqb c t.None ≡ false
   unfolding choose row table look
-  typed-variable e = is-false (eqb c t.None) (where-chosen n-single choice.Typed (λ a. not (eqb a t.None)) tt tt c e)
+  typed-variable e = not-true (eqb c t.None) (where-chosen n-single choice.Typed (λ a. not (eqb a t.None)) tt tt c e)
 
   pub folding-variable : choose table n-single c ≡ choice.Folding → eqb c t.None ≡ false
   unfolding choose row table look
-  folding-variable e = is-false (eqb c t.None) (where-chosen n-single choice.Folding (λ a. not (eqb a t.None)) tt tt c e)
+  folding-variable e = not-true (eqb c t.None) (where-chosen n-single choice.Folding (λ a. not (eqb a t.None)) tt tt c e)
 
   pub whiles-variable : choose table n-single c ≡ choice.ForWhile → eqb c t.None ≡ false
   unfolding choose row table look
-  whiles-variable e = is-false (eqb c t.None) (where-chosen n-single choice.ForWhile (λ a. not (eqb a t.None)) tt tt c e)
+  whiles-variable e = not-true (eqb c t.None) (where-chosen n-single choice.ForWhile (λ a. not (eqb a t.None)) tt tt c e)
 
   -- and marks of a call.
   pub typed-mark : choose table n-single c ≡ choice.Typed → roleOf kind.Call c ≡ aMark

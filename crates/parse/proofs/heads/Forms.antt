@@ -10,7 +10,7 @@ use borrow.Author.Tests.{eq-eqb, ne-eqb, ltb-true, ltb-false}
 use lib.Dec.{T, eqb, ltb, eqb→eq, ltb→lt}
 use lib.ListN.{getD}
 use Rattle.text.specs.Same.{differ}
-use Rattle.text.specs.Table.{first-of, second-of, is-true}
+use Rattle.text.specs.Table.{first-of, second-of, is-true, implied}
 use Rattle.text.specs.Lists.{has}
 use Rattle.theory.specs.Grammar.{Sym, tok, nt, row, look, alt, pick}
 use Rattle.theory.specs.Machine.{choose, expand}
@@ -94,15 +94,12 @@ unfolding choose row table look alt pick
 path-row c = refl
 
 -- What begins a head of each sort, by one computation over the classes; past them none begins.
-or-not : (a b : Bool) → T (not a || b) → T a → T b
-or-not true b t u = t
-or-not false b t u = absurd u
 
 where-sorted : (k : ℕ) (f : ℕ → Bool) → 0 < k → T (run (λ c. not (eqb (headSort c) k) || f c) pastClasses 0) → (c : ℕ) → headSort c ≡ k → T (f c)
 where-sorted k f pos t c e = go (ltb c pastClasses) refl
   where
     go : (b : Bool) → ltb c pastClasses ≡ b → T (f c)
-    go true h = or-not (eqb (headSort c) k) (f c) (sweep (λ c. not (eqb (headSort c) k) || f c) t c (ltb-true c pastClasses h)) (rw (eq-eqb (headSort c) k e) tt)
+    go true h = implied (eqb (headSort c) k) (f c) (sweep (λ c. not (eqb (headSort c) k) || f c) t c (ltb-true c pastClasses h)) (rw (eq-eqb (headSort c) k e) tt)
     go false h = absurd (omega (arith, head-past c (ltb-false c pastClasses h)))
 
 module _ (c : ℕ) where

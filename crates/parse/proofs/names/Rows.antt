@@ -9,7 +9,7 @@ use native.Mathlib.Omega.{arith}
 use borrow.Author.Tests.{ne-eqb, ltb-true, ltb-false}
 use lib.Dec.{T, eqb, ltb}
 use Rattle.text.specs.Same.{differ}
-use Rattle.text.specs.Table.{is-true}
+use Rattle.text.specs.Table.{is-true, implied}
 use Rattle.text.specs.Lists.{has}
 use Rattle.theory.specs.Grammar.{Sym, tok, nt, row, look, alt, pick}
 use Rattle.theory.specs.Machine.{choose, expand}
@@ -39,16 +39,12 @@ is-lacking : (o : Option (List Sym)) → T (lacking o) → o ≡ none
 is-lacking none h = refl
 is-lacking (some l) h = absurd h
 
-or-not : (a b : Bool) → T (not a || b) → T a → T b
-or-not true b t u = t
-or-not false b t u = absurd u
-
 -- A test of the classes that pass g, by one computation; none past them passes.
 where-passed : (f g : ℕ → Bool) → T (run (λ c. not (g c) || f c) pastClasses 0) → ((c : ℕ) → pastClasses ≤ c → T (g c) → T (f c)) → (c : ℕ) → T (g c) → T (f c)
 where-passed f g t past c h = go (ltb c pastClasses) refl
   where
     go : (b : Bool) → ltb c pastClasses ≡ b → T (f c)
-    go true e = or-not (g c) (f c) (sweep (λ c. not (g c) || f c) t c (ltb-true c pastClasses e)) h
+    go true e = implied (g c) (f c) (sweep (λ c. not (g c) || f c) t c (ltb-true c pastClasses e)) h
     go false e = past c (ltb-false c pastClasses e) h
 
 no-name-past : (c : ℕ) → pastClasses ≤ c → nameSort c ≡ 0

@@ -12,6 +12,7 @@ use lib.Dec.{T, eqb, eqb→eq, ltb}
 use lib.ListN.{getD}
 use types.Run.{OneOf}
 use denote.Enum.Declared.{tagOf}
+use Rattle.text.specs.Table.{implied}
 use Rattle.text.specs.Same.{differ}
 use Rattle.text.specs.Lists.{has}
 use Rattle.theory.specs.Grammar.{Sym, tok, nt, on, look, row, alt, pick}
@@ -103,9 +104,6 @@ module _ {a : ℕ} where
   is-arrow h = goes n-function-optional-Arrow 2 a (hit t.Arrow 2 [] 1 h) refl
 
 -- A parameter begins with an identifier, and with nothing else.
-or-not : (a b : Bool) → T (not a || b) → T a → T b
-or-not true b t u = t
-or-not false b t u = absurd u
 
 is-test : T (run (λ c. not (has t.identifiers c) || eqb (choose table n-parameter c) 1) pastClasses 0)
 unfolding has choose row look table
@@ -115,7 +113,7 @@ pub at-parameter : (c : ℕ) → has t.identifiers c ≡ true → choose table n
 at-parameter c e = go (ltb c pastClasses) refl
   where
     go : (b : Bool) → ltb c pastClasses ≡ b → choose table n-parameter c ≡ 1
-    go true h = eqb→eq (choose table n-parameter c) 1 (or-not (has t.identifiers c) (eqb (choose table n-parameter c) 1) (sweep (λ c. not (has t.identifiers c) || eqb (choose table n-parameter c) 1) is-test c (ltb-true c pastClasses h)) (rw e tt))
+    go true h = eqb→eq (choose table n-parameter c) 1 (implied (has t.identifiers c) (eqb (choose table n-parameter c) 1) (sweep (λ c. not (has t.identifiers c) || eqb (choose table n-parameter c) 1) is-test c (ltb-true c pastClasses h)) (rw e tt))
     go false h = absurd (differ (sym (has-past t.identifiers c tt (ltb-false c pastClasses h)) ∙ e))
 
 either-test : T (run (λ c. eqb (choose table n-parameter c) 1 || (eqb (choose table n-parameter c) 0 || false)) pastClasses 0)
@@ -138,7 +136,7 @@ parameter-or c = go (ltb c pastClasses) refl
     low l true d e f h = inl (eqb→eq (choose table n-parameter c) 1 (rw e tt))
     low l false true e f h =
         lacks (eqb→eq (choose table n-parameter c) 0 (rw f tt))
-        (eqb→eq (choose table n-identifier c) 0 (or-not (eqb (choose table n-parameter c) 0) (eqb (choose table n-identifier c) 0) (sweep (λ c. not (eqb (choose table n-parameter c) 0) || eqb (choose table n-identifier c) 0) lacks-test c l) (rw f tt)))
+        (eqb→eq (choose table n-identifier c) 0 (implied (eqb (choose table n-parameter c) 0) (eqb (choose table n-identifier c) 0) (sweep (λ c. not (eqb (choose table n-parameter c) 0) || eqb (choose table n-identifier c) 0) lacks-test c l) (rw f tt)))
     low l false false e f h = absurd h
 
     go : (b : Bool) → ltb c pastClasses ≡ b → (choose table n-parameter c ≡ 1) ⊎ ((expand table n-parameter c ≡ none) × (expand table n-identifier c ≡ none))

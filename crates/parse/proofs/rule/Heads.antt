@@ -9,6 +9,7 @@ use native.Mathlib.Omega.{arith}
 use lib.Dec.{T, eqb}
 use lib.ListN.{length, getD}
 use lib.Seq.{sets}
+use Rattle.text.specs.Table.{not-true}
 use Rattle.text.specs.Part.{partOf}
 use Rattle.num.specs.Value.{numberOf}
 use Rattle.num.specs.declared.Value.{Value}
@@ -32,10 +33,6 @@ use Rattle.parse.proofs.rule.Steps.{numberIn, decided}
 use Rattle.parse.proofs.rule.Closing.{Opened, shuts, shuts-in, its-fault}
 use Rattle.parse.proofs.rule.Commas.{AnyN}
 
-is-false : (b : Bool) → T (not b) → b ≡ false
-is-false true t = absurd t
-is-false false t = refl
-
 -- Shapes that are never refused by themselves.
 abbrev pub spared : Refused → Bool
 spared never = true
@@ -58,7 +55,7 @@ no-fault draft k is h = go (refusedOf k) h
 
 pub unturned : (K : ℕ) (L : Items) → T (not (eqb K kind.Match)) → turned K L ≡ false
 unfolding turned
-unturned K L h = rw (is-false (eqb K kind.Match) h) refl
+unturned K L h = rw (not-true (eqb K kind.Match) h) refl
 
 -- A record with no number among its tokens that needs it, and no refusal of its own.
 module _ {x : Text} {st r : State} {K : ℕ} {rhs : List Sym} {l : List ℕ} {w : List Sort} {ms : List Tok} {m : ℕ} {st₁ : State} {l₁ l′ : List ℕ} {low high : ℕ} where

@@ -8,7 +8,7 @@ use native.Mathlib.Omega.{arith}
 use borrow.Author.Tests.{eq-eqb, ne-eqb, ltb-true, ltb-false}
 use lib.Dec.{T, eqb, ltb, eqb→eq, ltb→lt}
 use Rattle.text.specs.Same.{differ}
-use Rattle.text.specs.Table.{first-of, second-of, is-true}
+use Rattle.text.specs.Table.{first-of, second-of, is-true, implied, not-true}
 use Rattle.text.specs.Lists.{has}
 use Rattle.kinds.specs.Families as family
 use Rattle.lexer.specs.Classes as t
@@ -16,10 +16,6 @@ use Rattle.grammar.specs.records.Records.{Role, aMark, asName, asNumber, roleOf
 use Rattle.own.specs.Kinds as kind
 use Rattle.parse.proofs.rule.ByClass.{run, run-at, sweep, has-past, low-all, pastClasses}
 use Rattle.parse.specs.Contract.{callees}
-
-is-false : (b : Bool) → T (not b) → b ≡ false
-is-false true t = absurd t
-is-false false t = refl
 
 -- The role of a token in a record of kind K, by what is known of the class.
 role-by : (K c : ℕ) (a b d : Bool) → has t.identifiers c ≡ a → has callees c ≡ b → eqb c t.DecLiteral ≡ d
@@ -38,10 +34,10 @@ mere c = not (has t.identifiers c) && (not (has callees c) && not (eqb c t.DecLi
 
 mere-mark : (K c : ℕ) → T (mere c) → roleOf K c ≡ aMark
 mere-mark K c h =
-    let a = is-false (has t.identifiers c) (first-of (not (has t.identifiers c)) _ h) in
+    let a = not-true (has t.identifiers c) (first-of (not (has t.identifiers c)) _ h) in
     let g = second-of (not (has t.identifiers c)) (not (has callees c) && not (eqb c t.DecLiteral)) h in
-    let b = is-false (has callees c) (first-of (not (has callees c)) (not (eqb c t.DecLiteral)) g) in
-    let d = is-false (eqb c t.DecLiteral) (second-of (not (has callees c)) (not (eqb c t.DecLiteral)) g) in
+    let b = not-true (has callees c) (first-of (not (has callees c)) (not (eqb c t.DecLiteral)) g) in
+    let d = not-true (eqb c t.DecLiteral) (second-of (not (has callees c)) (not (eqb c t.DecLiteral)) g) in
     role-by K c false false false a b d ∙ both-marks (has family.namesKept K) (eqb K kind.Call)
 
 -- Classes of marks: keywords and signs stand before the numbers.
@@ -71,13 +67,13 @@ other-has : (l : List ℕ) (K : ℕ) → T (other-than l K) → has l K ≡ fals
 unfolding has
 other-has [] K h = refl
 other-has (k ∷ l) K h =
-    let n = is-false (eqb K k) (first-of (not (eqb K k)) (other-than l K) h) in
+    let n = not-true (eqb K k) (first-of (not (eqb K k)) (other-than l K) h) in
     rw (ne-eqb k K (λ e. differ (sym n ∙ eq-eqb K k (sym e)))) (other-has l K (second-of (not (eqb K k)) (other-than l K) h))
 
 pub keeping-mark : (K c : ℕ) → T (keeping K) → roleOf K c ≡ aMark
 keeping-mark K c h =
     let p = other-has family.namesKept K (first-of (other-than family.namesKept K) (not (eqb K kind.Call)) h) in
-    let q = is-false (eqb K kind.Call) (second-of (other-than family.namesKept K) (not (eqb K kind.Call)) h) in
+    let q = not-true (eqb K kind.Call) (second-of (other-than family.namesKept K) (not (eqb K kind.Call)) h) in
     role-by K c (has t.identifiers c) (has callees c) (eqb c t.DecLiteral) refl refl refl
     ∙ (λ i. cond (p i) (cond (has t.identifiers c) asName aMark) (cond (q i) (cond (has callees c) asName (cond (eqb c t.DecLiteral) asNumber aMark)) aMark))
 
@@ -93,18 +89,14 @@ word-mark c h = go (ltb c pastClasses) refl
     test : T (run (λ i. not (ltb t.List i) || (not (has callees i) && not (eqb i t.DecLiteral))) pastClasses 0)
     test = tt
 
-    or-not : (a b : Bool) → T (not a || b) → T a → T b
-    or-not true b t u = t
-    or-not false b t u = absurd u
-
     done : T (not (has callees c) && not (eqb c t.DecLiteral)) → roleOf kind.Call c ≡ aMark
     done g =
-        role-by kind.Call c (has t.identifiers c) false false refl (is-false (has callees c) (first-of (not (has callees c)) (not (eqb c t.DecLiteral)) g))
-        (is-false (eqb c t.DecLiteral) (second-of (not (has callees c)) (not (eqb c t.DecLiteral)) g))
+        role-by kind.Call c (has t.identifiers c) false false refl (not-true (has callees c) (first-of (not (has callees c)) (not (eqb c t.DecLiteral)) g))
+        (not-true (eqb c t.DecLiteral) (second-of (not (has callees c)) (not (eqb c t.DecLiteral)) g))
 
     past : pastClasses ≤ c → T (not (has callees c) && not (eqb c t.DecLiteral))
     past g = rw (has-past callees c tt g, ne-eqb c t.DecLiteral (λ e. omega arith)) tt
 
     go : (b : Bool) → ltb c pastClasses ≡ b → roleOf kind.Call c ≡ aMark
-    go true e = done (or-not (ltb t.List c) (not (has callees c) && not (eqb c t.DecLiteral)) (sweep (λ i. not (ltb t.List i) || (not (has callees i) && not (eqb i t.DecLiteral))) test c (ltb-true c pastClasses e)) h)
+    go true e = done (implied (ltb t.List c) (not (has callees c) && not (eqb c t.DecLiteral)) (sweep (λ i. not (ltb t.List i) || (not (has callees i) && not (eqb i t.DecLiteral))) test c (ltb-true c pastClasses e)) h)
     go false e = done (past (ltb-false c pastClasses e))

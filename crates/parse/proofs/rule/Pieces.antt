@@ -7,7 +7,7 @@ use Prim.Native.Nat.{ℕ, _+_, suc, _-_}
 use native.Mathlib.Omega.{arith}
 use lib.Dec.{T, eqb, ltb, ltb→lt}
 use Rattle.text.specs.Same.{differ}
-use Rattle.text.specs.Table.{second-of, is-true}
+use Rattle.text.specs.Table.{second-of, is-true, not-true}
 use Rattle.text.specs.Lists.{has, span, count}
 use Rattle.own.specs.Tree as own
 use Rattle.own.specs.Tree.{Items, mark, sub}
@@ -114,19 +114,15 @@ pub pattern-counted : (k : ℕ) → PatternKind k → has family.patterns k ≡ 
 unfolding has span count
 pattern-counted k p = is-true (has family.patterns k) (run-at (λ i. has family.patterns i) (suc kind.ArrayPattern - kind.IdentifierPattern) kind.IdentifierPattern k tt (p .0) (omega (arith, p .1)))
 
-is-false : (b : Bool) → T (not b) → b ≡ false
-is-false true t = absurd t
-is-false false t = refl
-
 pub type-uncounted : (k : ℕ) → TypeKind k → has family.patterns k ≡ false
 unfolding has span count
-type-uncounted k p = is-false (has family.patterns k) (run-at (λ i. not (has family.patterns i)) (suc kind.ListType - kind.Alias) kind.Alias k tt (p .0) (omega (arith, p .1)))
+type-uncounted k p = not-true (has family.patterns k) (run-at (λ i. not (has family.patterns i)) (suc kind.ListType - kind.Alias) kind.Alias k tt (p .0) (omega (arith, p .1)))
 
 pub expr-uncounted : (k : ℕ) → ExprKind k → has family.patterns k ≡ false
 unfolding has span count
-expr-uncounted k p = is-false (has family.patterns k) (run-at (λ i. not (has family.patterns i)) (suc kind.Call - kind.Block) kind.Block k tt (p .0) (omega (arith, p .1)))
+expr-uncounted k p = not-true (has family.patterns k) (run-at (λ i. not (has family.patterns i)) (suc kind.Call - kind.Block) kind.Block k tt (p .0) (omega (arith, p .1)))
 
 -- A sign is no name.
 pub sign-no-name : (c : ℕ) → T (sign c) → has t.identifiers c ≡ false
 unfolding has
-sign-no-name c h = is-false (has t.identifiers c) (run-at (λ i. not (has t.identifiers i)) t.DecLiteral 0 c tt (omega arith) (omega (arith, ltb→lt c t.DecLiteral (second-of (ltb 0 c) (ltb c t.DecLiteral) h))))
+sign-no-name c h = not-true (has t.identifiers c) (run-at (λ i. not (has t.identifiers i)) t.DecLiteral 0 c tt (omega arith) (omega (arith, ltb→lt c t.DecLiteral (second-of (ltb 0 c) (ltb c t.DecLiteral) h))))
