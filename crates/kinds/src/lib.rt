@@ -7,7 +7,7 @@ use lexer::classes as class;
 use own::kind;
 
 mod mark;
-mod part;
+pub mod part;
 
 // The group of a token class.
 fn group(class: u32) -> u32
@@ -104,7 +104,7 @@ fn marks(kind: u32) -> u32
 }
 
 // The group of a child kind.
-fn category(child: u32) -> u32
+pub fn category(child: u32) -> u32
     ensures { λ r. ⌜ r ≡ categorySet child ⌝ }
 {
     match child {

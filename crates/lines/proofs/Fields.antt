@@ -8,6 +8,7 @@ use native.Mathlib.Nat.{add-zero}
 use lib.ListN.{length, getD, set, drop, length-append, length-set, length-drop, drop-of-length-le}
 use lib.Seq.{sets, length-sets, set-comm, drop-cons, drop-drop, getD-drop}
 use Rattle.text.specs.Ascii.{ascii, asciiFrom}
+use Rattle.text.specs.Sets.{sets-append, sets-next}
 use Rattle.lines.specs.Hex.{upperHex, hex, hex-length}
 use Rattle.lines.specs.Form.{space, after, lineOf, wide}
 
@@ -15,15 +16,6 @@ use Rattle.lines.specs.Form.{space, after, lineOf, wide}
 pub digits-held : (48 ∷ 49 ∷ 50 ∷ 51 ∷ 52 ∷ 53 ∷ 54 ∷ 55 ∷ 56 ∷ 57 ∷ 65 ∷ 66 ∷ 67 ∷ 68 ∷ 69 ∷ 70 ∷ []) ≡ upperHex
 unfolding upperHex ascii asciiFrom
 digits-held = refl
-
--- one after the other
-pub sets-append : (a b l : List ℕ) (i : ℕ) → sets l i (a ++ b) ≡ sets (sets l i a) (i + length a) b
-sets-append [] b l i = ap (λ (k : ℕ). sets l k b) (sym (add-zero i))
-sets-append (x ∷ a) b l i = sets-append a b (set l i x) (suc i) ∙ ap (λ (k : ℕ). sets (sets (set l i x) (suc i) a) k b) (omega arith)
-
--- the next run
-pub sets-next : (l : List ℕ) {l₁ l₂ : List ℕ} (a b : List ℕ) (i j : ℕ) → l₁ ≡ sets l i a → l₂ ≡ sets l₁ j b → i + length a ≡ j → l₂ ≡ sets l i (a ++ b)
-sets-next l a b i j p q e = q ∙ (λ k. sets (p k) (sym e k) b) ∙ sym (sets-append a b l i)
 
 -- a byte behind can be written first
 sets-set : (ws l : List ℕ) (i j x : ℕ) → i + length ws ≤ j → sets (set l j x) i ws ≡ set (sets l i ws) j x

@@ -13,10 +13,11 @@ use lib.Seq.{sets, sets-eq, length-sets, drop-drop, take-at}
 use Rattle.text.specs.Clear.{cleared}
 use Rattle.text.specs.Widths.{recWide}
 use Rattle.own.specs.Words.{recs, recWords}
+use Rattle.own.specs.WordLaws.{recs-length}
 use Rattle.lines.specs.Form.{lineOf, wide, same-line}
 use Rattle.lines.specs.Lines.{widths, fieldCount, lineBytes, linesOf, lines, lines-wide}
 use Rattle.lines.specs.Written.{used, padded, held, linesIn}
-use Rattle.lines.proofs.Fields.{sets-next}
+use Rattle.text.specs.Sets.{sets-next}
 
 -- the numbers of the first record of a buffer are its first words
 first-words : (w : List ℕ) (k : ℕ) → k < fieldCount → getD (recWords (recs 1 w)) k 0 ≡ getD w k 0
@@ -41,10 +42,6 @@ lines-more ws h (suc n) w =
     ap (λ (x : List ℕ). l ++ x) (lines-more ws h n (drop recWide w))
     ∙ ap (λ (x : List ℕ). l ++ (linesOf ws (recs n (drop recWide w)) ++ lineOf ws x)) (drop-drop (recWide * n) recWide w ∙ ap (λ (j : ℕ). drop j w) e)
     ∙ sym (append-assoc l (linesOf ws (recs n (drop recWide w))) (lineOf ws (drop (recWide * suc n) w)))
-
-recs-length : (n : ℕ) (w : List ℕ) → length (recs n w) ≡ n
-recs-length zero w = refl
-recs-length (suc n) w = ap suc (recs-length n (drop recWide w))
 
 lines-long : (ws : List ℕ) (n : ℕ) (w : List ℕ) → length (linesOf ws (recs n w)) ≡ wide ws * n
 lines-long ws n w = lines-wide ws (recs n w) ∙ ap (λ (k : ℕ). wide ws * k) (recs-length n w)

@@ -6,6 +6,8 @@ ghost use Rattle.lines.specs.Written.{used, padded, linesIn};
 
 mod write;
 
+pub use write::after;
+
 // The digits of a kind, of a start, an end or a size, and of half a 64-bit number.
 const KIND_DIGITS: usize = 2;
 
@@ -14,9 +16,9 @@ const PLACE_DIGITS: usize = 4;
 const HALF_DIGITS: usize = 8;
 
 // The form of a line, by its fields: kind, start, end, low, high, size.
-const FIELDS: usize = 6;
+pub const FIELDS: usize = 6;
 
-const WIDTHS: [usize; FIELDS] = [
+pub const WIDTHS: [usize; FIELDS] = [
     KIND_DIGITS,
     PLACE_DIGITS,
     PLACE_DIGITS,

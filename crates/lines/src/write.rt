@@ -36,7 +36,7 @@ fn hex(digits: &[u8; 16], out: &mut [u8], at: usize, n: usize, v: u32)
 }
 
 // The byte after a field with so many fields behind it.
-fn after(left: usize) -> u8
+pub fn after(left: usize) -> u8
     ensures { λ r. ⌜ r ≡ form.after left ⌝ }
 {
     if left == 0 { b'\n' } else { b' ' }

@@ -2,13 +2,14 @@
 -- Assumes nothing.
 use mathlib.Core.Path.{_≡_, refl, ap}
 use mathlib.Core.Bool.{Bool, true, false, _&&_, cond}
-use mathlib.Core.Logic.{_≢_}
+use mathlib.Core.Logic.{_≢_, _↔_}
 use mathlib.Core.List.{List, [], _∷_, _++_, map}
 use Prim.Native.Nat.{ℕ, zero, suc, _<_}
 use native.Mathlib.Omega.{arith}
 use lib.Dec.{T}
-use lib.ListN.{length, getD}
-use Rattle.text.specs.Lists.{keep}
+use lib.ListN.{length, getD, take, drop}
+use Rattle.text.specs.Lists.{all, keep}
+use Rattle.text.specs.Exactly.{both}
 use Rattle.own.specs.Tree.{exchange, arrange, concat}
 
 infixr 60 _&_
@@ -69,6 +70,22 @@ module _ {A : Type 0} where
   all-at j d i nil = absurd (omega arith)
   all-at zero d i (p & h) = p
   all-at (suc j) d i (p & h) = all-at j d (omega arith) h
+
+  -- All have where each at its place has.
+  pub all-from : {P : A → Type 0} (l : List A) (d : A) → ((j : ℕ) → j < length l → P (getD l j d)) → All P l
+  all-from [] d f = nil
+  all-from (a ∷ l) d f = f 0 (omega arith) & all-from l d (λ j h. f (suc j) (omega arith))
+
+  -- The first n have, and those behind them.
+  pub all-take : {P : A → Type 0} (n : ℕ) {l : List A} → All P l → All P (take n l)
+  all-take zero h = nil
+  all-take (suc n) nil = nil
+  all-take (suc n) (p & h) = p & all-take n h
+
+  pub all-drop : {P : A → Type 0} (n : ℕ) {l : List A} → All P l → All P (drop n l)
+  all-drop zero h = h
+  all-drop (suc n) nil = nil
+  all-drop (suc n) (p & h) = all-drop n h
 
   -- Exactly one of two lists, in the first.
   pub only-left : {P Q : A → Type 0} {k l : List A} → Only P Q k → All Q l → Only P Q (k ++ l)
@@ -164,6 +181,14 @@ module _ {A : Type 0} where
   pub keep-ext : (p q : A → Bool) → ((a : A) → p a ≡ q a) → (l : List A) → keep p l ≡ keep q l
   keep-ext p q e [] = refl
   keep-ext p q e (a ∷ l) = let h = e a in let i = keep-ext p q e l in cc
+
+-- All of a list pass a test exactly where each has what is tested.
+pub all-exactly : {A : Type 0} {P : A → Type 0} (p : A → Bool) → ((a : A) → T (p a) ↔ P a) → (l : List A) → T (all p l) ↔ All P l
+unfolding all
+all-exactly p f [] = (λ t. nil, λ h. tt)
+all-exactly p f (a ∷ l) =
+    let h = both (p a) (all p l) (f a) (all-exactly p f l) in
+    (λ t. let x = h .0 t in x .0 & x .1, λ i. h .1 (all-head i, all-tail i))
 
 -- what two lists share, whatever the arrangement
 pub arrange-map : {A B : Type 0} (f : A → B) (b : Bool) (l : List A) → map f (arrange b l) ≡ arrange b (map f l)

@@ -53,6 +53,11 @@ pub recs-words : (rs : List Rec) (z : List ℕ) → recs (length rs) (recWords r
 recs-words [] z = refl
 recs-words (r ∷ rs) z = ap (λ l. r ∷ l) (recs-words rs z)
 
+-- As many as are read.
+pub recs-length : (n : ℕ) (w : List ℕ) → length (recs n w) ≡ n
+recs-length zero w = refl
+recs-length (suc n) w = ap suc (recs-length n (drop recWide w))
+
 -- The words of two lists.
 pub recWords-append : (k l : List Rec) → recWords (k ++ l) ≡ recWords k ++ recWords l
 recWords-append [] l = refl

@@ -84,3 +84,6 @@ pub const ENUM_ARM: u32 = 38;
 pub const CALL: u32 = 39;
 
 pub const NUMBER: u32 = 40;
+
+// The kinds are 1 to this.
+pub const LAST: u32 = NUMBER;

@@ -5,7 +5,9 @@ pub mod SameLaws
 pub mod Table
 pub mod Lists
 pub mod ListLaws
+pub mod Exactly
 pub mod Clear
 pub mod Widths
 pub mod Answers
 pub mod Refusals
+pub mod Sets

@@ -9,7 +9,7 @@ use native.Mathlib.Omega.{arith}
 use borrow.Author.Tests.{eqb-false}
 use lib.Dec.{T, eqb, eqb→eq}
 use lib.ListN.{length, getD}
-use Rattle.text.specs.Table.{first-of, second-of, pair, or-left, or-right, or-cases}
+use Rattle.text.specs.Table.{is-true, first-of, second-of, pair, or-left, or-right, or-cases}
 use Rattle.text.specs.Lists.{has, all, some, keep, count, Some, here, there}
 
 -- In the first of two lists.
@@ -121,3 +121,26 @@ module _ {A : Type 0} where
   pub only-one : {P : A → Type 0} {a : A} → Some P (a ∷ []) → P a
   only-one (here h) = h
   only-one (there s) = absurd (omega (arith, not-none s))
+
+  -- What one of a list has, another thing follows of it.
+  pub some-map : {P Q : A → Type 0} {l : List A} → ((a : A) → P a → Q a) → Some P l → Some Q l
+  some-map f (here {a = a} p) = here (f a p)
+  some-map f (there s) = there (some-map f s)
+
+  -- One of those kept passes, and is one of the list.
+  pub some-keep : {P : A → Type 0} (q : A → Bool) (l : List A) → Some P (keep q l) → Some (λ a. T (q a) × P a) l
+  some-keep {P} q (a ∷ l) s = go (q a) refl s (some-keep q l)
+    where
+      go : (b : Bool) → q a ≡ b → Some P (cond b (a ∷ keep q l) (keep q l)) → (Some P (keep q l) → Some (λ x. T (q x) × P x) l) → Some (λ x. T (q x) × P x) (a ∷ l)
+      go true e (here p) r = here (subst T (sym e) tt, p)
+      go true e (there s) r = there (r s)
+      go false e s r = there (r s)
+
+  -- One of the list that passes is one of those kept.
+  pub keep-some : {P : A → Type 0} (q : A → Bool) {l : List A} → Some (λ a. T (q a) × P a) l → Some P (keep q l)
+  keep-some {P} q (here {a = a} {l = l} h) = subst (λ (b : Bool). Some P (cond b (a ∷ keep q l) (keep q l))) (sym (is-true (q a) (h .0))) (here (h .1))
+  keep-some {P} q (there {a = a} {l = l} s) = go (q a) (keep-some q s)
+    where
+      go : (b : Bool) → Some P (keep q l) → Some P (cond b (a ∷ keep q l) (keep q l))
+      go true r = there r
+      go false r = r

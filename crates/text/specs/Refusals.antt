@@ -1,5 +1,5 @@
--- The numbers of refusals by name (document 01, "What the reader hands over"), in the order of its rows; and the two families of which "the
--- earliest place" wins.
+-- The numbers of refusals by name (document 01, "What the reader hands over"), in the order of its rows, and the two families of which "the
+-- earliest place" wins; those of later entries by their requests (document 02).
 -- Assumes nothing.
 use mathlib.Core.Bool.{Bool, true, _&&_, not}
 use mathlib.Core.List.{List, [], _∷_, _++_}
@@ -54,6 +54,17 @@ NoPartners = 14
 abbrev pub NoRoom : ℕ
 NoRoom = 15
 
+-- Of a listing that is loaded (request 1): 16 of its lines, 17 of its records, 18 of the record buffer. Each row stands above its case in Promised.antt
+-- of `load`.
+abbrev pub BadLine : ℕ
+BadLine = 16
+
+abbrev pub NoFunction : ℕ
+NoFunction = 17
+
+abbrev pub NoLoadRoom : ℕ
+NoLoadRoom = 18
+
 -- "of 2 to 5 the earliest place wins": those of the bytes, which the lexer finds,
 abbrev pub ofBytes : List ℕ
 ofBytes = NotAscii ∷ NoLexeme ∷ Unclosed ∷ Simc ∷ []
@@ -67,12 +78,16 @@ ofShapes = Bound ∷ Size ∷ NoArms ∷ MixedArms ∷ ArmCount ∷ NoPartners �
 abbrev pub inOrder : List ℕ
 inOrder = TooLong ∷ (ofBytes ++ (TooMany ∷ TooDeep ∷ Misshapen ∷ (ofShapes ++ (NoRoom ∷ []))))
 
+-- Those of a listing: "they are tested in this order".
+abbrev pub ofListings : List ℕ
+ofListings = BadLine ∷ NoFunction ∷ NoLoadRoom ∷ []
+
 -- no number stands twice
 abbrev pub distinct : List ℕ → Bool
 distinct [] = true
 distinct (n ∷ ns) = not (has ns n) && distinct ns
 
 -- Each refusal has a number of its own, none is in both families, and none is 0, which stands for no refusal: computed.
-pub numbers-distinct : T (distinct (0 ∷ inOrder))
+pub numbers-distinct : T (distinct (0 ∷ (inOrder ++ ofListings)))
 unfolding has
 numbers-distinct = tt

@@ -1,4 +1,4 @@
-// The numbers of refusals by name: document 01, "What the reader hands over".
+// The numbers of refusals by name: document 01, "What the reader hands over"; from 16 on those of the later requests.
 // draft over 16,384 bytes
 pub const TOO_LONG: u32 = 1;
 
@@ -43,3 +43,12 @@ pub const NO_PARTNERS: u32 = 14;
 
 // tree buffer under six words a record
 pub const NO_ROOM: u32 = 15;
+
+// of a listing: a line is not of the 36-byte form
+pub const BAD_LINE: u32 = 16;
+
+// the lines do not form one function
+pub const NO_FUNCTION: u32 = 17;
+
+// record buffer under six words a record
+pub const NO_LOAD_ROOM: u32 = 18;

@@ -20,7 +20,7 @@ use Rattle.grammar.specs.records.Faults.{armLows}
 use Rattle.parse.specs.Contract.{Turned}
 use Rattle.parse.specs.Infos.{Armed, pairArm, orderFrom, orderKind, firstNode, Arranged, exchanged, stayed}
 use Rattle.parse.specs.Orders as order
-use Rattle.parse.proofs.tree.Splice.{sets-append}
+use Rattle.text.specs.Sets.{sets-append}
 use Rattle.parse.proofs.rule.Lists.{joined, groups-joined, sizes-joined, length-words}
 use Rattle.parse.proofs.arms.Laws.{Means, no-arm, one-arm, enum-arms, two-arms, more-arms, both-sorts, order-means, pair-range}
 

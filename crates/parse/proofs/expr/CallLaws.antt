@@ -39,7 +39,7 @@ use Rattle.parse.specs.declared.Step.{Step}
 use Rattle.parse.specs.declared.Step.the-variants.{Next}
 use Rattle.parse.proofs.rule.Amid.{class-at, inside, went, Amid, starts, then-turns, then-went}
 use Rattle.parse.proofs.rule.Lists.{length-words}
-use Rattle.parse.proofs.tree.Splice.{sets-next, sets-append}
+use Rattle.text.specs.Sets.{sets-next, sets-append}
 use Rattle.parse.proofs.rule.Steps.{numberIn, word-went, child-went}
 use Rattle.parse.proofs.rule.Commas.{AnyN, finish}
 use Rattle.parse.proofs.rule.Heads.{wordsIn, place, number-at, first-is}

@@ -34,7 +34,7 @@ use Rattle.parse.specs.Contract.{Text, classes, tokAt, Read, Stuck, raw,
 use Rattle.parse.specs.declared.State.{State}
 use Rattle.parse.specs.declared.Step.{Step}
 use Rattle.parse.specs.declared.Step.the-variants.{Next, Refused}
-use Rattle.parse.proofs.tree.Splice.{sets-next}
+use Rattle.text.specs.Sets.{sets-next}
 use Rattle.parse.proofs.rule.Lists.{joined, joined-none, sorts-joined, marks-joined, arranged-joined, sizes-joined, words-joined, length-words, length-join, raw-join, fault-join, sooner-none, sooner-assoc}
 
 -- the class of a token

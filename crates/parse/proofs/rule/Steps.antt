@@ -29,7 +29,8 @@ use Rattle.grammar.specs.spelled.TreeTokens.{length-classes, yield-arranged, yi
 use Rattle.lexer.specs.Classes as t
 use Rattle.parse.specs.Contract.{Text, classes, tokAt, Read, Stuck, raw, faultIn, sooner, kept, fault, Stands, Ready, Moved, Put, Laid, Info, asItems, asNode, Went, Parsed, read, stuck, reserved, cleaned, Mark, Named, Node, countable, u32Count}
 use Rattle.parse.specs.declared.State.{State}
-use Rattle.parse.proofs.tree.Splice.{header, sets-next}
+use Rattle.text.specs.Sets.{sets-next}
+use Rattle.parse.proofs.tree.Splice.{header}
 use Rattle.parse.proofs.rule.Lists.{joined, sooner-none, sooner-assoc, length-words, earliest-append}
 use Rattle.parse.proofs.rule.Amid.{class-at, inside, Amid, then-went, done}
 

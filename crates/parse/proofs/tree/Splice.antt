@@ -3,18 +3,13 @@
 use mathlib.Core.Path.{_≡_, refl, sym, ap, subst, _∙_}
 use Prim.Native.Nat.{ℕ, zero, suc, _+_, _-_, _*_, _<_, _≤_}
 use native.Mathlib.Omega.{arith}
-use native.Mathlib.Nat.{add-zero}
 use mathlib.Core.List.{List, [], _∷_, _++_, append-assoc}
 use lib.ListN.{length, set, take, drop, length-append, length-set, length-take, length-drop}
 use lib.Seq.{sets, sets-eq, length-sets, set-comm, take-at, drop-at, length-take-le}
 use Rattle.text.specs.Widths.{recWide}
+use Rattle.text.specs.Sets.{sets-append}
 use Rattle.own.specs.Words.{recThen}
 use Rattle.parse.specs.Contract.{Put}
-
--- side by side: one after the other
-pub sets-append : (a b l : List ℕ) (i : ℕ) → sets l i (a ++ b) ≡ sets (sets l i a) (i + length a) b
-sets-append [] b l i = ap (λ (k : ℕ). sets l k b) (sym (add-zero i))
-sets-append (x ∷ a) b l i = sets-append a b (set l i x) (suc i) ∙ ap (λ (k : ℕ). sets (sets (set l i x) (suc i) a) k b) (omega arith)
 
 -- a word in front can be written last
 sets-set : (ws l : List ℕ) (i j x : ℕ) → i < j → sets (set l i x) j ws ≡ set (sets l j ws) i x
@@ -26,10 +21,6 @@ sets-set (w ∷ ws) l i j x h =
 sets-sets : (vs ws l : List ℕ) (i j : ℕ) → i + length vs ≤ j → sets (sets l i vs) j ws ≡ sets (sets l j ws) i vs
 sets-sets [] ws l i j h = refl
 sets-sets (v ∷ vs) ws l i j h = sets-sets vs ws (set l i v) (suc i) j (omega arith) ∙ ap (λ (m : List ℕ). sets m (suc i) vs) (sets-set ws l i j v (omega arith))
-
--- the next run
-pub sets-next : (l : List ℕ) {l₁ l₂ : List ℕ} (a b : List ℕ) (i j : ℕ) → l₁ ≡ sets l i a → l₂ ≡ sets l₁ j b → i + length a ≡ j → l₂ ≡ sets l i (a ++ b)
-sets-next l a b i j p q e = q ∙ (λ k. sets (p k) (sym e k) b) ∙ sym (sets-append a b l i)
 
 -- The header law: a record written after what lies below it.
 pub header : (l : List ℕ) {l₁ l′ : List ℕ} (ws : List ℕ) (out k b e low high z : ℕ) → l₁ ≡ sets l (recWide * (out + 1)) ws → Put l₁ out k b e low high z l′ → recWide * out + recWide ≤ length l
