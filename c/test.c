@@ -1,4 +1,4 @@
-/* Calls the entry for C. Every expected line is written out from document 01. */
+/* Calls the entries for C. Every expected line and word is written out from documents 01 and 02. */
 #include <stdio.h>
 #include <string.h>
 
@@ -73,6 +73,8 @@ static void test_constants(void)
     CHECK(TOGMELIC_LINE == 36);
     CHECK(TOGMELIC_MOST_LINES == 2048);
     CHECK(TOGMELIC_MOST_BYTES == 73728);
+    CHECK(TOGMELIC_RECORD_WORDS == 6);
+    CHECK(sizeof(struct togmelic_refusal) == 2 * sizeof(size_t));
     CHECK(strlen(EXAMPLE_LINES) == EXAMPLE_BYTES);
     CHECK(strlen(REFUSED_LINE) == TOGMELIC_LINE);
 }
@@ -150,6 +152,85 @@ static void test_long_drafts(void)
     CHECK(lists(draft, 16385, TOGMELIC_MOST_BYTES, "00 4000 4000 00000001 00000000 0001\n"));
 }
 
+/* The example's records: six words for each of its lines. */
+enum { EXAMPLE_WORDS = 9 * TOGMELIC_RECORD_WORDS };
+static const uint32_t EXAMPLE_RECORDS[EXAMPLE_WORDS] = {
+    1, 0, 34, 0, 0, 9, /* function */
+    2, 3, 4, 0, 0, 1, /* name */
+    18, 6, 34, 1, 0, 7, /* block */
+    35, 7, 33, 0, 0, 6, /* match */
+    29, 13, 14, 0, 0, 1, /* variable */
+    37, 23, 32, 5, 0, 2, 24, 30, 31, 0, 0, 1, /* arm, decimal */
+    37, 15, 23, 6, 0, 2, 24, 21, 22, 0, 0, 1, /* arm, decimal */
+};
+static uint32_t words[2 * EXAMPLE_WORDS + GUARD];
+
+/* Whether a listing gets this answer in words_length words, prefilled: the example's records where the number is 0, else none. */
+static int loads(const char *listing, size_t listing_length, size_t words_length, size_t number, size_t line)
+{
+    struct togmelic_refusal refusal;
+    size_t at, count = number == 0 ? 9 : 0, used = count * TOGMELIC_RECORD_WORDS;
+    memset(words, FILL, sizeof words);
+    memset(&refusal, FILL, sizeof refusal);
+    if (togmelic_load((const unsigned char *)listing, listing_length, words, words_length, &refusal) != count
+        || refusal.number != number || refusal.line != line || memcmp(words, EXAMPLE_RECORDS, used * sizeof *words) != 0) {
+        return 0;
+    }
+    for (at = used; at < words_length + GUARD && words[at] == (at < words_length ? 0 : 0xAAAAAAAA); at++) {
+    }
+    return at == words_length + GUARD;
+}
+
+/* The same for the example with one byte of a line, from 1, replaced. */
+static int loads_changed(size_t line, size_t column, int byte, size_t number, size_t bad_line)
+{
+    char listing[EXAMPLE_BYTES];
+    memcpy(listing, EXAMPLE_LINES, EXAMPLE_BYTES);
+    listing[TOGMELIC_LINE * (line - 1) + column] = (char)byte;
+    return loads(listing, EXAMPLE_BYTES, EXAMPLE_WORDS, number, bad_line);
+}
+
+static void test_loading(void)
+{
+    struct togmelic_refusal refusal;
+    size_t length;
+    for (length = 0; length <= 2 * EXAMPLE_WORDS; length++) {
+        CHECK(loads(EXAMPLE_LINES, EXAMPLE_BYTES, length, length < EXAMPLE_WORDS ? 18 : 0, 0));
+    }
+    /* A part of a line is a bad line; whole lines are too few for the first record's size. */
+    for (length = 0; length < EXAMPLE_BYTES; length++) {
+        int whole = length % TOGMELIC_LINE == 0;
+        CHECK(loads(EXAMPLE_LINES, length, EXAMPLE_WORDS, whole ? 17 : 16, whole ? 0 : length / TOGMELIC_LINE + 1));
+    }
+    /* 16 goes before 17, and 17 before 18. */
+    CHECK(loads("\n", 1, 0, 16, 1));
+    CHECK(loads(REFUSED_LINE, TOGMELIC_LINE, 0, 17, 0));
+    CHECK(loads(NULL, 0, EXAMPLE_WORDS, 17, 0));
+    CHECK(togmelic_load(NULL, 0, NULL, 0, &refusal) == 0 && refusal.number == 17 && refusal.line == 0);
+    CHECK(togmelic_load((const unsigned char *)EXAMPLE_LINES, EXAMPLE_BYTES, NULL, 0, &refusal) == 0 && refusal.number == 18);
+    /* Arms belong together; sizes add up; a place begins before its end and lies inside its parent's; kinds are the table's. */
+    CHECK(loads_changed(6, 20, '6', 17, 0));
+    CHECK(loads_changed(4, 34, '5', 17, 0));
+    CHECK(loads_changed(2, 11, '3', 17, 0));
+    CHECK(loads_changed(5, 10, '2', 17, 0));
+    CHECK(loads_changed(5, 1, 'E', 17, 0));
+}
+
+/* Every byte in every column of a line: only upper-case digits, and spaces and LF where they stand, are in form. */
+static void test_bytes_of_a_line(void)
+{
+    static const char form[] = "hh hhhh hhhh hhhhhhhh hhhhhhhh hhhh\n";
+    size_t column;
+    int byte;
+    for (column = 0; column < TOGMELIC_LINE; column++) {
+        for (byte = 0; byte < 256; byte++) {
+            int digit = byte != 0 && strchr("0123456789ABCDEF", byte) != NULL;
+            int bad = form[column] == 'h' ? !digit : byte != form[column];
+            CHECK(loads_changed(5, column, byte, 16, 5) == bad);
+        }
+    }
+}
+
 int main(void)
 {
     test_constants();
@@ -157,6 +238,8 @@ int main(void)
     test_lengths_of_out();
     test_every_byte();
     test_long_drafts();
+    test_loading();
+    test_bytes_of_a_line();
     if (failures > 0) {
         fprintf(stderr, "c: %d of %d checks failed\n", failures, checks);
         return 1;

@@ -1,13 +1,13 @@
 """Reads the definitions of antt files that hold only names for numbers, lists and expressions of a grammar, and computes them.
 
-It knows what specs/Classes of crate `lexer`, specs/Kinds of `own` and the definitions of specs/shapes of `grammar` use: clauses by name,
-variable, [] and ( x ∷ .. ); constructors of data; application; the operators below; numerals; one form of record. A file may be read under
-a short name, as `use .. as t` has it: then its names are t.NAME.
+It knows what specs/Classes of crate `lexer`, specs/Kinds of `own`, the rules of `kinds` and the definitions of specs/shapes of `grammar` use: clauses
+by name, variable, [] and ( x ∷ .. ); constructors of data; application; the operators below; λ; pairs and .0, .1 of them; numerals; one form of record. A
+file may be read under a short name, as `use .. as t` has it: then its names are t.NAME.
 """
 import os
 import re
 
-OPERATORS = {"but": 61, "∷": 60, "++": 55, "⨾": 42, "¦": 41}  # all read as if they associated to the right
+OPERATORS = {"^": 70, "but": 61, "∷": 60, "++": 55, "▸": 43, "⨾": 42, "¦": 41, ",": 10}  # all read as if they associated to the right
 
 
 def definitions(text):
@@ -30,7 +30,7 @@ def definitions(text):
             current.append(line)
     out = {}
     for lines in clauses:
-        words = re.findall(r"[(){};]|[^\s(){};]+", " ".join(lines))
+        words = re.findall(r"[(){};,]|[^\s(){};,]+", " ".join(lines))
         cut = words.index("=")
         left, right = words[:cut], words[cut + 1:]
         infix = [i for i, w in enumerate(left) if w in OPERATORS and left[:i].count("(") == left[:i].count(")")]
@@ -46,7 +46,7 @@ def constructors(text):
         if line and line[0] != " ":
             inside = line.startswith("pub data ")
         elif inside and ":" in line and not line.strip().startswith("--"):
-            names, kind = line.split(":")
+            names, kind = line.split(":", 1)
             out.update({n: kind.count("→") for n in names.split()})
     return out
 
@@ -104,6 +104,11 @@ class Reader:
                     self.take()
             self.take("}")
             return ("record", fields)
+        if w == "λ":
+            names = [self.take()]
+            while not names[-1].endswith("."):
+                names.append(self.take())
+            return ("lambda", [n.rstrip(".") for n in names], self.expr(0))
         if w.isdigit():
             return ("number", int(w))
         return ("name", w)
@@ -111,7 +116,10 @@ class Reader:
     def application(self):
         e = self.atom()
         while self.peek() not in (None, ")", ";", "}") and self.peek() not in OPERATORS:
-            e = ("apply", e, self.atom())
+            if re.fullmatch(r"\.\d", self.peek()):
+                e = ("part", e, int(self.take()[1:]))
+            else:
+                e = ("apply", e, self.atom())
         return e
 
     def expr(self, least):
@@ -131,6 +139,11 @@ class Values:
         "_∷_": lambda x: lambda l: [x] + l,
         "_++_": lambda k: lambda l: k + l,
         "_but_": lambda k: lambda l: [x for x in k if x not in l],
+        "_,_": lambda x: lambda y: (x, y),
+        "_^_": lambda x: lambda y: x ** y,
+        "map": lambda f: lambda l: [f(x) for x in l],
+        "foldr": lambda f: lambda z: lambda l: f(l[0])(Values.LISTS["foldr"](f)(z)(l[1:])) if l else z,
+        "span": lambda a: lambda b: list(range(a, b + 1)),
     }
 
     def __init__(self, sources):
@@ -146,14 +159,14 @@ class Values:
 
     def value(self, name):
         if name not in self.done:
-            if name in self.built_ins:
-                self.done[name] = self.built_in(name, self.built_ins[name], ())
-            elif name == "[]":
+            if name == "[]":
                 self.done[name] = []
             elif name in self.LISTS:
                 self.done[name] = self.LISTS[name]
             elif name in self.defs:
                 self.done[name] = self.function(self.defs[name], len(self.defs[name][0][0]), ())
+            elif name in self.built_ins:
+                self.done[name] = self.built_in(name, self.built_ins[name], ())
             else:
                 raise SystemExit(f"no definition of {name}")
         return self.done[name]
@@ -193,4 +206,10 @@ class Values:
             return env[e[1]] if e[1] in env else self.value(e[1])
         if e[0] == "apply":
             return self.eval(e[1], env)(self.eval(e[2], env))
+        if e[0] == "part":
+            return self.eval(e[1], env)[e[2]]
+        if e[0] == "lambda":
+            if not e[1]:
+                return self.eval(e[2], env)
+            return lambda x: self.eval(("lambda", e[1][1:], e[2]), env | {e[1][0]: x})
         return {k: self.eval(v, env) for k, v in e[1].items()}

@@ -1,11 +1,11 @@
 #!/usr/bin/env python3
-"""Writes the table of docs/BELIEF.md: which definitions say what `read` promises, file by file in an order of reading, with line counts.
+"""Writes the tables of docs/BELIEF.md: which definitions say what `read` and `load` promise, file by file in an order of reading, with line counts.
 
-    tools/believed.py          writes it
-    tools/believed.py --check  writes nothing; exits with 1 where the table is another, or where the lines are more than MOST
+    tools/believed.py          writes them
+    tools/believed.py --check  writes nothing; exits with 1 where a table is another, or where the lines are more than the promise may have
     tools/believed.py --names  prints the definitions of each file with their lines
 
-It starts at the definitions that the contract of `read` cites for the whole of its promise (ROOTS), and follows names over `use` lines. A definition is an
+It starts at the definitions that a contract cites for the whole of its promise (PROMISES), and follows names over `use` lines. A definition is an
 `abbrev`, an `unfoldable`, a `data` or a `record`; its lines are its comment, its signature and its clauses. Theorems and their proofs are checked by
 antt and need no belief, and neither do the definitions that only they use.
 """
@@ -15,11 +15,16 @@ import sys
 
 ROOT = os.path.dirname(os.path.dirname(os.path.abspath(__file__)))
 PAGE = os.path.join(ROOT, "docs", "BELIEF.md")
-BEGIN, END = "<!-- made by tools/believed.py -->\n", "<!-- end -->\n"
-MOST = 1700
-ROOTS = [("crates/grammar/specs/answers/Promised.antt", "Promised"), ("crates/reader/specs/Read.antt", "meant"), ("crates/reader/specs/Read.antt", "returned"),
-         ("crates/grammar/specs/Entry.antt", "oneFunction"), ("crates/lexer/specs/Limits.antt", "draftLimits")]
-PAPER = ["crates/" + part for part in ("text", "words", "lexer", "theory", "grammar/specs/shapes", "num", "own", "grammar/specs/records", "kinds", "grammar", "reader")]
+BEGIN, END = "<!-- %s: made by tools/believed.py -->\n", "<!-- end -->\n"
+PAPER = ["crates/" + part for part in ("text", "words", "lexer", "theory", "grammar/specs/shapes", "num", "own", "grammar/specs/records", "kinds", "grammar",
+                                       "reader", "lines", "load")]
+# Each function with the most lines that it may ask to believe, and the definitions that its contract cites.
+PROMISES = [
+    ("read", 1700, [("crates/grammar/specs/answers/Promised.antt", "Promised"), ("crates/reader/specs/Read.antt", "meant"),
+                    ("crates/reader/specs/Read.antt", "returned"), ("crates/grammar/specs/Entry.antt", "oneFunction"),
+                    ("crates/lexer/specs/Limits.antt", "draftLimits")]),
+    ("load", 740, [("crates/load/specs/Promised.antt", "Loads"), ("crates/load/specs/Meant.antt", "meant"), ("crates/load/specs/Meant.antt", "returned")]),
+]
 DEFINITION = re.compile(r"\s*(?:infix[lr]? .*|(?:abbrev|unfoldable) .*|(?:pub )?(?:data|record) .*)$")
 DECLARED = re.compile(r"\s*(?:abbrev |unfoldable )?(?:pub )?(?:data |record )?(«?[^\s:({=]+»?)\s*(?:[({].*)?:")
 
@@ -58,10 +63,12 @@ class File:
 
 
 class Believed:
-    def __init__(self):
+    def __init__(self, roots):
         self.files, self.seen, self.below = {}, {}, {}  # below: the files that a file's definitions use
-        for name, definition in ROOTS:
+        for name, definition in roots:
             self.visit(name, definition)
+            if not self.seen.get(name):
+                sys.exit(f"{name} has no definition {definition}")
         self.order = []  # behind a file that it uses, and in the paper's order else
         while len(self.order) < len(self.seen):
             ready = [n for n in self.seen if n not in self.order and set(self.below.get(n, [])) <= set(self.order)]
@@ -98,34 +105,59 @@ class Believed:
         if rest and alias in file.aliases and path(file.aliases[alias]):
             self.use(file, path(file.aliases[alias]), rest)
 
-    def lines(self, name):
-        return sum(len(self.files[name].blocks[i]) for i in self.seen[name])
+    def lines(self, name, read=()):
+        """The lines of a file's definitions that are not among those read before."""
+        return sum(len(self.files[name].blocks[i]) for i in self.seen[name].difference(*(before.seen.get(name, ()) for before in read)))
+
+    def total(self, read=()):
+        return sum(self.lines(name, read) for name in self.order)
+
+    def names(self):
+        for name in self.order:
+            first = {i: n for n, i in reversed(self.files[name].names.items())}
+            print(name, self.lines(name), "  ".join(f"{first[i]} {len(self.files[name].blocks[i])}" for i in sorted(self.seen[name])))
+        print(self.total(), "lines in", len(self.order), "files")
+
+    def table(self, read):
+        """The files in their order; where something was read before, with how many of their lines are new."""
+        says = f"{self.total():,} lines in {len(self.order)} files"
+        if read:
+            says += f", of which {self.total(read):,} in {sum(self.lines(name, read) > 0 for name in self.order)} files are new"
+        rows = [says + ".\n", f"| | File | Lines |{' New |' if read else ''} What it says |", "|---|---|---|---|" + "---|" * bool(read)]
+        for number, name in enumerate(self.order, 1):
+            head, new = self.files[name].head, f" {self.lines(name, read)} |" if read else ""
+            file = name.removeprefix("crates/").replace("/specs", "")
+            rows.append(f"| {number} | {file} | {self.lines(name)} |{new} {head[0].upper() + head[1:]} |")
+        return "\n".join(rows) + "\n"
+
+
+def put(page, name, table):
+    """The page with the table between the two marks of a promise."""
+    before, begin, rest = page.partition(BEGIN % name)
+    _, end, behind = rest.partition(END)
+    if not end or BEGIN % name in behind:
+        sys.exit(f"docs/BELIEF.md has not each of the two marks of {name} once")
+    return before + begin + table + end + behind
 
 
 def main():
-    believed = Believed()
-    total = sum(map(believed.lines, believed.order))
+    page = written = open(PAGE).read()
+    read, over = [], []
+    for name, most, roots in PROMISES:
+        believed = Believed(roots)
+        if "--names" in sys.argv:
+            believed.names()
+        written = put(written, name, believed.table(read))
+        over += [f"{believed.total()} lines must be believed for `{name}`, more than {most}"] * (believed.total() > most)
+        read.append(believed)
     if "--names" in sys.argv:
-        for name in believed.order:
-            file = believed.files[name]
-            first = {i: n for n, i in reversed(file.names.items())}
-            print(name, believed.lines(name), "  ".join(f"{first[i]} {len(file.blocks[i])}" for i in sorted(believed.seen[name])))
-        print(total, "lines in", len(believed.order), "files")
         return
-    table = [f"{total:,} lines in {len(believed.order)} files.\n", "| | File | Lines | What it says |", "|---|---|---|---|"]
-    for number, name in enumerate(believed.order, 1):
-        head = believed.files[name].head
-        table.append(f"| {number} | {name.removeprefix('crates/').replace('/specs', '')} | {believed.lines(name)} | {head[0].upper() + head[1:]} |")
-    page = open(PAGE).read()
-    if page.count(BEGIN) != 1 or page.count(END) != 1:
-        sys.exit("docs/BELIEF.md has not each of the two marks once")
-    written = page[:page.index(BEGIN)] + BEGIN + "\n".join(table) + "\n" + page[page.index(END):]
     if "--check" not in sys.argv:
         open(PAGE, "w").write(written)
     elif written != page:
         sys.exit("docs/BELIEF.md is not what tools/believed.py writes")
-    if total > MOST:
-        sys.exit(f"{total} lines must be believed for `read`, more than {MOST}")
+    if over:
+        sys.exit("\n".join(over))
 
 
 if __name__ == "__main__":

@@ -1,13 +1,15 @@
 #!/usr/bin/env python3
-"""Runs every draft of docs/REFUSALS.md and compares its line with the one that the document gives.
+"""Runs every draft and every listing of docs/REFUSALS.md and compares what is said of it with what the document gives.
 
-tools/refusals.py [PROGRAM]; the program lists the draft on its standard input, by default target/bin/listing.
+tools/refusals.py [LISTING [LOAD]]; the first program lists the draft on its standard input, by default target/bin/listing, the second, c/load.c, loads a
+listing, by default target/load.
 A section `## N: title` has drafts, each a line `Draft:` with a code span or a `sh` block that writes it, and a `text` block with its line.
-`Call:` stands for a case of crates/reader_cases, which lends `read` its buffers. `Smallest: N bytes` is the length of the next draft.
+`Call:` stands for a case of crates/reader_cases, which lends `read` its buffers. `Listing:`, or `Listing, with N words:`, has a `sh` block that writes a
+listing, and a `text` block with what the second program says. `Smallest: N bytes` is the length of the next draft or listing.
 """
 import re, subprocess, sys
 
-from program import ROOT, finish, listing
+from program import ROOT, finish, listing, loaded
 
 DOCUMENT = ROOT / "docs/REFUSALS.md"
 CASES = ROOT / "crates/reader_cases"
@@ -16,6 +18,7 @@ ENTRY = re.compile(r"""^(?:
     | Draft:(?:[ ]`(?P<span>[^`\n]+)`\n|\n\n```sh\n(?P<command>[^`]+)```\n)\n```text\n(?P<line>[^`]+)```$
     | Call:[ ]`read`[ ]with[ ]draft[ ]`(?P<lent>[^`\n]+)`,[ ](?P<tokens>\d+)[ ]words[ ]for[ ]tokens,[ ](?P<tree>\d+)[ ]words[ ]for[ ]the[ ]tree\n\n
       ```text\nRefused[ ]{[ ]number:[ ](?P<number>\d+),[ ]place:[ ](?P<place>\d+)[ ]}\n```$
+    | Listing(?:,[ ]with[ ](?P<words>\d+)[ ]words)?:\n\n```sh\n(?P<writer>[^`]+)```\n\n```text\n(?P<said>[^`]+)```$
     )""", re.M | re.X)
 
 
@@ -57,11 +60,28 @@ def call_fault(number, found, draft, results):
     return "" if answer == expected else f"crates/reader_cases, {draft}: {answer}, the document has {expected}"
 
 
+def listing_fault(number, found, lines):
+    """What is wrong with a listing and what is said of it, if anything."""
+    said = found["said"].encode()
+    if not re.fullmatch(rb"refused with %d at line \d+\n" % number, said):
+        return f"{said} is not what is said for refusal {number}"
+    answer = loaded(lines, *[found["words"]] * (found["words"] is not None))
+    return "" if answer == said else f"{lines[:72]} of {len(lines)} bytes: the program says {answer[:72]}, the document has {said}"
+
+
 def draft_of(found):
-    """The draft that an entry shows, or that its command writes."""
-    if found["command"]:
-        return subprocess.run(["sh", "-c", found["command"]], cwd=ROOT, check=True, capture_output=True).stdout
+    """The draft or listing that an entry shows, or that its command writes."""
+    command = found["command"] or found["writer"]
+    if command:
+        return subprocess.run(["sh", "-c", command], cwd=ROOT, check=True, capture_output=True).stdout
     return (found["span"] or found["lent"]).encode()
+
+
+def entry_fault(number, found, draft, results):
+    """What is wrong with an entry, if anything."""
+    if found["said"]:
+        return listing_fault(number, found, draft)
+    return draft_fault(number, found, draft) if found["line"] else call_fault(number, found, draft, results)
 
 
 def section_faults(number, text, results):
@@ -74,14 +94,14 @@ def section_faults(number, text, results):
         draft = draft_of(found)
         if length not in (None, len(draft)):
             faults.append(f"the draft has {len(draft)} bytes, not {length}")
-        faults.append(draft_fault(number, found, draft) if found["line"] else call_fault(number, found, draft, results))
+        faults.append(entry_fault(number, found, draft, results))
         length = None
     # What the pattern does not know must not go unseen.
     sizes = sum(found["bytes"] is not None for found in entries)
     drafts = len(entries) - sizes
     if sizes == 0 or drafts == 0 or length is not None:
         faults.append("no draft, or none that is said to be the smallest")
-    if sizes != text.count("Smallest:") or not drafts == len(re.findall("Draft:|Call:", text)) == text.count("```text"):
+    if sizes != text.count("Smallest:") or not drafts == len(re.findall("Draft:|Call:|Listing:|Listing, with", text)) == text.count("```text"):
         faults.append("a draft, its size or its line is not written as the others are")
     return drafts, [f"refusal {number}: {fault}" for fault in faults if fault]
 
@@ -89,12 +109,12 @@ def section_faults(number, text, results):
 def main():
     results, drafts, faults = answers(), 0, []
     found = sections()
-    if [number for number, _ in found] != list(range(1, 16)):
-        faults.append(f"docs/REFUSALS.md has sections {[number for number, _ in found]}, not 1 to 15")
+    if [number for number, _ in found] != list(range(1, 19)):
+        faults.append(f"docs/REFUSALS.md has sections {[number for number, _ in found]}, not 1 to 18")
     for number, text in found:
         count, more = section_faults(number, text, results)
         drafts, faults = drafts + count, faults + more
-    finish("refusals", f"{drafts} drafts", faults)
+    finish("refusals", f"{drafts} drafts and listings", faults)
 
 
 if __name__ == "__main__":

@@ -1,7 +1,7 @@
 #!/usr/bin/env bash
 # All tests: generated files are what their scripts write, the layout, the grammar's table beside Earley's method, then `rt ci` (every crate proved, every
 # must-fail edit refused, every program run), then what stands on that: the definition of the answer beside the partner, the entry for C from C and from
-# Rust, the drafts of docs/REFUSALS.md, the comparison of the library with the partner.
+# Rust, the drafts and listings of docs/REFUSALS.md, the comparison of the library with the partner.
 # The last line, 'N passed, 0 failed', is printed only where everything passed.
 set -euo pipefail
 cd "$(dirname "$0")/.."
@@ -16,7 +16,8 @@ run() {
     passed=$((passed + 1))
 }
 
-for script in tools/words.py tools/words_cases.py tools/bytes.py tools/lexer_cases.py tools/grammar.py tools/choice.py tools/cycle.py tools/believed.py; do
+for script in tools/words.py tools/words_cases.py tools/bytes.py tools/lexer_cases.py tools/grammar.py tools/choice.py tools/cycle.py tools/digits.py \
+    tools/children.py tools/believed.py; do
     run python3 "$script" --check
 done
 run diff <(python3 tools/num_cases.py) crates/num_cases/stdout
@@ -25,6 +26,7 @@ run python3 tools/compare_grammar.py
 CARGO_TARGET_DIR=$work/rust cargo build --manifest-path rust/Cargo.toml --offline --release --quiet --package partner
 run "$work/rust/release/partner" --self-test
 run python3 tools/reader_cases.py --check --partner "$work/rust/release/partner"
+run python3 tools/load_cases.py --check --partner "$work/rust/release/partner"
 
 # The last line of rt ci is held back, and printed below with what passed here added.
 echo "test: rt ci"

@@ -1,3 +1,4 @@
 pub mod Laws
 pub mod LineLaws
+pub mod LoadingLaws
 pub mod EntryLaws

@@ -10,6 +10,7 @@ ghost use Rattle.reader.specs.Read.{meant, returned};
 use lexer::Lexed;
 
 pub mod entry;
+pub mod loading;
 
 // What is handed over: the numbers of tokens and records, or the refusal by its number, at a place.
 pub enum Reading {

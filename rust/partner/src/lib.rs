@@ -1,22 +1,26 @@
 //! A reader of escrow drafts: from the bytes of a draft to its tokens and its tree of records,
 //! or to one of the refusals 1 to 15. It looks ahead at the next tokens and never reads twice.
+//! Its listings come back: from the lines to the records, or to one of the refusals 16 to 18.
 
-mod kinds;
+pub mod kinds;
+pub mod known_listings;
 pub mod known_results;
 mod lexer;
 mod limits;
 mod listing;
+mod load;
 mod names;
 mod parser;
 pub mod streams;
 
-pub use listing::{list_into, listing};
+pub use listing::{list_into, listing, write_lines};
+pub use load::load;
 
 /// Kind, start, end.
 pub type Token = [u32; 3];
 /// Kind, start, end, low, high, size.
 pub type Record = [u32; 6];
-/// Number and place.
+/// Number and place; for a listing, number and line.
 pub type Refusal = (u32, usize);
 /// What a draft is read to.
 pub type Reading = Result<(Vec<Token>, Vec<Record>), Refusal>;

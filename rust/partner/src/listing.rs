@@ -3,11 +3,16 @@
 use crate::{read, Record, TOKENS};
 
 /// Bytes of a line, its end among them.
-const LINE: usize = 36;
+pub const LINE: usize = 36;
 
 /// One line a record, or one line for a refusal, with buffers as large as the limits.
 pub fn listing(draft: &[u8]) -> Vec<u8> {
-    lines(draft).iter().flat_map(line_bytes).collect()
+    write_lines(&lines(draft))
+}
+
+/// One line a record.
+pub fn write_lines(records: &[Record]) -> Vec<u8> {
+    records.iter().flat_map(line_bytes).collect()
 }
 
 /// The listing in a lent buffer with zeros behind: how many bytes it takes.

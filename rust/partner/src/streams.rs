@@ -1,6 +1,6 @@
-//! Streams of drafts on standard input, with one answer after the other.
+//! Streams of drafts and of listings on standard input, with one answer after the other.
 
-use crate::{list_into, listing, read};
+use crate::{list_into, listing, load, read, write_lines};
 
 /// The listings of a stream of drafts: length, line end, bytes, both ways.
 pub fn many(mut stream: &[u8]) -> Option<Vec<u8>> {
@@ -44,6 +44,31 @@ pub fn cases(mut stream: &[u8]) -> Option<Vec<u8>> {
         answers.extend_from_slice(&out[..used]);
     }
     Some(answers)
+}
+
+/// The answers to a stream of listings. A case is a line of two numbers, the words of the record
+/// buffer and the bytes of the listing; then the listing and a line end.
+pub fn listings(mut stream: &[u8]) -> Option<Vec<u8>> {
+    let mut answers = String::new();
+    while !stream.is_empty() {
+        let [words, length] = take_numbers(&mut stream)?;
+        let listing = take(&mut stream, length)?;
+        if take(&mut stream, 1)? != b"\n" {
+            return None;
+        }
+        match load(listing, words) {
+            Ok(records) => {
+                let same = write_lines(&records) == listing;
+                let what = if same { "same" } else { "NOT THE SAME" };
+                answers += &format!("records {} zeros {what}\n", records.len());
+                for record in records {
+                    answers += &(record.map(|word| word.to_string()).join(" ") + "\n");
+                }
+            }
+            Err((number, line)) => answers += &format!("refused {number} {line} zeros\n"),
+        }
+    }
+    Some(answers.into_bytes())
 }
 
 /// Takes a line of decimal numbers with one space between off the stream.

@@ -1,9 +1,11 @@
-//! A safe wrapper around the proved reader of escrow drafts: lists any bytes as a draft, or reads them to records.
+//! A safe wrapper around the proved reader of escrow drafts: lists any bytes as a draft, or reads them to records,
+//! and loads a listing that is kept without its draft.
 //!
-//! [`list`] writes the lines into a lent buffer and allocates nothing; [`listing`] and [`read`] bring their own
-//! buffer. Every call may be made with any bytes and from any thread, and no answer depends on an earlier call.
+//! [`list`] and [`load_into`] write into a lent buffer and allocate nothing; [`listing`], [`read`] and [`load`] bring
+//! their own. Every call may be made with any bytes and from any thread, and no answer depends on an earlier call.
 //! The reader keeps its tokens and its tree on the stack and calls itself for what is nested: the deepest drafts
-//! take some 600,000 bytes, so lend its thread 1 MiB.
+//! take some 600,000 bytes, so lend its thread 1 MiB. Loading takes less than 4,096 bytes, however deep the listing is
+//! nested.
 //!
 //! ```
 //! let draft = b"fn f(){Left(1)}";
@@ -15,13 +17,22 @@
 //!
 //! let refusal = togmelic::read(b"fn f(){fold(x)}").unwrap_err();
 //! assert_eq!((refusal.number, refusal.place), (8, 11));
+//!
+//! // A listing comes back as the same records, unless it is not one of a function.
+//! let mut kept = togmelic::listing(draft);
+//! assert_eq!(togmelic::load(&kept), Ok(tree));
+//! kept[36] = b'x';
+//! let refusal = togmelic::load(&kept).unwrap_err();
+//! assert_eq!((refusal.number, refusal.line), (16, 2));
 //! ```
 
+mod load;
 mod record;
 mod refusal;
 
+pub use load::{load, load_into, RECORD_WORDS};
 pub use record::{records, Record};
-pub use refusal::Refusal;
+pub use refusal::{LoadRefusal, Refusal};
 
 /// Bytes of a line, its line end among them.
 pub const LINE: usize = 36;

@@ -1,9 +1,10 @@
-//! Records, parsed from the lines of a listing.
+//! Records, parsed from the lines of a listing or taken from their six words.
 
-use crate::LINE;
+use crate::{LINE, RECORD_WORDS};
 use std::ops::Range;
 
-/// One line of a listing. The kinds and what `low` and `high` hold are in document 01, "Records".
+/// One line of a listing. The kinds and what `low` and `high` hold are in document 01, "Records and the marks they
+/// own".
 #[derive(Clone, Copy, Debug, PartialEq, Eq, Hash)]
 pub struct Record {
     /// 1 to 40; 0 in the one line of a refusal.
@@ -31,6 +32,19 @@ impl Record {
         u64::from(self.high) << 32 | u64::from(self.low)
     }
 
+    /// The record of six words, as [`load_into`](crate::load_into) writes them; `None` where the kind is over 255.
+    pub fn from_words(words: [u32; RECORD_WORDS]) -> Option<Record> {
+        let [kind, start, end, low, high, size] = words;
+        Some(Record {
+            kind: u8::try_from(kind).ok()?,
+            start: start as usize,
+            end: end as usize,
+            low,
+            high,
+            size: size as usize,
+        })
+    }
+
     fn from_line(line: &[u8]) -> Record {
         Record {
             kind: hexadecimal(&line[0..2]) as u8,
@@ -45,6 +59,11 @@ impl Record {
 
 /// The records of the lines that [`list`](crate::list) answers, without an allocation.
 /// A refusal is one record of kind 0.
+///
+/// # Panics
+///
+/// At a line that has another byte where a digit stands. For a listing from elsewhere, such as a file, use
+/// [`load`](crate::load), which refuses it instead.
 pub fn records(lines: &[u8]) -> impl Iterator<Item = Record> + '_ {
     lines.chunks_exact(LINE).map(Record::from_line)
 }

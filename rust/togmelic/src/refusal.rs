@@ -59,3 +59,37 @@ impl fmt::Display for Refusal {
 }
 
 impl std::error::Error for Refusal {}
+
+/// Why a listing is refused, and at which line: two words, as the entry writes them.
+#[derive(Clone, Copy, Debug, PartialEq, Eq, Hash)]
+#[repr(C)]
+pub struct LoadRefusal {
+    /// 16, 17 or 18, as in document 02, order 1.
+    pub number: usize,
+    /// The first bad line, from 1, for 16; 0 for 17 and 18.
+    pub line: usize,
+}
+
+impl LoadRefusal {
+    /// What the number says, in words.
+    pub fn reason(&self) -> &'static str {
+        match self.number {
+            16 => "the line is not of the 36-byte form",
+            17 => "the lines do not form one function",
+            18 => "the record buffer is too short",
+            _ => "no such refusal",
+        }
+    }
+}
+
+impl fmt::Display for LoadRefusal {
+    fn fmt(&self, f: &mut fmt::Formatter<'_>) -> fmt::Result {
+        write!(f, "refusal {}", self.number)?;
+        if self.line > 0 {
+            write!(f, " at line {}", self.line)?;
+        }
+        write!(f, ": {}", self.reason())
+    }
+}
+
+impl std::error::Error for LoadRefusal {}

@@ -1,0 +1,11 @@
+pub mod BeginLaws
+pub mod CheckLaws
+pub mod CueLaws
+pub mod LineLaws
+pub mod LoadLaws
+pub mod RecordLaws
+pub mod Told
+pub mod WalkLaws
+pub mod Walking
+pub mod WalkLines
+pub mod WriteLaws

@@ -1,0 +1,21 @@
+-- `number` meets its contract.
+-- Assumes nothing.
+use borrow.Author.Needs.{needs}
+use Rattle.kinds.specs.Shape as shape
+use Rattle.load.proofs.cue.number.Statement.{statement}
+use Rattle.load.proofs.cue.number.Tie as tie
+use Rattle.load.proofs.cue.number.Reads as reads
+use Rattle.load.proofs.cue.number.Lts as lts
+
+mul-result : tie.Need-mul-result
+mul-result c = search needs
+
+add-result : tie.Need-add-result
+add-result c = search needs
+
+returns : tie.Need-returns
+unfolding shape.number
+returns c = search needs
+
+pub number-spec : {M : Type 1} → statement M
+number-spec = tie.close (tie.spec mul-result add-result returns)

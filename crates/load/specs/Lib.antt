@@ -1,0 +1,15 @@
+pub mod Bare
+pub mod Function
+pub mod FunctionTest
+pub mod children
+pub mod check
+pub mod HandedForms
+pub mod Handed
+pub mod listing
+pub mod Fitting
+pub mod Load
+pub mod Meant
+pub mod Promised
+pub mod Laws
+pub mod Restored
+pub mod Known

@@ -1,0 +1,6 @@
+-- How the code tests that records form one function: each record with one walk over its children.
+pub mod Parts
+pub mod Stands
+pub mod Judge
+pub mod Small
+pub mod Verdict
