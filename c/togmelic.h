@@ -62,7 +62,8 @@ struct togmelic_refusal {
  * TOGMELIC_MOST_LINES * TOGMELIC_RECORD_WORDS are. Any other listing that is taken has at most 65,535 lines, which is
  * what the four digits of a size can count.
  *
- * Only a listing of one function is taken. Else 0 is returned, and *refusal has the first of these that is so:
+ * Only a listing whose records form one function is taken. Else 0 is returned, and *refusal has the first of these
+ * that is so:
  *
  *     16  a line is not of the form that togmelic_list writes, its 36th byte, LF, included; the line is the first such
  *     17  the lines do not form one function: there are none, or it is a refusal's line, or there are two functions, or
@@ -71,6 +72,9 @@ struct togmelic_refusal {
  *         not before its end, or a child's place is not inside its parent's (docs/REFUSALS.md, 17)
  *     18  words is too short
  *
+ * No draft is at hand, so a listing may be taken that is not your draft's, or no draft's at all: an end may be up to
+ * 65,535, and the places of siblings may overlap. See that an end is within the draft before you cut a text out of it.
+ *
  * Every word of words behind the records is set to zero, and where the listing is refused every word is. A function
  * has a record, so 0 is returned only where *refusal has a number: either one tells the answer, and no word of a
  * refused listing can be taken for a record.
@@ -78,7 +82,7 @@ struct togmelic_refusal {
  * The listing may be any bytes of any length, such as those of a file, but no more than its lines: with the zeros that
  * togmelic_list puts behind them it is refused. listing_length counts bytes, words_length counts words, and each
  * pointer must be good for its length; it may be NULL only where that length is 0. words must be aligned for uint32_t.
- * refusal is never NULL; what it held before the call does not matter. The three must not overlap. The listing must
+ * refusal must not be NULL; what it held before the call does not matter. The three must not overlap. The listing must
  * not change during the call, which reads each byte more than once: copy a file that is mapped into memory first,
  * unless no one can write to it.
  *

@@ -6,7 +6,7 @@
 
 The kinds table is read from the specs (Rules and Groups of crate kinds) by tools/antt_terms.py. Its forms without their marks are shapes; what is left
 of a tidy shape after a child is a shape again, and there are few of them. Shapes that the same children lead to an end are one state.
-Nothing here needs trust: antt computes on the result that it is right (specs/children/Automaton.antt, Begin.antt).
+Nothing here needs trust: antt computes on the result that it is right (specs/children/Automaton.antt, Begins.antt).
 """
 import os
 import sys
@@ -212,7 +212,7 @@ def spec():
 
     flat = [x for row in ROWS for x in row]
     return "\n".join([
-        "-- Made by tools/children.py: the automaton of a record's children, and the states that it begins in. Automaton.antt and Begin.antt compute that\n"
+        "-- Made by tools/children.py: the automaton of a record's children, and the states that it begins in. Automaton.antt and Begins.antt compute that\n"
         "-- both are right.\n-- Assumes nothing.\nuse mathlib.Core.List.{List, [], _∷_}\nuse Prim.Native.Nat.{ℕ}\n",
         "-- How a shape is reached: the dead one; the form of this number; what is left of that shape after a child of that cue.\n"
         "pub data Reach : Type 0 where\n  dead : Reach\n  form : ℕ → Reach\n  by : ℕ → ℕ → Reach\n",

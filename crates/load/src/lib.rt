@@ -26,7 +26,7 @@ pub enum Loaded {
     Refused { number: u32, line: usize },
 }
 
-// The answer to a listing with a buffer of so many words. All of it is told by the listing, before a word is written.
+// The answer to a listing with a buffer of so many words. It is known before a word is written.
 fn answer(digits: &[u8; BYTE_VALUES], widths: &[usize], listing: &[u8], room: usize) -> Loaded
     requires { ⌜ DigitTable (now digits) ⌝ }
     requires { ⌜ now widths ≡ form.widths ⌝ }

@@ -31,7 +31,7 @@ pub(crate) struct Seen {
     pub(crate) patterns: usize,
 }
 
-// What is found of all children: some has not its place, or what was seen of them.
+// What is found of all children: some stands outside the records or the place of its parent, or what was seen of them.
 pub(crate) enum Walked {
     Bad,
     Done(Seen),

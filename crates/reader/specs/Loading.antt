@@ -1,5 +1,5 @@
--- What `togmelic_load` hands over (request 1): the number of records; every word of the buffer; and the number and the line of the refusal, 0 and 0 where the
--- listing is loaded.
+-- What `togmelic_load` hands over (request 1) besides the words of the buffer, which are those of `load`: the number of records; and the number and the line of
+-- the refusal, 0 and 0 where the listing is loaded.
 -- Assumes nothing.
 use mathlib.Core.List.{List, [], _∷_}
 use mathlib.Core.Logic.{_↔_}

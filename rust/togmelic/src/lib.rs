@@ -2,7 +2,7 @@
 //! and loads a listing that is kept without its draft.
 //!
 //! [`list`] and [`load_into`] write into a lent buffer and allocate nothing; [`listing`], [`read`] and [`load`] bring
-//! their own. Every call may be made with any bytes and from any thread, and no answer depends on an earlier call.
+//! their own. Each of them may be called with any bytes and from any thread, and no answer depends on an earlier call.
 //! The reader keeps its tokens and its tree on the stack and calls itself for what is nested: the deepest drafts
 //! take some 600,000 bytes, so lend its thread 1 MiB. Loading takes less than 4,096 bytes, however deep the listing is
 //! nested.
@@ -18,7 +18,7 @@
 //! let refusal = togmelic::read(b"fn f(){fold(x)}").unwrap_err();
 //! assert_eq!((refusal.number, refusal.place), (8, 11));
 //!
-//! // A listing comes back as the same records, unless it is not one of a function.
+//! // A listing comes back as the same records. One whose records form no function, or with a bad line, is refused.
 //! let mut kept = togmelic::listing(draft);
 //! assert_eq!(togmelic::load(&kept), Ok(tree));
 //! kept[36] = b'x';

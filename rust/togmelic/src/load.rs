@@ -16,7 +16,8 @@ extern "C" {
 }
 
 /// Loads a listing into `words`, six a record, and answers the number of records, never 0, with zeros in the rest of
-/// `words`. Where it is refused, every word is zero.
+/// `words`. Where it is refused, every word is zero. No draft is at hand, so a listing may be taken that is not your
+/// draft's, or no draft's at all: see [`Record::place`].
 pub fn load_into(listing: &[u8], words: &mut [u32]) -> Result<usize, LoadRefusal> {
     let mut refusal = LoadRefusal { number: 0, line: 0 };
     // SAFETY: the pointers of the slices are never null and good for the length beside them, in bytes and in words;
@@ -39,7 +40,8 @@ pub fn load_into(listing: &[u8], words: &mut [u32]) -> Result<usize, LoadRefusal
     }
 }
 
-/// The records of a listing, a parent before its children, or the refusal, which is never 18.
+/// The records of a listing, a parent before its children, or the refusal, which is never 18. As with [`load_into`],
+/// they may be those of another draft.
 pub fn load(listing: &[u8]) -> Result<Vec<Record>, LoadRefusal> {
     let mut words = vec![0; listing.len() / LINE * RECORD_WORDS];
     let count = load_into(listing, &mut words)?;

@@ -22,7 +22,8 @@ pub struct Record {
 }
 
 impl Record {
-    /// The place, to cut the record's text out of its draft.
+    /// The place, to cut the record's text out of its draft. A loaded listing may be that of another draft, or of none,
+    /// and its places may lie behind the end of yours: then cut with `draft.get(record.place())`, which does not panic.
     pub fn place(&self) -> Range<usize> {
         self.start..self.end
     }

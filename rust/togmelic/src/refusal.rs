@@ -60,7 +60,7 @@ impl fmt::Display for Refusal {
 
 impl std::error::Error for Refusal {}
 
-/// Why a listing is refused, and at which line: two words, as the entry writes them.
+/// Why a listing is refused, and at which line: two numbers, laid out as the entry for C writes them.
 #[derive(Clone, Copy, Debug, PartialEq, Eq, Hash)]
 #[repr(C)]
 pub struct LoadRefusal {
