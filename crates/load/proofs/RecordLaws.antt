@@ -12,7 +12,7 @@ use Rattle.load.specs.listing.LineLaws.{values-long}
 
 pub record-read : (ws bs o : List ℕ) {words : List ℕ} → length ws ≡ fieldCount → length o ≡ fieldCount → words ≡ sets o 0 (valuesOf ws bs)
     → recOf words ≡ recOf (valuesOf ws bs)
-record-read ws bs o six room e =
+record-read ws bs o full room e =
     let vs = valuesOf ws bs in
     let n = values-long ws bs in
     let fits : 0 + length vs ≤ length o = omega arith in

@@ -44,7 +44,7 @@ module _ (ws text : List ℕ) {step : ℕ} (f : LineForm ws step) where
   pub read-is : (i : ℕ) → i < length (recordsIn ws text) → {c : Record} → asRec c ≡ recOf (valuesOf ws (drop (step * i) text)) → asRec c ≡ getD (recordsIn ws text) i blank
   read-is i h e =
       let n = records-long ws text in
-      e ∙ ap (λ (k : ℕ). recOf (valuesOf ws (drop k text))) (ap (λ (k : ℕ). k * i) (f .bytes)) ∙ sym (record-at ws (f .six) text i (omega arith))
+      e ∙ ap (λ (k : ℕ). recOf (valuesOf ws (drop k text))) (ap (λ (k : ℕ). k * i) (f .bytes)) ∙ sym (record-at ws (f .full) text i (omega arith))
 
   -- there are no more records than bytes
   pub in-listing : (j n : ℕ) → j + n ≤ length (recordsIn ws text) → j + n ≤ length text

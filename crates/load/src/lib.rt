@@ -55,7 +55,7 @@ fn answer(digits: &[u8; BYTE_VALUES], widths: &[usize], listing: &[u8], room: us
     Loaded::Records(n)
 }
 
-// Loads a listing: six words a record, zeros behind them; on a refusal every word is 0. No word is written twice.
+// Loads a listing: `RECORD_WORDS` words a record, zeros behind them; on a refusal every word is 0. No word is written twice.
 pub fn load(listing: &[u8], tree: &mut [u32]) -> Loaded
     ensures answer { λ r. ⌜ meant r ≡ loadOf (now (listing .entry)) (length (now (tree .entry))) ⌝ }
     ensures values { λ r. ⌜ returned r ≡ values (loadOf (now (listing .entry)) (length (now (tree .entry)))) ⌝ }

@@ -10,7 +10,7 @@ ghost use Rattle.load.specs.check.Judge.{asRec};
 use crate::digits::BYTE_VALUES;
 use crate::line;
 
-// The six words of a record by name.
+// The words of a record by name.
 pub(crate) struct Record {
     pub(crate) kind: u32,
     pub(crate) start: u32,

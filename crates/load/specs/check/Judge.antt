@@ -15,7 +15,7 @@ use Rattle.load.specs.declared.walk.Seen.{Seen}
 use Rattle.load.specs.declared.walk.Walked.{Walked}
 use Rattle.load.specs.declared.walk.Walked.the-variants.{Bad, Done}
 
--- A record of the code as the six numbers that it is.
+-- A record of the code as the numbers that it is.
 abbrev pub asRec : Record → Rec
 asRec r = record { kind = r .kind; start = r .start; stop = r .end; low = r .low; high = r .high; size = r .size }
 

@@ -6,14 +6,16 @@ use mathlib.Core.Path.{_≡_, refl, sym, ap, ap₂, _∙_, subst}
 use Prim.Native.Nat.{ℕ, zero, suc, _+_, _*_, _/_, _%_, _<_, _≤_}
 use native.Mathlib.Omega.{arith}
 use borrow.Author.Tests.{eqb-true}
-use lib.Dec.{T, eqb, ltb, eqb→eq, ltb→lt, lt→ltb}
+use lib.Dec.{T, eqb, ltb, leb, eqb→eq, ltb→lt, lt→ltb}
 use lib.ListN.{length, getD, take, List·getD-append}
 use lib.Seq.{take-suc, getD-at}
 use Rattle.text.specs.Ascii.{ascii, asciiFrom}
+use Rattle.text.specs.Exactly.{no-more}
+use Rattle.text.specs.Lists.{all}
 use Rattle.text.specs.Table.{first-of, second-of, pair, every, at, table-at}
-use Rattle.own.specs.Lists.{All, nil, _&_}
+use Rattle.own.specs.Lists.{All, all-exactly}
 use Rattle.lines.specs.Hex.{upperHex, hex, hex-length, power}
-use Rattle.lines.specs.Lines.{kindDigits, placeDigits, halfDigits, widths}
+use Rattle.lines.specs.Lines.{halfDigits, widths}
 use Rattle.load.specs.listing.Read.{placeIn, digitOf, areDigits, numberOf}
 
 -- A table that gives each byte its value as a digit: its length and its entries are computed.
@@ -28,11 +30,8 @@ abbrev pub Short : List ℕ → Type 0
 Short ws = All (λ n. n ≤ halfDigits) ws
 
 pub widths-short : Short widths
-widths-short =
-    let k : kindDigits ≤ halfDigits = omega arith in
-    let p : placeDigits ≤ halfDigits = omega arith in
-    let h : halfDigits ≤ halfDigits = omega arith in
-    k & (p & (p & (h & (h & (p & nil)))))
+unfolding all
+widths-short = all-exactly (λ n. leb n halfDigits) (λ n. no-more n halfDigits) widths .0 tt
 
 -- A byte is found where it stands, if each of the list is: that is computed, and says that none stands there twice.
 place-back : (l : List ℕ) → T (every (λ v b. eqb (placeIn l b) v) 0 l) → (v : ℕ) → v < length l → placeIn l (getD l v 0) ≡ v

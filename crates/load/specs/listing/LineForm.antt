@@ -13,7 +13,7 @@ use Rattle.load.specs.listing.DigitLaws.{Short, widths-short}
 
 pub record LineForm (ws : List ℕ) (step : ℕ) : Type 0 where
   pub short : Short ws
-  pub six : length ws ≡ fieldCount
+  pub full : length ws ≡ fieldCount
   pub bytes : step ≡ wide ws
   pub some : 0 < step
 
@@ -24,4 +24,4 @@ pub record Listed (ws : List ℕ) (step : ℕ) (text : List ℕ) (n : ℕ) : Typ
 
 -- That of the listing.
 pub its-form : LineForm widths lineBytes
-its-form = record { short = widths-short; six = refl; bytes = refl; some = omega arith }
+its-form = record { short = widths-short; full = refl; bytes = refl; some = omega arith }

@@ -63,7 +63,7 @@ some-wide : (ws : List ℕ) → 0 < length ws → 0 < wide ws
 some-wide [] h = h
 some-wide (n ∷ ns) h = omega arith
 
-module _ (ws : List ℕ) (six : length ws ≡ fieldCount) where
+module _ (ws : List ℕ) (full : length ws ≡ fieldCount) where
   line-some : 0 < wide ws
   line-some = some-wide ws (omega arith)
 
@@ -107,13 +107,13 @@ module _ (ws : List ℕ) (six : length ws ≡ fieldCount) where
       go (yes l) true e r = next (r (omega (arith, length-drop (wide ws) bs, line-some)))
         where
           b : Begins ws bs
-          b = begins-exactly ws six bs .0 (rw e tt)
+          b = begins-exactly ws full bs .0 (rw e tt)
 
           next : Good ws (drop (wide ws) bs) ⊎ ((i : ℕ) × Bad ws (drop (wide ws) bs) i) → Good ws bs ⊎ ((i : ℕ) × Bad ws bs i)
           next (inl g) = inl (good-then bs b g)
           next (inr g) = inr (suc (g .0), bad-then bs (g .0) b (g .1))
       go (yes l) false e r =
-          inr (0, record { its = []; rest = bs; fitting = nil; many = refl; they-are = refl; some = l; other = λ x. subst T e (begins-exactly ws six bs .1 x) })
+          inr (0, record { its = []; rest = bs; fitting = nil; many = refl; they-are = refl; some = l; other = λ x. subst T e (begins-exactly ws full bs .1 x) })
 
   -- Lines of the form are passed, one after the other.
   past-lines : (rs : List Rec) (f i : ℕ) (rest : List ℕ) → badFrom ws (length rs + f) i (linesOf ws rs ++ rest) ≡ badFrom ws f (length rs + i) rest
@@ -157,7 +157,7 @@ module _ (ws : List ℕ) (six : length ws ≡ fieldCount) where
       let h = g .some in
       let l = b .1 in
       let e : b .0 ≡ suc (b .0 - 1) = omega arith in
-      let n = is-false (inForm ws (g .rest)) (λ t. g .other (begins-exactly ws six (g .rest) .0 t)) in
+      let n = is-false (inForm ws (g .rest)) (λ t. g .other (begins-exactly ws full (g .rest) .0 t)) in
       ap (badLine ws) (g .they-are) ∙ b .2 ∙ ap (λ (f : ℕ). badFrom ws f (length (g .its)) (g .rest)) e
       ∙ bad-here ws (b .0 - 1) (length (g .its)) (g .rest) h n
       ∙ ap suc (g .many)
@@ -167,7 +167,7 @@ module _ (ws : List ℕ) (six : length ws ≡ fieldCount) where
   read-back [] f = refl
   read-back (r ∷ rs) f =
       let l = lineOf ws (fields r) in
-      recs-first ws six (length rs) (l ++ linesOf ws rs)
+      recs-first ws full (length rs) (l ++ linesOf ws rs)
       ∙ (λ i. recOf (line-back ws (fields r) (linesOf ws rs) (all-head f) i)
       ∷ recs (length rs) (valuesIn ws (length rs) (drop-at l (linesOf ws rs) (wide ws) (line-wide ws (fields r)) i)))
       ∙ ap (λ (x : List Rec). r ∷ x) (read-back rs (all-tail f))

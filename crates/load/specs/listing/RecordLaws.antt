@@ -40,11 +40,11 @@ pub records-long : (ws text : List ℕ) → length (recordsIn ws text) ≡ lengt
 unfolding recordsIn
 records-long ws text = recs-length (length text / wide ws) (valuesIn ws (length text / wide ws) text)
 
-module _ (ws : List ℕ) (six : length ws ≡ fieldCount) where
+module _ (ws : List ℕ) (full : length ws ≡ fieldCount) where
   -- The records of the first line and of those behind it.
   pub recs-first : (n : ℕ) (bs : List ℕ) → recs (suc n) (valuesIn ws (suc n) bs) ≡ recOf (valuesOf ws bs) ∷ recs n (valuesIn ws n (drop (wide ws) bs))
   unfolding valuesIn
-  recs-first n bs = recs-next n (valuesOf ws bs) (valuesIn ws n (drop (wide ws) bs)) (values-long ws bs ∙ six)
+  recs-first n bs = recs-next n (valuesOf ws bs) (valuesIn ws n (drop (wide ws) bs)) (values-long ws bs ∙ full)
 
   rec-at : (n j : ℕ) (bs : List ℕ) → j < n → getD (recs n (valuesIn ws n bs)) j blank ≡ recOf (valuesOf ws (drop (wide ws * j) bs))
   rec-at zero j bs h = absurd (omega arith)
@@ -65,7 +65,7 @@ module _ (ws : List ℕ) (six : length ws ≡ fieldCount) where
   recs-back zero bs = refl
   recs-back (suc n) bs =
       ap recWords (recs-first n bs)
-      ∙ ap₂ (λ (a b : List ℕ). a ++ b) (fields-of (valuesOf ws bs) (values-long ws bs ∙ six)) (recs-back n (drop (wide ws) bs))
+      ∙ ap₂ (λ (a b : List ℕ). a ++ b) (fields-of (valuesOf ws bs) (values-long ws bs ∙ full)) (recs-back n (drop (wide ws) bs))
 
   -- and their words are the numbers of the lines.
   pub words-back : (text : List ℕ) → recWords (recordsIn ws text) ≡ valuesIn ws (length text / wide ws) text
@@ -79,7 +79,7 @@ module _ (ws : List ℕ) (six : length ws ≡ fieldCount) where
       to : T (inForm ws bs) → Begins ws bs
       to t =
           let vs = valuesOf ws bs in
-          let e = fields-of vs (values-long ws bs ∙ six) in
+          let e = fields-of vs (values-long ws bs ∙ full) in
           record {
             its = recOf vs;
             rest = drop (wide ws) bs;

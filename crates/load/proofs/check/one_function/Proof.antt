@@ -31,7 +31,7 @@ returns : tie.Need-returns Inv-loop μ-loop
 returns c = one-none _ ((c .before .before .before .pre .1) .many) (c .if1 .taken)
 
 record-at-requires : tie.Need-record-at-requires Inv-loop μ-loop
-record-at-requires c κs = ((c .before .before .before .pre .0), ((c .before .before .before .pre .1) .form .short, ((c .before .before .before .pre .1) .form .six, first-line (c .before .before .before .pre .1) (c .if1 .left))))
+record-at-requires c κs = ((c .before .before .before .pre .0), ((c .before .before .before .pre .1) .form .short, ((c .before .before .before .pre .1) .form .full, first-line (c .before .before .before .pre .1) (c .if1 .left))))
 
 is-top-requires : tie.Need-is-top-requires Inv-loop μ-loop
 is-top-requires c κs = tt

@@ -17,7 +17,7 @@ mul-record-at : tie.Need-mul-record-at
 mul-record-at c = omega (arith, its-line (c .before .before .pre .1 .0) _ (c .before .before .pre .1 .1 .1 .1))
 
 record-at-requires : tie.Need-record-at-requires
-record-at-requires c κs = ((c .before .before .pre .0), ((c .before .before .pre .1 .0) .form .short, ((c .before .before .pre .1 .0) .form .six, its-line (c .before .before .pre .1 .0) _ (c .before .before .pre .1 .1 .1 .1))))
+record-at-requires c κs = ((c .before .before .pre .0), ((c .before .before .pre .1 .0) .form .short, ((c .before .before .pre .1 .0) .form .full, its-line (c .before .before .pre .1 .0) _ (c .before .before .pre .1 .1 .1 .1))))
 
 returns : tie.Need-returns
 returns c = stands-none _ _ _ (its-record (c .before .before .before .before .before .pre .1 .0) _ (c .before .before .before .before .before .pre .1 .1 .1 .1) (c .before .before .record-at .ensures)) (c .if1 .taken)

@@ -41,7 +41,7 @@ mul-record-at : tie.Need-mul-record-at Inv-loop μ-loop
 mul-record-at c = omega (arith, line-at _ _ (c .before .before .before .before .before .before .pre .1 .0) (c .before .before .loop .inv) (c .if1 .taken))
 
 record-at-requires : tie.Need-record-at-requires Inv-loop μ-loop
-record-at-requires c κs = ((c .before .before .before .before .before .before .pre .0), ((c .before .before .before .before .before .before .pre .1 .0) .short, ((c .before .before .before .before .before .before .pre .1 .0) .six, line-at _ _ (c .before .before .before .before .before .before .pre .1 .0) (c .before .before .loop .inv) (c .if1 .taken))))
+record-at-requires c κs = ((c .before .before .before .before .before .before .pre .0), ((c .before .before .before .before .before .before .pre .1 .0) .short, ((c .before .before .before .before .before .before .pre .1 .0) .full, line-at _ _ (c .before .before .before .before .before .before .pre .1 .0) (c .before .before .loop .inv) (c .if1 .taken))))
 
 sits-requires : tie.Need-sits-requires Inv-loop μ-loop
 sits-requires c κs = tt
