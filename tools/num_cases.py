@@ -1,6 +1,6 @@
 #!/usr/bin/env python3
 # Writes crates/num_cases/stdout, what the program num_cases is to write: by the rules of document 01
-# ("Lexemes", refusals 9 and 10) with Python's own arithmetic, never from a run of the program.
+# ("Lexemes", refusals 9 and 10) and of document 02 (order 2, refusal 19) with Python's own arithmetic, never from a run of the program.
 # To use it: python3 tools/num_cases.py > crates/num_cases/stdout
 LARGEST = 18_446_744_073_709_551_615
 
@@ -62,3 +62,5 @@ for run in ["0", "1", "2", "3", "4", "5", "6", "1_024_", "1_025"] + [str(n) for 
     good("bound", run, lambda n: n in [2**k for k in range(1, 64)])
 for run in ["0", "0_0", "1", "2", str(LARGEST), str(LARGEST + 1)]:
     good("size", run, lambda n: n != 0)
+for run in ["0", "0_0", "1", str(LARGEST), "0018_446_744_073_709_551_615_", str(LARGEST + 1), "0018_446_744_073_709_551_616_", str(LARGEST + 5), str(10**20)]:
+    good("length", run, lambda n: True)

@@ -12,4 +12,5 @@ pub mod BlockLaws
 pub mod ShapeTests
 pub mod MatchLaws
 pub mod ShapeLaws
+pub mod NumberLaws
 pub mod RecordLaws

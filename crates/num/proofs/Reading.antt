@@ -9,33 +9,33 @@ use borrow.Author.Tests.{le-leb, lt-leb, leb-true, leb-false}
 use lib.Dec.{leb}
 use lib.ListN.{length, getD, drop}
 use Rattle.num.specs.Digits.{plain}
-use Rattle.num.specs.Value.{decimalFrom, fitted, numberOf}
+use Rattle.num.specs.Value.{decimalFrom, decimalOf, largest, fitted, numberOf}
 use Rattle.num.specs.declared.Value.the-variants.{Number, TooLarge}
 use Rattle.num.proofs.Runs.{passed, kept, over}
 
 -- the test of `fitted`, both ways
-pub fits : (n : ℕ) → n ≤ 18446744073709551615 → Number n ≡ fitted n
+pub fits : (n : ℕ) → n ≤ largest → Number n ≡ fitted n
 unfolding fitted
 fits n h = rw (le-leb _ _ h) refl
 
-pub too-large : (n : ℕ) → 18446744073709551615 < n → TooLarge ≡ fitted n
+pub too-large : (n : ℕ) → largest < n → TooLarge ≡ fitted n
 unfolding fitted
 too-large n h = rw (lt-leb _ _ h) refl
 
 module _ (n : ℕ) where
-  pub fitted-number : (m : ℕ) → fitted n ≡ Number m → (m ≡ n) × (n ≤ 18446744073709551615)
+  pub fitted-number : (m : ℕ) → fitted n ≡ Number m → (m ≡ n) × (n ≤ largest)
   unfolding fitted
-  fitted-number m e = go (leb n 18446744073709551615) refl e
+  fitted-number m e = go (leb n largest) refl e
     where
-      go : (b : Bool) → leb n 18446744073709551615 ≡ b → cond b (Number n) TooLarge ≡ Number m → (m ≡ n) × (n ≤ 18446744073709551615)
+      go : (b : Bool) → leb n largest ≡ b → cond b (Number n) TooLarge ≡ Number m → (m ≡ n) × (n ≤ largest)
       go true q e = (cc, leb-true _ _ q)
       go false q e = let z : _≡_ {A = ℕ} 0 1 = cc in absurd (omega arith)
 
-  pub fitted-too-large : fitted n ≡ TooLarge → 18446744073709551615 < n
+  pub fitted-too-large : fitted n ≡ TooLarge → largest < n
   unfolding fitted
-  fitted-too-large e = go (leb n 18446744073709551615) refl e
+  fitted-too-large e = go (leb n largest) refl e
     where
-      go : (b : Bool) → leb n 18446744073709551615 ≡ b → cond b (Number n) TooLarge ≡ TooLarge → 18446744073709551615 < n
+      go : (b : Bool) → leb n largest ≡ b → cond b (Number n) TooLarge ≡ TooLarge → largest < n
       go true q e = let z : _≡_ {A = ℕ} 0 1 = cc in absurd (omega arith)
       go false q e = leb-false _ _ q
 
@@ -48,7 +48,7 @@ grows v (b ∷ r) = omega (arith, grows (v * 10 + (b - 48)) r)
 -- The loop has read the run up to i as v.
 pub record Reading (run : List ℕ) (v i : ℕ) : Type 0 where
   pub within : i ≤ length run
-  pub held : v ≤ 18446744073709551615
+  pub held : v ≤ largest
   pub whole : decimalFrom v (plain (drop i run)) ≡ decimalFrom 0 (plain run)
 
 module _ (run : List ℕ) where
@@ -57,7 +57,7 @@ module _ (run : List ℕ) where
 
   module _ (v i : ℕ) (a : Reading run v i) where
     pub ends : length run ≤ i → Number v ≡ numberOf run
-    unfolding numberOf decimalFrom
+    unfolding numberOf decimalOf decimalFrom
     ends h =
         let e : v ≡ decimalFrom 0 (plain run) = rw (over run i h) at (a .whole) in
         fits v (a .held) ∙ ap fitted e
@@ -77,7 +77,7 @@ module _ (run : List ℕ) where
             record { within = omega arith; held = omega arith; whole = ap (λ x. decimalFrom x (plain (drop (i + 1) run))) (g .0) ∙ step }
 
         pub stops : fitted (v * 10 + d) ≡ TooLarge → TooLarge ≡ numberOf run
-        unfolding numberOf
+        unfolding numberOf decimalOf
         stops f =
-            let g : 18446744073709551615 < v * 10 + d = fitted-too-large (v * 10 + d) f in
+            let g : largest < v * 10 + d = fitted-too-large (v * 10 + d) f in
             too-large (decimalFrom 0 (plain run)) (omega (arith, grows (v * 10 + d) (plain (drop (i + 1) run)), step))

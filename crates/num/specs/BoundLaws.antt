@@ -1,4 +1,4 @@
--- What the tests of bounds and sizes say.
+-- What the tests of bounds, sizes and lengths say.
 -- Assumes nothing.
 use mathlib.Core.Bool.{true}
 use mathlib.Core.Path.{_≡_, refl, ap}
@@ -12,7 +12,7 @@ use Rattle.text.specs.Table.{is-true}
 use Rattle.text.specs.ListLaws.{some-count, count-some}
 use Rattle.num.specs.declared.Value.{Value}
 use Rattle.num.specs.declared.Value.the-variants.{Number, TooLarge}
-use Rattle.num.specs.Bound.{isBound, boundOk, sizeOk, Bound, Size}
+use Rattle.num.specs.Bound.{isBound, boundOk, sizeOk, lengthOk, Bound, Size, Length}
 
 -- such a power, where the test passes
 pub power-of : (n : ℕ) → isBound n ≡ true → (k : ℕ) × (1 ≤ k) × (k ≤ 63) × (n ≡ 2 ^ k)
@@ -39,3 +39,9 @@ unfolding sizeOk
 size-iff (Number zero) = (λ e. differ e, λ p. let q = p .2 in let z : p .0 ≡ 0 = cc in absurd (omega arith))
 size-iff (Number (suc n)) = (λ e. (suc n, omega arith, refl), λ p. rw (ne-eqb (suc n) 0 (λ q. absurd (omega arith))) refl)
 size-iff TooLarge = (λ e. differ e, λ p. let q = p .2 in let z : _≡_ {A = ℕ} 0 1 = cc in absurd (omega arith))
+
+-- A length is good exactly when it is some number.
+pub length-iff : (v : Value) → (lengthOk v ≡ true → Length v) × (Length v → lengthOk v ≡ true)
+unfolding lengthOk
+length-iff (Number n) = (λ e. (n, refl), λ p. refl)
+length-iff TooLarge = (λ e. differ e, λ p. let q = p .1 in let z : _≡_ {A = ℕ} 0 1 = cc in absurd (omega arith))

@@ -1,4 +1,4 @@
--- Runs with `_`, leading zeros and at the largest 64-bit number; digit texts; bounds and sizes.
+-- Runs with `_`, leading zeros and at the largest 64-bit number; digit texts; bounds, sizes and lengths.
 -- Assumes nothing.
 use mathlib.Core.Bool.{true, false}
 use mathlib.Core.Path.{_≡_, refl}
@@ -7,14 +7,14 @@ use Rattle.text.specs.Same.{same}
 use Rattle.text.specs.Lists.{some, count, span}
 use Rattle.num.specs.declared.Value.the-variants.{Number, TooLarge}
 use Rattle.num.specs.Digits.{plain, based, afterBase, digitsOf}
-use Rattle.num.specs.Value.{decimalFrom, fitted, numberOf}
-use Rattle.num.specs.Bound.{isBound, boundOk, sizeOk}
+use Rattle.num.specs.Value.{decimalFrom, decimalOf, fitted, numberOf}
+use Rattle.num.specs.Bound.{isBound, boundOk, sizeOk, lengthOk}
 
 pub numbers :
     (numberOf (ascii "001_000_") ≡ Number 1000)
     × (numberOf (ascii "18446744073709551615") ≡ Number 18446744073709551615)
     × (numberOf (ascii "18446744073709551616") ≡ TooLarge)
-unfolding numberOf fitted decimalFrom plain ascii asciiFrom
+unfolding numberOf fitted decimalOf decimalFrom plain ascii asciiFrom
 numbers = (refl, refl, refl)
 
 pub texts :
@@ -36,3 +36,7 @@ bounds = (refl, refl, refl, refl, refl)
 pub sizes : (sizeOk (Number 0) ≡ false) × (sizeOk (Number 1) ≡ true) × (sizeOk TooLarge ≡ false)
 unfolding sizeOk
 sizes = (refl, refl, refl)
+
+pub lengths : (lengthOk (Number 0) ≡ true) × (lengthOk (Number 18446744073709551615) ≡ true) × (lengthOk TooLarge ≡ false)
+unfolding lengthOk
+lengths = (refl, refl, refl)

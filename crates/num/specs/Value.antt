@@ -13,10 +13,18 @@ unfoldable pub decimalFrom : ℕ → List ℕ → ℕ
 decimalFrom v [] = v
 decimalFrom v (b ∷ r) = decimalFrom (v * 10 + (b - 48)) r
 
+-- The number of a decimal run, of any size: of its digits with `_` dropped. A run of no digits makes 0.
+unfoldable pub decimalOf : List ℕ → ℕ
+decimalOf p = decimalFrom 0 (plain p)
+
+-- The largest 64-bit number.
+abbrev pub largest : ℕ
+largest = 18446744073709551615
+
 -- The number, or too large: over the largest 64-bit number.
 unfoldable pub fitted : ℕ → Value
-fitted n = cond (leb n 18446744073709551615) (Number n) TooLarge
+fitted n = cond (leb n largest) (Number n) TooLarge
 
--- The number of a decimal run: of its digits with `_` dropped. A run of no digits makes 0.
+-- The number of a decimal run, or that it is too large.
 unfoldable pub numberOf : List ℕ → Value
-numberOf p = fitted (decimalFrom 0 (plain p))
+numberOf p = fitted (decimalOf p)

@@ -1,11 +1,11 @@
-// Digit runs: their numbers, their digit texts, and which numbers are good bounds and sizes. Port of src/num.rs.
+// Digit runs: their numbers, their digit texts, and which numbers are good bounds, sizes and lengths. Port of src/num.rs.
 ghost use mathlib.Core.Path.{_≡_};
 ghost use Prim.Native.Nat.{_+_, _-_, _*_};
 ghost use lib.ListN.{length};
 ghost use Rattle.text.specs.Part.{partOf};
 ghost use Rattle.num.specs.Digits.{plain, afterBase, digitsOf, answerOf, bufferOf};
 ghost use Rattle.num.specs.Value.{fitted, numberOf};
-ghost use Rattle.num.specs.Bound.{boundOk, sizeOk};
+ghost use Rattle.num.specs.Bound.{boundOk, sizeOk, lengthOk};
 
 // The number of a decimal run, or that it is over the largest u64.
 pub enum Value {
@@ -137,4 +137,14 @@ pub fn is_size(v: Value) -> bool
         Value::Number(n) => n != 0,
         Value::TooLarge => false,
     }
+}
+
+// A good length is a number, of whatever size that is not too large.
+pub fn is_length(v: Value) -> bool
+    ensures { λ r. ⌜ r ≡ lengthOk v ⌝ }
+{
+    let Value::TooLarge = v else {
+        return true;
+    };
+    false
 }

@@ -90,7 +90,7 @@ fn digits_by_room(draft: &[u8], start: usize, end: usize) {
     }
 }
 
-// One run of a list, from start to end: its number, its digit text, or whether it is a good bound or size.
+// One run of a list, from start to end: its number, its digit text, or whether it is a good bound, size or length.
 fn run(job: u8, list: &[u8], start: usize, end: usize) {
     if job == b'd' {
         digits_by_room(list, start, end);
@@ -106,6 +106,10 @@ fn run(job: u8, list: &[u8], start: usize, end: usize) {
         say(b"size ");
         say(word);
         say_good(num::is_size(v));
+    } else if job == b'l' {
+        say(b"length ");
+        say(word);
+        say_good(num::is_length(v));
     } else {
         say(b"number ");
         say(word);
@@ -222,4 +226,12 @@ fn main() {
         b"9223372036854775809 18446744073709551615 18446744073709551616 36893488147419103232",
     );
     runs(b's', b"0 0_0 1 2 18446744073709551615 18446744073709551616");
+    runs(
+        b'l',
+        b"0 0_0 1 18446744073709551615 0018_446_744_073_709_551_615_ 18446744073709551616",
+    );
+    runs(
+        b'l',
+        b"0018_446_744_073_709_551_616_ 18446744073709551620 100000000000000000000",
+    );
 }

@@ -1,2 +1,3 @@
 -- The whole draft.
+pub mod Holds
 pub mod Laws

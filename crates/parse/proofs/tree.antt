@@ -1,2 +1,3 @@
 -- Words of records.
 pub mod Splice
+pub mod Numbers

@@ -6,18 +6,19 @@ use mathlib.Core.List.{List, [], _∷_, _++_}
 use mathlib.Core.Option.{Option, none, some}
 use mathlib.Core.Path.{_≡_}
 use Prim.Native.Nat.{ℕ, suc, _+_, _*_, _/_, _%_, _<_, _≤_}
-use lib.Dec.{eqb, ltb}
+use lib.Dec.{T, eqb, ltb}
 use lib.ListN.{length, drop, getD}
 use lib.Seq.{sets}
-use Rattle.num.specs.Value.{numberOf}
+use Rattle.num.specs.Value.{decimalOf}
 use Rattle.num.specs.declared.Value.{Value}
-use Rattle.num.specs.Bound.{boundOk, sizeOk}
+use Rattle.num.specs.declared.Value.the-variants.{Number, TooLarge}
+use Rattle.num.specs.Bound.{boundOk, sizeOk, lengthOk}
 use Rattle.theory.specs.Grammar.{Sym, nt}
 use Rattle.theory.specs.Machine.{choose}
 use Rattle.theory.specs.Ebnf as shape
 use Rattle.theory.specs.Walk.{Reads, Sticks}
 use Rattle.own.specs.Tree as own
-use Rattle.own.specs.Tree.{Tok, Items, concat, classesOf}
+use Rattle.own.specs.Tree.{Tok, Items, Each, concat, classesOf}
 use Rattle.own.specs.Flat.{no-token}
 use Rattle.own.specs.Law.{Sort, word, child, sorts}
 use Rattle.text.specs.Widths.{recWide, tokWide}
@@ -26,14 +27,14 @@ use Rattle.text.specs.Lists.{has}
 use Rattle.own.specs.Words.{recThen, toks, sizes, wordGroups}
 use Rattle.own.specs.Kinds as kind
 use Rattle.kinds.specs.Shape.{halfRange}
-use Rattle.kinds.specs.Fields.{counted}
+use Rattle.kinds.specs.Fields.{counted, halves}
 use Rattle.kinds.specs.Families as family
 use Rattle.kinds.specs.Class.{classOf}
 use Rattle.lexer.specs.Classes as t
 use Rattle.grammar.specs.shapes.Shapes.{shapes}
 use Rattle.grammar.specs.shapes.Tables.{means, table}
 use Rattle.grammar.specs.shapes.TablesIndex.{n-arm, n-head}
-use Rattle.grammar.specs.records.Records.{reads, lowHalf, highHalf, sees, nameCount, arranged, textOf, recordItems}
+use Rattle.grammar.specs.records.Records.{lowHalf, highHalf, sees, nameCount, arranged, textOf, recordItems}
 use Rattle.grammar.specs.records.Faults.{Fault, earlier, earliest, faults}
 use Rattle.parse.specs.declared.State.{State}
 use Rattle.parse.specs.declared.token.Lexeme.{Lexeme}
@@ -75,7 +76,7 @@ Stuck x = Sticks shapes means table (classes x)
 unfoldable pub raw : Text → ℕ → shape.Items → Items
 raw x at r = recordItems (x .draft) r (drop at (x .ts))
 
--- The earliest refusal of 9 to 14 in shapes that begin at a token.
+-- The earliest refusal of a shape in shapes that begin at a token.
 unfoldable pub faultIn : Text → ℕ → shape.Items → Option Fault
 faultIn x at r = earliest (faults (x .draft) r (drop at (x .ts)))
 
@@ -126,10 +127,26 @@ pub data Eaten (x : Text) (st : State) (c : ℕ) : Step → Type 0 where
   ate : {st′ : State} → st .class ≡ c → Moved x st st′ → Eaten x st c (Next st′ 0 0)
   lacked : (st .class ≡ c → ⊥) → Eaten x st c (Refused (st .at))
 
--- The record `here` is written where it fits.
+-- The kinds whose low and high "together [..] hold a 64-bit number",
+abbrev pub numbered : List ℕ
+numbered = kind.ArrayType ∷ kind.ListType ∷ kind.Number ∷ []
+
+-- and that they do: then they are its two halves, of 32 bits each.
+abbrev pub Halved : ℕ → ℕ → ℕ → Type 0
+Halved k low high = T (has numbered k) → T (halves low high)
+
+abbrev pub Holds : own.Node → Type 0
+Holds n = Halved (n .kind) (n .low) (n .high)
+
+-- The record `here` is written where it fits: the buffer has room for it, and it for its number, if its kind holds one.
 pub record Put (l : List ℕ) (here k b e low high z : ℕ) (l′ : List ℕ) : Type 0 where
   pub long : length l′ ≡ length l
-  pub put : recWide * here + recWide ≤ length l → l′ ≡ sets l (recWide * here) (recThen k b e low high z [])
+  pub put : Halved k low high → recWide * here + recWide ≤ length l → l′ ≡ sets l (recWide * here) (recThen k b e low high z [])
+
+-- The same of a record that holds the number v; if that is too large nothing is written.
+pub data PutNumber (l : List ℕ) (here k b e : ℕ) (v : Value) (z : ℕ) (l′ : List ℕ) : Type 0 where
+  written : {n : ℕ} → v ≡ Number n → Put l here k b e (lowHalf n) (highHalf n) z l′ → PutNumber l here k b e v z l′
+  unwritten : v ≡ TooLarge → l′ ≡ l → PutNumber l here k b e v z l′
 
 -- The records from `from` to `mid`, u, and those up to `to`, v, are exchanged where they fit.
 pub record Turned (l : List ℕ) (from mid to : ℕ) (l′ : List ℕ) : Type 0 where
@@ -137,14 +154,14 @@ pub record Turned (l : List ℕ) (from mid to : ℕ) (l′ : List ℕ) : Type 0 
   pub turn : (l₀ u v : List ℕ) → recWide * to ≤ length l → length l₀ ≡ length l → l ≡ sets l₀ (recWide * from) (u ++ v)
       → recWide * from + length u ≡ recWide * mid → recWide * mid + length v ≡ recWide * to → l′ ≡ sets l₀ (recWide * from) (v ++ u)
 
--- From st and the buffer l to st′ and l′: as many tokens were passed as r has; the records of L stand behind those before, where they
--- fit; m tokens belong to no record yet; and the earliest refusal is kept.
+-- From st and the buffer l to st′ and l′: as many tokens were passed as r has; the records of L stand behind those before, where there is
+-- room for them, and in them for their numbers; m tokens belong to no record yet; and the earliest refusal is kept.
 pub record Laid (x : Text) (st : State) (l : List ℕ) (r : shape.Items) (L : Items) (m : ℕ) (st′ : State) (l′ : List ℕ) : Type 0 where
   pub ends : st′ .at ≡ st .at + length (shape.yield r)
   pub sized : st′ .out ≡ st .out + sizes L
   pub few : st′ .out + st .at + m ≤ st .out + st′ .at
   pub long : length l′ ≡ length l
-  pub laid : recWide * st′ .out ≤ length l → l′ ≡ sets l (recWide * st .out) (concat (wordGroups L))
+  pub laid : Each Holds L → recWide * st′ .out ≤ length l → l′ ≡ sets l (recWide * st .out) (concat (wordGroups L))
   pub worst : kept st′ ≡ sooner (kept st) (faultIn x (st .at) r)
   pub stands : Stands x st′
 
@@ -225,12 +242,15 @@ pub record Judged (outer inner : State) (number place : ℕ) (r : State) : Type 
   pub out-is : r .out ≡ inner .out
   pub kept-is : kept r ≡ sooner (kept outer) (sooner (fault number place) (kept inner))
 
--- The refusal of a bound and of a size, or 0.
+-- The refusal of a bound, of a size and of a length, or 0.
 unfoldable pub boundFault : Value → ℕ
 boundFault v = cond (boundOk v) 0 refusal.Bound
 
 unfoldable pub sizeFault : Value → ℕ
 sizeFault v = cond (sizeOk v) 0 refusal.Size
+
+unfoldable pub lengthFault : Value → ℕ
+lengthFault v = cond (lengthOk v) 0 refusal.Length
 
 -- The sort of a name, one that a function may have or a reserved one, and 0 for any other token.
 unfoldable pub nameSort : ℕ → ℕ
@@ -249,9 +269,9 @@ pub data Called (st a : State) (l l′ : List ℕ) (r : State) : Type 0 where
   named : has callees (st .class) ≡ true → Put l (a .out) kind.Name (st .start) (st .stop) 0 0 1 l′ → r ≡ reserved a → Called st a l l′ r
   marked : has callees (st .class) ≡ false → l′ ≡ l → r ≡ a → Called st a l l′ r
 
--- The number of the decimal at a place.
+-- The number of the decimal at a place, of any size.
 abbrev pub valueAt : Text → ℕ → ℕ
-valueAt x at = reads (numberOf (textOf (x .draft) (tokAt x at)))
+valueAt x at = decimalOf (textOf (x .draft) (tokAt x at))
 
 -- A decimal that is a record of its own.
 abbrev pub Decimal : Text → ℕ → Info

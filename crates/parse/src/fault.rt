@@ -1,6 +1,6 @@
 // The refusals of shapes: the earliest is kept.
 ghost use mathlib.Core.Path.{_≡_};
-ghost use Rattle.parse.specs.Contract.{cleaned, fault, sooner, Judged, boundFault, sizeFault};
+ghost use Rattle.parse.specs.Contract.{cleaned, fault, sooner, Judged, boundFault, sizeFault, lengthFault};
 use crate::State;
 use text::refusal;
 
@@ -64,4 +64,15 @@ pub(crate) fn size(v: num::Value) -> u32
     ensures { λ r. ⌜ r ≡ sizeFault v ⌝ }
 {
     if num::is_size(v) { 0 } else { refusal::SIZE }
+}
+
+// The refusal of a length, or 0.
+pub(crate) fn length(v: num::Value) -> u32
+    ensures { λ r. ⌜ r ≡ lengthFault v ⌝ }
+{
+    if num::is_length(v) {
+        0
+    } else {
+        refusal::LENGTH
+    }
 }

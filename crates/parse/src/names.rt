@@ -8,7 +8,7 @@ ghost use Rattle.num.specs.Value.{numberOf};
 ghost use Rattle.theory.specs.Grammar.{tok, nt};
 ghost use Rattle.lexer.specs.Classes as t;
 ghost use Rattle.grammar.specs.shapes.TablesIndex.{n-identifier, n-functionName, n-path-many-DoubleColon};
-ghost use Rattle.grammar.specs.records.Records.{head, plain, typeName, patternName, literalHead, callHead, wrapperHead, aloneHead, placeIn, reads, lowHalf, highHalf};
+ghost use Rattle.grammar.specs.records.Records.{head, plain, typeName, patternName, literalHead, callHead, wrapperHead, aloneHead, placeIn};
 ghost use Rattle.parse.specs.Contract.{text, Ready, Near, Parsed, Parses, asItems, NameAt, Decimal, Names, Called, boundFault, sizeFault};
 use crate::State;
 use crate::Step;
@@ -27,9 +27,6 @@ const BOOL: usize = 0;
 const UNSIGNED: usize = 1;
 
 const BUILTIN: usize = 10;
-
-// How many numbers one of the two halves of a number may be.
-const HALF_RANGE: u64 = 4294967296;
 
 // An identifier, as a record.
 pub(crate) fn identifier(
@@ -248,25 +245,6 @@ pub(crate) fn number(draft: &[u8], st: State) -> num::Value
     num::number(draft, st.start as usize, st.stop as usize)
 }
 
-// The two halves of a number; 0 where it is too large.
-pub(crate) fn low(v: num::Value) -> u32
-    ensures { λ r. ⌜ r ≡ lowHalf (reads v) ⌝ }
-{
-    match v {
-        num::Value::Number(n) => (n % HALF_RANGE) as u32,
-        num::Value::TooLarge => 0,
-    }
-}
-
-pub(crate) fn high(v: num::Value) -> u32
-    ensures { λ r. ⌜ r ≡ highHalf (reads v) ⌝ }
-{
-    match v {
-        num::Value::Number(n) => (n / HALF_RANGE) as u32,
-        num::Value::TooLarge => 0,
-    }
-}
-
 // A decimal, as a record that holds its number.
 pub(crate) fn decimal(
     draft: &[u8],
@@ -282,8 +260,7 @@ pub(crate) fn decimal(
         return Step::Refused(st.at);
     }
     let a = token::advance(draft, tokens, count, st);
-    let v = number(draft, st);
-    let b = tree::child(tree, st, a, kind::NUMBER, low(v), high(v));
+    let b = tree::child_number(tree, st, a, number(draft, st));
     Step::Next(b, 0, 0)
 }
 

@@ -128,7 +128,7 @@ fn list(draft: &[u8], tokens: &[u32], count: usize, tree: &mut [u32], st: State)
         return angle;
     };
     let v = names::number(draft, d);
-    tree::close(tree, st, f, kind::LIST_TYPE, names::low(v), names::high(v));
+    tree::close_number(tree, st, f, kind::LIST_TYPE, v);
     let g = fault::judged(st, f, fault::bound(v), d.start);
     Step::Next(g, 0, 0)
 }
@@ -152,13 +152,13 @@ fn tuple(draft: &[u8], tokens: &[u32], count: usize, tree: &mut [u32], st: State
     Step::Next(c, 0, 0)
 }
 
-// `[A; n]`
+// `[A; n]`. What is refused inside is kept apart.
 fn array(draft: &[u8], tokens: &[u32], count: usize, tree: &mut [u32], st: State) -> Step
     requires { ⌜ Ready (text (now draft) (now tokens) count) st ⌝ }
     requires { ⌜ choose table n-type (st .class) ≡ choice.ArrayType ⌝ }
     ensures { λ r. ⌜ Parses n-type (Node TypeKind) (now (draft .entry)) (now (tokens .entry)) count st (now (tree .entry)) (now (tree .exit)) r ⌝ }
 {
-    let a = token::advance(draft, tokens, count, tree::reserve(st));
+    let a = token::advance(draft, tokens, count, tree::reserve(fault::clean(st)));
     let inner = ty(draft, tokens, count, tree, a);
     let Step::Next(b, _, _) = inner else {
         return inner;
@@ -176,8 +176,9 @@ fn array(draft: &[u8], tokens: &[u32], count: usize, tree: &mut [u32], st: State
         return bracket;
     };
     let v = names::number(draft, c);
-    tree::close(tree, st, e, kind::ARRAY_TYPE, names::low(v), names::high(v));
-    Step::Next(e, 0, 0)
+    tree::close_number(tree, st, e, kind::ARRAY_TYPE, v);
+    let f = fault::judged(st, e, fault::length(v), c.start);
+    Step::Next(f, 0, 0)
 }
 
 // Types with commas between them, up to what closes them.

@@ -1,5 +1,5 @@
 -- The numbers of refusals by name (document 01, "What the reader hands over"), in the order of its rows, and the two families of which "the
--- earliest place" wins; those of later entries by their requests (document 02).
+-- earliest place" wins; those of the later requests (document 02) after them.
 -- Assumes nothing.
 use mathlib.Core.Bool.{Bool, true, _&&_, not}
 use mathlib.Core.List.{List, [], _∷_, _++_}
@@ -54,7 +54,7 @@ NoPartners = 14
 abbrev pub NoRoom : ℕ
 NoRoom = 15
 
--- Of a listing that is loaded (request 1): 16 of its lines, 17 of its records, 18 of the record buffer. Each row stands above its case in Promised.antt
+-- Of a listing that is loaded (order 1): 16 of its lines, 17 of its records, 18 of the record buffer. Each row stands above its case in Promised.antt
 -- of `load`.
 abbrev pub BadLine : ℕ
 BadLine = 16
@@ -65,16 +65,20 @@ NoFunction = 17
 abbrev pub NoLoadRoom : ℕ
 NoLoadRoom = 18
 
+-- Of a shape again (order 2), in Faults.antt of `grammar` too.
+abbrev pub Length : ℕ
+Length = 19
+
 -- "of 2 to 5 the earliest place wins": those of the bytes, which the lexer finds,
 abbrev pub ofBytes : List ℕ
 ofBytes = NotAscii ∷ NoLexeme ∷ Unclosed ∷ Simc ∷ []
 
--- "of 9 to 14 the earliest place": those of the shapes, which a well-shaped draft may have.
+-- "of 9 to 14 the earliest place", and 19 "among 9 to 14 by earliest place": those of the shapes, which a well-shaped draft may have.
 abbrev pub ofShapes : List ℕ
-ofShapes = Bound ∷ Size ∷ NoArms ∷ MixedArms ∷ ArmCount ∷ NoPartners ∷ []
+ofShapes = Bound ∷ Size ∷ NoArms ∷ MixedArms ∷ ArmCount ∷ NoPartners ∷ Length ∷ []
 
--- Every number, in the order of the tests: "Refusal 1 is tested first; of 2 to 5 the earliest place wins; then 6, 7 and 8 in turn [..]; of 9 to 14
--- the earliest place; last 15."
+-- Every number of a reading, in the order of the tests: "Refusal 1 is tested first; of 2 to 5 the earliest place wins; then 6, 7 and 8 in turn [..];
+-- of 9 to 14 the earliest place; last 15."
 abbrev pub inOrder : List ℕ
 inOrder = TooLong ∷ (ofBytes ++ (TooMany ∷ TooDeep ∷ Misshapen ∷ (ofShapes ++ (NoRoom ∷ []))))
 

@@ -52,3 +52,6 @@ pub const NO_FUNCTION: u32 = 17;
 
 // record buffer under six words a record
 pub const NO_LOAD_ROOM: u32 = 18;
+
+// of a shape again, among 9 to 14 by earliest place: an array type's length is over the largest 64-bit number
+pub const LENGTH: u32 = 19;

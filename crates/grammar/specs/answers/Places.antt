@@ -20,7 +20,7 @@ use Rattle.lexer.specs.Tokens.{Between, tokens-between, lexeme-refused}
 use Rattle.own.specs.Tree.{Tok, Items, marks}
 use Rattle.own.specs.Lists.{All, nil, _&_, all-append}
 use Rattle.lexer.specs.Classes as t
-use Rattle.grammar.specs.shapes.Row.{Refused, never, byBound, byFold, byArms}
+use Rattle.grammar.specs.shapes.Row.{Refused, never, byBound, byLength, byFold, byArms}
 use Rattle.grammar.specs.records.Records.{opening, firstTok, firstOf, recorded, recordItems}
 use Rattle.grammar.specs.records.Faults.{Fault, unless, faultsBy, refusedOf, faultsAt, faults, faultOf}
 use Rattle.grammar.specs.records.FaultNumbers.{chosen, of-answered}
@@ -90,6 +90,7 @@ unless-start m false n u h = h & nil
 by-start : (r : Refused) (draft : List ℕ) (m : ℕ) (is : Items) → Starts m (marks is) → All (λ f. f .place ≤ m) (faultsBy r draft is)
 by-start never draft m is s = nil
 by-start byBound draft m is s = unless-start m _ refusal.Bound _ (first-of-starts m t.DecLiteral (marks is) s)
+by-start byLength draft m is s = unless-start m _ refusal.Length _ (first-of-starts m _ (marks is) s)
 by-start byFold draft m is s =
     let a = first-of-starts m t.DecLiteral (marks is) s in
     chosen (λ g. g .place ≤ m) (eqb (opening (sorts is)) t.array-fold) (unless-start m _ refusal.Size _ a) (unless-start m _ refusal.Bound _ a)

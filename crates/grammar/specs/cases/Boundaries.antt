@@ -41,14 +41,30 @@ cases =
     ∷ record { entry = oneFunction; limits = limitsOf 99 8; tokenSpace = 99; treeSpace = 0; draft = times 9 (ascii "match "); result = refusedWith 6 48 }
     ∷ inBraces "match x{} 1" (refusedWith 8 17)
     ∷ record { entry = oneFunction; limits = draftLimits; tokenSpace = 99; treeSpace = 0; draft = braced "fold::<g,3>(x)"; result = refusedWith 9 16 }
-    -- of 9 to 14 the earliest place
+    -- of 9 to 14 the earliest place; for 19 see below
     ∷ inBraces "fold::<g,3>(match x{})" (refusedWith 9 16)
     ∷ inBraces "match fold::<g,3>(x){}" (refusedWith 11 7)
     ∷ inBraces "match x{A::B=>1,None=>2,}" (refusedWith 12 7)
     -- a bound of a type
     ∷ inBraces "let x:List<u8,3>=1;" (refusedWith 9 21)
+    -- a length over the largest 64-bit number, by value and not by digits; as a bound or a size such a number keeps 9 and 10
+    ∷ inBraces "let x:[u8;18446744073709551616]=1;" (refusedWith 19 17)
+    ∷ inBraces "let x:[u8;0018_446_744_073_709_551_616_]=1;" (refusedWith 19 17)
+    ∷ inBraces "let x:List<u8,18446744073709551616>=1;" (refusedWith 9 21)
+    ∷ inBraces "fold::<g,18446744073709551616>(x)" (refusedWith 9 16)
+    ∷ inBraces "array_fold::<g,18446744073709551616>(x)" (refusedWith 10 22)
+    -- 19 among 9 to 14 by earliest place, after 8 and before 15
+    ∷ inBraces "let x:[List<u8,3>;18446744073709551616]=1;" (refusedWith 9 22)
+    ∷ inBraces "let x:List<[u8;18446744073709551616],3>=1;" (refusedWith 19 22)
+    ∷ inBraces "let x:[u8;18446744073709551616]=match x{};" (refusedWith 19 17)
+    ∷ inBraces "match <[u8;18446744073709551616]>::into(x){}" (refusedWith 11 7)
+    ∷ inBraces "let x:[u8;18446744073709551616]=1" (refusedWith 8 40)
+    ∷ record { entry = oneFunction; limits = draftLimits; tokenSpace = 99; treeSpace = 0; draft = braced "let x:[u8;18446744073709551616]=1;"; result = refusedWith 19 17 }
     -- accepted
     ∷ inBraces "let x:List<u8,2>=1;" (records 8)
+    ∷ inBraces "let x:[u8;0]=1;" (records 8)
+    ∷ inBraces "let x:[u8;18446744073709551615]=1;" (records 8)
+    ∷ inBraces "let x:[u8;0018_446_744_073_709_551_615_]=1;" (records 8)
     ∷ inBraces "A::B()" (records 6)
     ∷ inBraces "fold::<g,2>(x)" (records 7)
     ∷ inBraces "array_fold::<g,1>(x)" (records 7)

@@ -13,8 +13,8 @@ use Rattle.text.specs.Same.{same}
 use Rattle.text.specs.Lists.{has, count, span}
 use Rattle.words.specs.Words.{FUNCTION_RESERVED, KEYWORDS, MACROS, MODULE_RESERVED, RULE_NAMES, BOOLEANS, RULE_WORDS, BOOL, UINT_TYPES, BUILTIN_ALIASES, find, wordOf}
 use Rattle.num.specs.Digits as digits
-use Rattle.num.specs.Value.{decimalFrom, fitted, numberOf}
-use Rattle.num.specs.Bound.{boundOk, sizeOk, isBound}
+use Rattle.num.specs.Value.{decimalFrom, decimalOf, fitted}
+use Rattle.num.specs.Bound.{boundOk, sizeOk, lengthOk, isBound}
 use Rattle.lexer.specs.Chars.{among, whitespace, lineEnds, plainBytes, binaryDigits, decimalDigits, hexDigits, underscore, nameStarts, nameBytes, run, begins}
 use Rattle.lexer.specs.Lexemes as lexeme
 use Rattle.lexer.specs.Class as class
@@ -32,7 +32,7 @@ use Rattle.grammar.specs.shapes.Shapes.{shapes}
 use Rattle.grammar.specs.shapes.Tables.{table, means}
 use Rattle.grammar.specs.Entry.{Entry, oneFunction}
 use Rattle.grammar.specs.shapes.WellShaped.{shapeOf}
-use Rattle.grammar.specs.records.Records.{lowHalf, highHalf, reads, sees, opening, nameCount, partCount, lone, unended, placeIn, builtinType, unsignedType, boolType, typeName, patternName}
+use Rattle.grammar.specs.records.Records.{lowHalf, highHalf, sees, opening, nameCount, partCount, lone, unended, placeIn, builtinType, unsignedType, boolType, typeName, patternName}
 use Rattle.grammar.specs.records.Records.{literalHead, functionHead, callHead, wrapperHead, calledHead, aloneHead, nameHead, armHead, headOf, formOf, roleOf, placed, arranged}
 use Rattle.grammar.specs.records.Records.{textOf, firstTok, firstOf, decimal, headFor, recorded, recordItems, recordTrees}
 use Rattle.grammar.specs.records.Faults.{unless, armLows, mates, armsFault, faultsAt, faults, earlier, earliest, faultOf}
@@ -78,8 +78,8 @@ unfolding ascii asciiFrom partOf same FUNCTION_RESERVED KEYWORDS MACROS MODULE_R
     lexeme.lineComment lexeme.inside lexeme.closing lexeme.blockComment lexeme.nameLength lexeme.qualified lexeme.macro lexeme.word lexeme.digits
     lexeme.hexadecimal lexeme.binary lexeme.decimal lexeme.marks lexeme.mark lexeme.noLexeme lexeme.lexeme lexeme.lexemesFrom lexeme.lexemes
     class.classOf depthAfter rowAfter tooDeep room lexedOf look row alt pick choose kindsOf sortOf ex thenWord thenRest thenSub exec saves need
-    judge parse BOOL UINT_TYPES BUILTIN_ALIASES digits.plain decimalFrom fitted numberOf isBound boundOk sizeOk yield partner canonical turned has
-    count span counted classOf shapes table means shapeOf lowHalf highHalf reads sees opening nameCount partCount lone unended placeIn builtinType
+    judge parse BOOL UINT_TYPES BUILTIN_ALIASES digits.plain decimalFrom decimalOf fitted isBound boundOk sizeOk lengthOk yield partner canonical turned has
+    count span counted classOf shapes table means shapeOf lowHalf highHalf sees opening nameCount partCount lone unended placeIn builtinType
     unsignedType boolType typeName patternName literalHead functionHead callHead wrapperHead calledHead aloneHead nameHead armHead headOf
     formOf roleOf placed arranged textOf firstTok firstOf decimal headFor recorded recordItems recordTrees unless armLows mates armsFault
     faultsAt faults earlier earliest faultOf classesOf toksOf startOf reading answer recordsRead upperHex hex lineOf refusalRec linesOf listing

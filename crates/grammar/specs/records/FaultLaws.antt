@@ -1,4 +1,4 @@
--- "Of 9 to 14 the earliest place": the refusal of a shape tree is one of its refusals, and no other of them has an earlier place.
+-- "Of 9 to 14 the earliest place", and 19 "among" them: the refusal of a shape tree is one of its refusals, and no other of them has an earlier place.
 -- Assumes nothing.
 use mathlib.Core.Bool.{Bool, true, false, cond}
 use mathlib.Core.List.{List, [], _∷_}

@@ -17,7 +17,7 @@ use Rattle.own.specs.Kinds as kind
 use Rattle.own.specs.Law.{sorts}
 use Rattle.lexer.specs.Classes as t
 use Rattle.kinds.specs.Fields.{counted}
-use Rattle.grammar.specs.shapes.Row.{Refused, never, byBound, byFold, byArms}
+use Rattle.grammar.specs.shapes.Row.{Refused, never, byBound, byLength, byFold, byArms}
 use Rattle.grammar.specs.records.Records.{opening, firstTok, recordItems}
 use Rattle.grammar.specs.records.Faults.{Fault, unless, armLows, mates, armsFault, faultsBy, refusedOf, faultsAt, faults, faultOf}
 use Rattle.grammar.specs.records.FaultLaws.{earliest-first}
@@ -71,6 +71,7 @@ by-numbered : (r : Refused) (draft : List ℕ) (is : Items) → All Numbered (fa
 unfolding has
 by-numbered never draft is = nil
 by-numbered byBound draft is = unless-numbered _ refusal.Bound _ (λ e. tt)
+by-numbered byLength draft is = unless-numbered _ refusal.Length _ (λ e. tt)
 by-numbered byFold draft is = chosen Numbered (eqb (opening (sorts is)) t.array-fold) (unless-numbered _ refusal.Size _ (λ e. tt)) (unless-numbered _ refusal.Bound _ (λ e. tt))
 by-numbered byArms draft is =
     let f = armsFault (counted (kind.EnumArm ∷ []) (sorts is)) (armLows (sorts is)) in

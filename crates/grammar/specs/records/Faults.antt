@@ -10,7 +10,8 @@ use lib.ListN.{length, drop, getD}
 use Rattle.text.specs.Lists.{Some}
 use Rattle.text.specs.Refusals as refusal
 use Rattle.num.specs.declared.Value.{Value}
-use Rattle.num.specs.Bound.{boundOk, sizeOk}
+use Rattle.num.specs.Value.{fitted}
+use Rattle.num.specs.Bound.{boundOk, sizeOk, lengthOk}
 use Rattle.theory.specs.Ebnf as shape
 use Rattle.own.specs.Tree.{Tok, Items, marks, partner}
 use Rattle.own.specs.Law.{Sort, word, child, sorts}
@@ -18,7 +19,7 @@ use Rattle.own.specs.Kinds as kind
 use Rattle.own.specs.Lists.{All}
 use Rattle.kinds.specs.Fields.{counted}
 use Rattle.lexer.specs.Classes as t
-use Rattle.grammar.specs.shapes.Row.{Refused, never, byBound, byFold, byArms}
+use Rattle.grammar.specs.shapes.Row.{Refused, never, byBound, byLength, byFold, byArms}
 use Rattle.grammar.specs.shapes.Shapes.{rows}
 use Rattle.grammar.specs.records.Records.{sees, opening, firstTok, firstOf, decimal, recordItems}
 
@@ -51,13 +52,15 @@ armsFault e lows =
 
 -- The refusals of a shape made of these items: 9 "`List` or `fold` bound not a power of two from 2 to 9,223,372,036,854,775,808" and
 -- 10 "`array_fold` size 0 or over 18,446,744,073,709,551,615", at the number; 11 to 14 at `match`. Without `<` a List is an alias name,
--- and `fold` a variable or a path. Which of them a shape of kind k may have is in its row.
+-- and `fold` a variable or a path. 19 (document 02, order 2) "when an array type's length is over the largest 64-bit number, at the number".
+-- Which of them a shape of kind k may have is in its row.
 abbrev pub numberFault : (Value → Bool) → ℕ → List ℕ → Items → List Fault
-numberFault ok n draft is = unless (not (sees t.LAngle (sorts is)) || ok (decimal draft is)) n (firstOf t.DecLiteral (marks is))
+numberFault ok n draft is = unless (not (sees t.LAngle (sorts is)) || ok (fitted (decimal draft is))) n (firstOf t.DecLiteral (marks is))
 
 abbrev pub faultsBy : Refused → List ℕ → Items → List Fault
 faultsBy never draft is = []
 faultsBy byBound draft is = numberFault boundOk refusal.Bound draft is
+faultsBy byLength draft is = unless (lengthOk (fitted (decimal draft is))) refusal.Length (firstOf t.DecLiteral (marks is))
 faultsBy byFold draft is = cond (eqb (opening (sorts is)) t.array-fold) (numberFault sizeOk refusal.Size draft is) (numberFault boundOk refusal.Bound draft is)
 faultsBy byArms draft is = let f = armsFault (counted (kind.EnumArm ∷ []) (sorts is)) (armLows (sorts is)) in unless (eqb f 0) f (firstTok (marks is))
 
@@ -73,7 +76,7 @@ faults draft shape.nil ts = []
 faults draft (shape.word c r) ts = faults draft r (drop 1 ts)
 faults draft (shape.sub k js r) ts = faultsAt draft k (recordItems draft js ts) ++ (faults draft js ts ++ faults draft r (drop (length (shape.yield js)) ts))
 
--- "of 9 to 14 the earliest place": the one of two, and of a list.
+-- "of 9 to 14 the earliest place", 19 "among" them: the one of two, and of a list.
 unfoldable pub earlier : Fault → Option Fault → Option Fault
 earlier f none = some f
 earlier f (some g) = cond (ltb (g .place) (f .place)) (some g) (some f)

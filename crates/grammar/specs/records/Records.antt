@@ -13,9 +13,7 @@ use Rattle.text.specs.Lists.{has}
 use Rattle.words.specs.Words.{BOOL, UINT_TYPES, BUILTIN_ALIASES, wordOf}
 use Rattle.words.specs.declared.Found.{Found}
 use Rattle.words.specs.declared.Found.the-variants.{Word, Plain}
-use Rattle.num.specs.Value.{numberOf}
-use Rattle.num.specs.declared.Value.{Value}
-use Rattle.num.specs.declared.Value.the-variants.{Number, TooLarge}
+use Rattle.num.specs.Value.{decimalOf}
 use Rattle.theory.specs.Ebnf as shape
 use Rattle.own.specs.Tree.{Tok, Items, none, mark, sub, Node, kids, marks}
 use Rattle.own.specs.Flat.{no-token}
@@ -44,10 +42,6 @@ head k l h = record { kind = k; low = l; high = h }
 abbrev pub plain : ℕ → Head
 plain k = head k 0 0
 
--- The largest 64-bit number.
-abbrev pub largest : ℕ
-largest = 18446744073709551615
-
 -- "together they hold a 64-bit number where `number` stands": its two halves of 32 bits.
 unfoldable pub lowHalf : ℕ → ℕ
 lowHalf n = n % halfRange
@@ -57,11 +51,6 @@ highHalf n = n / halfRange
 
 abbrev pub wide : ℕ → ℕ → Head
 wide k n = head k (lowHalf n) (highHalf n)
-
--- "An array length over the largest 64-bit number reads as 0"; so does any other number that is too large, which is refused.
-unfoldable pub reads : Value → ℕ
-reads (Number n) = n
-reads TooLarge = 0
 
 -- What the decisions look at: the pieces of a shape, as a rule sees them. Whether a token of a class is among its own,
 unfoldable pub sees : ℕ → List Sort → Bool
@@ -220,11 +209,12 @@ unfoldable pub firstOf : ℕ → List Tok → Tok
 firstOf c [] = no-token
 firstOf c (t ∷ ts) = cond (eqb (t .class) c) t (firstOf c ts)
 
-unfoldable pub decimal : List ℕ → Items → Value
-decimal draft is = numberOf (textOf draft (firstOf t.DecLiteral (marks is)))
+-- The number that stands among a shape's tokens, of any size: whether 64 bits hold it the refusals ask (Faults.antt).
+unfoldable pub decimal : List ℕ → Items → ℕ
+decimal draft is = decimalOf (textOf draft (firstOf t.DecLiteral (marks is)))
 
 unfoldable pub headFor : List ℕ → ℕ → Items → Head
-headFor draft k is = headOf (formOf k) (textOf draft (firstTok (marks is))) (reads (decimal draft is)) (sorts is)
+headFor draft k is = headOf (formOf k) (textOf draft (firstTok (marks is))) (decimal draft is) (sorts is)
 
 unfoldable pub recorded : ℕ → Head → Items → Items → Items
 recorded n h is r = sub (h .kind) (h .low) (h .high) (arranged (h .kind) n is) r
@@ -235,7 +225,7 @@ recordItems draft shape.nil ts = none
 recordItems draft (shape.word c r) ts = mark (firstTok ts) (recordItems draft r (drop 1 ts))
 recordItems draft (shape.sub k js r) ts =
     let is = recordItems draft js ts in
-    recorded (reads (decimal draft is)) (headFor draft k is) is (recordItems draft r (drop (length (shape.yield js)) ts))
+    recorded (decimal draft is) (headFor draft k is) is (recordItems draft r (drop (length (shape.yield js)) ts))
 
 -- The record trees of a draft, side by side, from its tokens and their shape tree.
 unfoldable pub recordTrees : List ℕ → List Tok → shape.Items → List Node

@@ -16,8 +16,8 @@ use Rattle.text.specs.Same.{same}
 use Rattle.text.specs.Lists.{has, count, span}
 use Rattle.words.specs.Words.{KEYWORDS, MACROS, MODULE_RESERVED, RULE_WORDS, RULE_NAMES, FUNCTION_RESERVED, BOOLEANS, BOOL, UINT_TYPES, BUILTIN_ALIASES, find, wordOf}
 use Rattle.num.specs.Digits as digits
-use Rattle.num.specs.Value.{decimalFrom, fitted, numberOf}
-use Rattle.num.specs.Bound.{boundOk, sizeOk, isBound}
+use Rattle.num.specs.Value.{decimalFrom, decimalOf, fitted}
+use Rattle.num.specs.Bound.{boundOk, sizeOk, lengthOk, isBound}
 use Rattle.lexer.specs.Chars.{among, whitespace, lineEnds, plainBytes, binaryDigits, decimalDigits, hexDigits, underscore, nameStarts, nameBytes, run, begins}
 use Rattle.lexer.specs.Lexemes as lex
 use Rattle.lexer.specs.Lexemes.{lexemes}
@@ -38,7 +38,7 @@ use Rattle.grammar.specs.shapes.Shapes.{shapes}
 use Rattle.grammar.specs.shapes.Tables.{table, means}
 use Rattle.grammar.specs.Entry.{oneFunction}
 use Rattle.grammar.specs.shapes.WellShaped.{shapeOf}
-use Rattle.grammar.specs.records.Records.{lowHalf, highHalf, reads, sees, opening, nameCount, partCount, lone, unended, placeIn, builtinType, unsignedType, boolType, typeName, patternName}
+use Rattle.grammar.specs.records.Records.{lowHalf, highHalf, sees, opening, nameCount, partCount, lone, unended, placeIn, builtinType, unsignedType, boolType, typeName, patternName}
 use Rattle.grammar.specs.records.Records.{literalHead, functionHead, callHead, wrapperHead, calledHead, aloneHead, nameHead, armHead, headOf, formOf, roleOf, placed, arranged}
 use Rattle.grammar.specs.records.Records.{textOf, firstTok, firstOf, decimal, headFor, recorded, recordItems, recordTrees}
 use Rattle.grammar.specs.records.Faults.{Fault, unless, armLows, mates, armsFault, faultsAt, faults, earlier, earliest, faultOf}
@@ -50,7 +50,7 @@ line r = r .kind ∷ r .start ∷ r .stop ∷ r .low ∷ r .high ∷ r .size ∷
 abbrev pub short : Rec → List ℕ
 short r = r .kind ∷ r .low ∷ r .high ∷ r .size ∷ []
 
--- The lines of the records, or the refusal of 9 to 14 and its place.
+-- The lines of the records, or the refusal of a shape and its place.
 unfoldable pub judged : (Rec → List ℕ) → Option Fault → List Rec → List (List ℕ)
 judged show (some f) rs = (f .number ∷ f .place ∷ []) ∷ []
 judged show none rs = map show rs
@@ -62,11 +62,11 @@ handed show draft ts (stuck p) = []
 -- The records of a draft; it opens all that it computes with.
 unfoldable pub recordsOf : (Rec → List ℕ) → String → List (List ℕ)
 unfolding toksOf classesOf kinds.classOf judged handed ascii asciiFrom partOf same KEYWORDS MACROS MODULE_RESERVED RULE_WORDS RULE_NAMES FUNCTION_RESERVED
-    BOOLEANS BOOL UINT_TYPES BUILTIN_ALIASES find wordOf digits.plain decimalFrom fitted numberOf isBound boundOk sizeOk among whitespace lineEnds
+    BOOLEANS BOOL UINT_TYPES BUILTIN_ALIASES find wordOf digits.plain decimalFrom decimalOf fitted isBound boundOk sizeOk lengthOk among whitespace lineEnds
     plainBytes binaryDigits decimalDigits hexDigits underscore nameStarts nameBytes run begins lex.space lex.comment lex.lineComment lex.inside
     lex.closing lex.blockComment lex.nameLength lex.qualified lex.macro lex.word lex.digits lex.hexadecimal lex.binary lex.decimal lex.marks
     lex.mark lex.noLexeme lex.lexeme lex.lexemesFrom lexemes classOf look row alt pick choose shape.kindsOf shape.sortOf shape.yield ex thenWord
-    thenRest thenSub exec saves need judge parse partner canonical turned has count span counted shapes table means shapeOf lowHalf highHalf reads
+    thenRest thenSub exec saves need judge parse partner canonical turned has count span counted shapes table means shapeOf lowHalf highHalf
     sees opening nameCount partCount lone unended placeIn builtinType unsignedType boolType typeName patternName literalHead functionHead callHead
     wrapperHead calledHead aloneHead nameHead armHead headOf formOf roleOf placed arranged textOf firstTok firstOf decimal headFor recorded
     recordItems recordTrees unless armLows mates armsFault faultsAt faults earlier earliest faultOf
@@ -105,7 +105,8 @@ pub types : map (λ text. drop 5 (made text)) ("fn f(){let _:Either<A,_>=1;}"
     ∷ "fn f(){let _:Option<bool>=1;}"
     ∷ "fn f(){let _:List<u256,4>=1;}"
     ∷ "fn f(){let _:List<u1,9223372036854775808>=1;}"
-    ∷ "fn f(){let _:[Nonce;18446744073709551616]=1;}"
+    ∷ "fn f(){let _:[Nonce;18446744073709551615]=1;}"
+    ∷ "fn f(){let _:[Nonce;00]=1;}"
     ∷ "fn f(){let _:[TokenAmount1;4294967297]=1;}"
     ∷ "fn f(){let _:()=1;}"
     ∷ "fn f(){let _:(u3,)=1;}"
@@ -116,6 +117,7 @@ pub types : map (λ text. drop 5 (made text)) ("fn f(){let _:Either<A,_>=1;}"
     ∷ ((kind.OptionType ∷ 0 ∷ 0 ∷ 2 ∷ []) ∷ leaf kind.BoolType ∷ leaf kind.Decimal ∷ [])
     ∷ ((kind.ListType ∷ 4 ∷ 0 ∷ 2 ∷ []) ∷ (kind.Unsigned ∷ 256 ∷ 0 ∷ 1 ∷ []) ∷ leaf kind.Decimal ∷ [])
     ∷ ((kind.ListType ∷ 0 ∷ 2147483648 ∷ 2 ∷ []) ∷ (kind.Unsigned ∷ 1 ∷ 0 ∷ 1 ∷ []) ∷ leaf kind.Decimal ∷ [])
+    ∷ ((kind.ArrayType ∷ 4294967295 ∷ 4294967295 ∷ 2 ∷ []) ∷ (kind.Builtin ∷ 22 ∷ 0 ∷ 1 ∷ []) ∷ leaf kind.Decimal ∷ [])
     ∷ ((kind.ArrayType ∷ 0 ∷ 0 ∷ 2 ∷ []) ∷ (kind.Builtin ∷ 22 ∷ 0 ∷ 1 ∷ []) ∷ leaf kind.Decimal ∷ [])
     ∷ ((kind.ArrayType ∷ 1 ∷ 1 ∷ 2 ∷ []) ∷ (kind.Builtin ∷ 23 ∷ 0 ∷ 1 ∷ []) ∷ leaf kind.Decimal ∷ [])
     ∷ (leaf kind.TupleType ∷ leaf kind.Decimal ∷ [])

@@ -12,9 +12,10 @@ pub data Form : Type 0 where
   lonely : ℕ → ℕ → Form
   aFunction aTypeName aPatternName aBlock aLiteral aMatch aName anArm : Form
 
--- Which refusals of 9 to 14 a shape may have: none; 9 of a `List`; 9 of a `fold` and 10 of an `array_fold`; 11 to 14 (`faultsBy`, Faults.antt).
+-- Which refusals of 9 to 14 and 19 a shape may have: none; 9 of a `List`; 19 of an array type; 9 of a `fold` and 10 of an `array_fold`; 11 to 14
+-- (`faultsBy`, Faults.antt).
 pub data Refused : Type 0 where
-  never byBound byFold byArms : Refused
+  never byBound byLength byFold byArms : Refused
 
 -- A shape: its category, the form of its record, its refusals, and its expression.
 pub record Row : Type 0 where

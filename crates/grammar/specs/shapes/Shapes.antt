@@ -12,7 +12,7 @@ use Rattle.text.specs.Lists.{has}
 use Rattle.lexer.specs.Classes as t
 use Rattle.grammar.specs.shapes.Categories.{function, parameter, type, pattern, block, assignment, single, arm, elements, arguments, path, headPath, pair}
 use Rattle.grammar.specs.shapes.Notation.{_⨾_, _¦_, optional, oneOf, _but_, commas, commas1, round, square, curly, angle}
-use Rattle.grammar.specs.shapes.Row.{Row, shape, always, numbered, angled, lonely, aFunction, aTypeName, aPatternName, aBlock, aLiteral, aMatch, aName, anArm, never, byBound, byFold, byArms}
+use Rattle.grammar.specs.shapes.Row.{Row, shape, always, numbered, angled, lonely, aFunction, aTypeName, aPatternName, aBlock, aLiteral, aMatch, aName, anArm, never, byBound, byLength, byFold, byArms}
 
 -- "an identifier is any name token"
 abbrev pub identifier : Ex
@@ -59,7 +59,7 @@ rows =
     -- "tuples,
     ∷ shape type (always kind.TupleType) never (round (commas (child type)))
     -- `[A; n]`"
-    ∷ shape type (numbered kind.ArrayType) never (square (child type ⨾ mark t.Semi ⨾ mark t.DecLiteral))
+    ∷ shape type (numbered kind.ArrayType) byLength (square (child type ⨾ mark t.Semi ⨾ mark t.DecLiteral))
     -- "Patterns are names,
     ∷ shape pattern aPatternName never identifier
     -- `(p, …)`

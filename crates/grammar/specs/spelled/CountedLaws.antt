@@ -11,6 +11,7 @@ use lib.Dec.{T}
 use Rattle.text.specs.Table.{first-of, second-of, or-cases}
 use Rattle.text.specs.Lists.{all, has, count, span}
 use Rattle.num.specs.Bound.{isBound}
+use Rattle.num.specs.Value.{largest}
 use Rattle.own.specs.Law.{Sort}
 use Rattle.own.specs.Kinds as kind
 use Rattle.own.specs.Arms as arm
@@ -24,7 +25,7 @@ use Rattle.grammar.specs.spelled.Decisions.{sure, free, row-sure, row-fr
 use Rattle.grammar.specs.spelled.FormTests.{SpelledAs, by-rows, formIn, noNumber, anyNumber, aBound, ofParameters, ofPairs, counts, Says}
 use Rattle.grammar.specs.spelled.FormTests.{halves-of, number-of}
 use Rattle.grammar.specs.spelled.HeadLaws.{opened, opened-sound, exactIn, exact-sound, count-sound}
-use Rattle.grammar.specs.records.Records.{roleOf, head, wide, sees, opening, nameCount, placeIn, functionHead, armHead, largest, armWords}
+use Rattle.grammar.specs.records.Records.{roleOf, head, wide, sees, opening, nameCount, placeIn, functionHead, armHead, armWords}
 use Rattle.grammar.specs.records.Records as rec
 
 -- three tests that pass

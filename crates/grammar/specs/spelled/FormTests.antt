@@ -14,7 +14,9 @@ use Rattle.text.specs.Lists.{Some, here, there, some, all, has}
 use Rattle.text.specs.ListLaws.{some-sound, all-some, from-some}
 use Rattle.num.specs.declared.Value.{Value}
 use Rattle.num.specs.declared.Value.the-variants.{Number, TooLarge}
-use Rattle.num.specs.Bound.{boundOk, sizeOk, isBound, isBound}
+use Rattle.num.specs.Value.{largest, fitted}
+use Rattle.num.specs.Bound.{boundOk, sizeOk, lengthOk, isBound}
+use Rattle.num.specs.ValueLaws.{Held, whole, lost, held}
 use Rattle.own.specs.Law.{Sort, word, child}
 use Rattle.own.specs.Kinds as kind
 use Rattle.kinds.specs.Shape.{Part, Shape, nothing, never, part, _▸_, _¦_, many, number, fits, Spells, one-mark, one-part, stop, more, halfRange}
@@ -26,7 +28,7 @@ use Rattle.lexer.specs.Classes as class
 use Rattle.grammar.specs.spelled.Rows.{Row, r-end, r-more, row-join, variants, variants-in}
 use Rattle.grammar.specs.spelled.Inclusion.{dealt, rowIn, atomIn, row-into}
 use Rattle.grammar.specs.spelled.Decisions.{sure, free, row-sure, row-free}
-use Rattle.grammar.specs.records.Records.{Head, partCount, lone, sees, lowHalf, highHalf, reads, largest}
+use Rattle.grammar.specs.records.Records.{Head, partCount, lone, sees, lowHalf, highHalf}
 
 -- What a head decided of w says: the rule of its kind, with the tokens in their roles.
 abbrev pub SpelledAs : Head → ℕ → List Sort → Type 0
@@ -199,18 +201,31 @@ below-all f (suc m) t i h = go (ltb i m) refl (below-all f m (second-of (f m) (a
         let q : m ≡ i = omega arith in
         subst (λ (x : ℕ). T (f x)) q (first-of (f m) (allBelow f m) t)
 
--- A good bound is a bound.
-pub good-bound : (v : Value) → boundOk v ≡ true → T (isBound (reads v))
-unfolding boundOk reads
-good-bound (Number n) e = rw e tt
-good-bound TooLarge e = differ e
+-- A good bound is a bound, a good size is not 0, and neither is too large; nor is a good length.
+pub good-bound : (n : ℕ) → boundOk (fitted n) ≡ true → T (isBound n) × (n ≤ largest)
+unfolding boundOk
+good-bound n = go (held n)
+  where
+    go : {v : Value} → Held n v → boundOk v ≡ true → T (isBound n) × (n ≤ largest)
+    go (whole h) e = (rw e tt, h)
+    go (lost h) e = differ e
 
--- A good size is not 0.
-pub good-size : (v : Value) → sizeOk v ≡ true → 0 < reads v
-unfolding sizeOk reads
-good-size (Number zero) e = differ e
-good-size (Number (suc n)) e = omega arith
-good-size TooLarge e = differ e
+pub good-size : (n : ℕ) → sizeOk (fitted n) ≡ true → (0 < n) × (n ≤ largest)
+unfolding sizeOk
+good-size n = go n (held n)
+  where
+    go : (n : ℕ) {v : Value} → Held n v → sizeOk v ≡ true → (0 < n) × (n ≤ largest)
+    go zero (whole h) e = differ e
+    go (suc m) (whole h) e = (omega arith, h)
+    go m (lost h) e = differ e
+
+pub good-length : (n : ℕ) → lengthOk (fitted n) ≡ true → n ≤ largest
+unfolding lengthOk
+good-length n = go (held n)
+  where
+    go : {v : Value} → Held n v → lengthOk v ≡ true → n ≤ largest
+    go (whole h) e = h
+    go (lost h) e = differ e
 
 -- ---- one part and no comma
 

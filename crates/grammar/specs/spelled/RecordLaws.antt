@@ -2,23 +2,22 @@
 -- spells that rule with its row's marks and its list's commas, none over and none missing". With the draft's tokens in order it follows
 -- that the tree is right, and law 3 holds of its tokens and records.
 -- Assumes nothing.
-use mathlib.Core.Bool.{Bool, true, false, _&&_, _||_, not, cond}
+use mathlib.Core.Bool.{Bool, true, false, _&&_, _||_, not, cond, or-true}
 use mathlib.Core.List.{List, [], _∷_, _++_, append-assoc, append-nil}
 use mathlib.Core.Option.{some}
 use mathlib.Core.Option as option
 use mathlib.Core.Path.{_≡_, refl, sym, ap, _∙_, subst}
 use Prim.Native.Nat.{ℕ, _≤_}
 use native.Mathlib.Omega.{arith}
-use borrow.Author.Tests.{eqb-true, leb-true}
+use borrow.Author.Tests.{eqb-true, eq-eqb, ne-eqb}
 use lib.Dec.{T, eqb, leb}
 use lib.ListN.{length, drop, getD, getElem?}
 use Rattle.text.specs.Part.{partOf}
 use Rattle.text.specs.Refusals as refusal
 use Rattle.text.specs.Lists.{all, here, has}
 use Rattle.num.specs.Digits as digits
-use Rattle.num.specs.Value.{decimalFrom, fitted, numberOf}
-use Rattle.num.specs.Bound.{boundOk, sizeOk}
-use Rattle.num.specs.declared.Value.the-variants.{Number, TooLarge}
+use Rattle.num.specs.Value.{decimalFrom, decimalOf, largest, fitted}
+use Rattle.num.specs.Bound.{boundOk, sizeOk, lengthOk}
 use Rattle.theory.specs.Ebnf as shape
 use Rattle.theory.specs.Ebnf.{Ex, m-end, m-word, m-sub, m-choice}
 use Rattle.theory.specs.Parse.{found}
@@ -35,11 +34,11 @@ use Rattle.kinds.specs.Spelled.{Spelled, formsOf}
 use Rattle.kinds.specs.Ownership.{Right, law-3}
 use Rattle.kinds.specs.Families as family
 use Rattle.lexer.specs.Classes as class
-use Rattle.grammar.specs.shapes.ShapeKind.{ListTypeShape, MatchShape, FoldingShape}
+use Rattle.grammar.specs.shapes.ShapeKind.{ListTypeShape, ArrayTypeShape, MatchShape, FoldingShape}
 use Rattle.grammar.specs.shapes.Shapes.{shapes}
 use Rattle.grammar.specs.Entry.{Entry}
 use Rattle.grammar.specs.shapes.WellShaped.{shapeOf}
-use Rattle.grammar.specs.records.Records.{Role, aMark, asName, asNumber, roleOf, placed, arranged, lowHalf, highHalf, reads, sees, opening, textOf, firstTok, firstOf, decimal, headOf, formOf, headFor, recorded, recordItems, recordTrees, largest}
+use Rattle.grammar.specs.records.Records.{Role, aMark, asName, asNumber, roleOf, placed, arranged, lowHalf, highHalf, sees, opening, textOf, firstTok, firstOf, decimal, headOf, formOf, headFor, recorded, recordItems, recordTrees}
 use Rattle.grammar.specs.records.Faults.{unless, armLows, armsFault, faultsAt, faults, faultOf}
 use Rattle.grammar.specs.records.FaultLaws.{none-exactly}
 use Rattle.grammar.specs.spelled.TreeTokens.{whole-trees, is-shape, its-yield, keeps-tokens}
@@ -48,6 +47,7 @@ use Rattle.grammar.specs.spelled.Inclusion.{sorts-arranged}
 use Rattle.grammar.specs.spelled.FormTests.{SpelledAs, halves-of}
 use Rattle.grammar.specs.spelled.ShapeTests.{bodyShape}
 use Rattle.grammar.specs.spelled.ShapeLaws.{Given, kept, has-law, kind-of-category}
+use Rattle.grammar.specs.spelled.NumberLaws.{fits-call}
 
 -- ---- the tokens that become records of their own
 
@@ -59,11 +59,11 @@ number-spelled : (n : ℕ) → n ≤ largest → Spelled kind.Number (lowHalf n)
 unfolding formsOf rules.forms holds
 number-spelled n h = here (record { fields = halves-of n h; shape = the-mark class.DecLiteral })
 
--- which tokens these are
-pub data RoleOf (c : ℕ) : Role → Type 0 where
-  its-own : RoleOf c aMark
-  a-name : T (has (class.Jet ∷ class.identifiers) c) → RoleOf c asName
-  a-number : c ≡ class.DecLiteral → RoleOf c asNumber
+-- which tokens these are, and of which kind the record is that has a number
+pub data RoleOf (K c : ℕ) : Role → Type 0 where
+  its-own : RoleOf K c aMark
+  a-name : T (has (class.Jet ∷ class.identifiers) c) → RoleOf K c asName
+  a-number : K ≡ kind.Call → c ≡ class.DecLiteral → RoleOf K c asNumber
 
 calls-within : T (all (has (class.Jet ∷ class.identifiers)) (class.Jet ∷ class.functionNames))
 unfolding all has
@@ -73,40 +73,38 @@ names-within : T (all (has (class.Jet ∷ class.identifiers)) class.identifiers)
 unfolding all has
 names-within = tt
 
-role-cases : (K c : ℕ) → RoleOf c (roleOf K c)
+role-cases : (K c : ℕ) → RoleOf K c (roleOf K c)
 unfolding roleOf
-role-cases K c = go (has family.namesKept K) (has class.identifiers c) refl (eqb K kind.Call) (has (class.Jet ∷ class.functionNames) c) refl (eqb c class.DecLiteral) refl
+role-cases K c = go (has family.namesKept K) (has class.identifiers c) refl (eqb K kind.Call) refl (has (class.Jet ∷ class.functionNames) c) refl (eqb c class.DecLiteral) refl
   where
-    go : (a b : Bool) → has class.identifiers c ≡ b → (d e : Bool) → has (class.Jet ∷ class.functionNames) c ≡ e → (f : Bool) → eqb c class.DecLiteral ≡ f
-        → RoleOf c (cond a (cond b asName aMark) (cond d (cond e asName (cond f asNumber aMark)) aMark))
-    go true true p d e q f r = a-name (has-within class.identifiers (class.Jet ∷ class.identifiers) names-within c (subst (λ y. T y) (sym p) tt))
-    go true false p d e q f r = its-own
-    go false b p true true q f r = a-name (has-within (class.Jet ∷ class.functionNames) (class.Jet ∷ class.identifiers) calls-within c (subst (λ y. T y) (sym q) tt))
-    go false b p true false q true r = a-number (eqb-true c class.DecLiteral r)
-    go false b p true false q false r = its-own
-    go false b p false e q f r = its-own
+    go : (a b : Bool) → has class.identifiers c ≡ b → (d : Bool) → eqb K kind.Call ≡ d → (e : Bool) → has (class.Jet ∷ class.functionNames) c ≡ e → (f : Bool) → eqb c class.DecLiteral ≡ f
+        → RoleOf K c (cond a (cond b asName aMark) (cond d (cond e asName (cond f asNumber aMark)) aMark))
+    go true true p d o e q f r = a-name (has-within class.identifiers (class.Jet ∷ class.identifiers) names-within c (subst (λ y. T y) (sym p) tt))
+    go true false p d o e q f r = its-own
+    go false b p true o true q f r = a-name (has-within (class.Jet ∷ class.functionNames) (class.Jet ∷ class.identifiers) calls-within c (subst (λ y. T y) (sym q) tt))
+    go false b p true o false q true r = a-number (eqb-true K kind.Call o) (eqb-true c class.DecLiteral r)
+    go false b p true o false q false r = its-own
+    go false b p false o e q f r = its-own
 
-each-placed : (n : ℕ) → n ≤ largest → (o : Role) (t : Tok) (r : Items) → RoleOf (t .class) o → Each (Keeps Spelled) r → Each (Keeps Spelled) (placed o n t r)
+each-placed : (K n : ℕ) (o : Role) (t : Tok) (r : Items) → (K ≡ kind.Call → t .class ≡ class.DecLiteral → n ≤ largest) → RoleOf K (t .class) o → Each (Keeps Spelled) r → Each (Keeps Spelled) (placed o n t r)
 unfolding placed
-each-placed n h aMark t r its-own e = e
-each-placed n h asName t r (a-name u) e = (name-spelled (t .class) u, tt, e)
-each-placed n h asNumber t r (a-number u) e = (subst (λ (c : ℕ). Spelled kind.Number (lowHalf n) (highHalf n) (word c ∷ [])) (sym u) (number-spelled n h), tt, e)
+each-placed K n aMark t r h its-own e = e
+each-placed K n asName t r h (a-name u) e = (name-spelled (t .class) u, tt, e)
+each-placed K n asNumber t r h (a-number k u) e = (subst (λ (c : ℕ). Spelled kind.Number (lowHalf n) (highHalf n) (word c ∷ [])) (sym u) (number-spelled n (h k u)), tt, e)
 
-each-arranged : (K n : ℕ) → n ≤ largest → (is : Items) → Each (Keeps Spelled) is → Each (Keeps Spelled) (arranged K n is)
-unfolding arranged
-each-arranged K n h none e = tt
-each-arranged K n h (mark t r) e = each-placed n h (roleOf K (t .class)) t (arranged K n r) (role-cases K (t .class)) (each-arranged K n h r e)
-each-arranged K n h (sub k l i js r) e = (e .0, e .1, each-arranged K n h r (e .2))
+-- A call's number, if it has one, is of 64 bits.
+abbrev Fit : ℕ → ℕ → List Sort → Type 0
+Fit K n w = K ≡ kind.Call → sees class.DecLiteral w ≡ true → n ≤ largest
+
+each-arranged : (K n : ℕ) (is : Items) → Fit K n (sorts is) → Each (Keeps Spelled) is → Each (Keeps Spelled) (arranged K n is)
+unfolding arranged sees
+each-arranged K n none h e = tt
+each-arranged K n (mark t r) h e =
+    each-placed K n (roleOf K (t .class)) t (arranged K n r) (λ k u. h k (rw (eq-eqb (t .class) class.DecLiteral u) refl)) (role-cases K (t .class))
+    (each-arranged K n r (λ k u. h k (ap (λ b. eqb (t .class) class.DecLiteral || b) u ∙ or-true (eqb (t .class) class.DecLiteral))) e)
+each-arranged K n (sub k l i js r) h e = (e .0, e .1, each-arranged K n r h (e .2))
 
 -- ---- what is given at each shape
-
-reads-small : (p : List ℕ) → reads (numberOf p) ≤ largest
-unfolding numberOf fitted reads
-reads-small p = go (decimalFrom 0 (digits.plain p)) (leb (decimalFrom 0 (digits.plain p)) largest) refl
-  where
-    go : (m : ℕ) (b : Bool) → leb m largest ≡ b → reads (cond b (Number m) TooLarge) ≤ largest
-    go m true e = leb-true m largest e
-    go m false e = omega arith
 
 no-first : (c : ℕ) (is : Items) → sees c (sorts is) ≡ false → firstOf c (marks is) ≡ no-token
 unfolding sees firstOf
@@ -126,9 +124,9 @@ no-text draft = go (leb 0 0 && leb 0 (length draft))
     go true = refl
     go false = refl
 
-no-number : (draft : List ℕ) (is : Items) → sees class.DecLiteral (sorts is) ≡ false → reads (decimal draft is) ≡ 0
-unfolding decimal numberOf fitted reads decimalFrom digits.plain
-no-number draft is e = ap (λ t. reads (numberOf (textOf draft t))) (no-first class.DecLiteral is e) ∙ ap (λ p. reads (numberOf p)) (no-text draft)
+no-number : (draft : List ℕ) (is : Items) → sees class.DecLiteral (sorts is) ≡ false → decimal draft is ≡ 0
+unfolding decimal decimalOf decimalFrom digits.plain
+no-number draft is e = ap (λ t. decimalOf (textOf draft t)) (no-first class.DecLiteral is e) ∙ ap decimalOf (no-text draft)
 
 passes : (b : Bool) (i : ℕ) (t : Tok) → unless b i t ≡ [] → b ≡ true
 unfolding unless
@@ -139,29 +137,32 @@ module _ (draft : List ℕ) (is : Items) where
   abbrev w : List Sort
   w = sorts is
 
-  list-clear : faultsAt draft ListTypeShape is ≡ [] → sees class.LAngle w ≡ true → boundOk (decimal draft is) ≡ true
+  list-clear : faultsAt draft ListTypeShape is ≡ [] → sees class.LAngle w ≡ true → boundOk (fitted (decimal draft is)) ≡ true
   unfolding faultsAt
-  list-clear f s = rw s at (passes (not (sees class.LAngle w) || boundOk (decimal draft is)) refusal.Bound (firstOf class.DecLiteral (marks is)) f)
+  list-clear f s = rw s at (passes (not (sees class.LAngle w) || boundOk (fitted (decimal draft is))) refusal.Bound (firstOf class.DecLiteral (marks is)) f)
 
-  size-clear : faultsAt draft FoldingShape is ≡ [] → sees class.LAngle w ≡ true → opening w ≡ class.array-fold → sizeOk (decimal draft is) ≡ true
+  length-clear : faultsAt draft ArrayTypeShape is ≡ [] → lengthOk (fitted (decimal draft is)) ≡ true
   unfolding faultsAt
-  size-clear f s o = rw s at (passes (not (sees class.LAngle w) || sizeOk (decimal draft is)) refusal.Size (firstOf class.DecLiteral (marks is)) (rw o at f))
+  length-clear f = passes (lengthOk (fitted (decimal draft is))) refusal.Length _ f
 
-  fold-clear : faultsAt draft FoldingShape is ≡ [] → sees class.LAngle w ≡ true → opening w ≡ class.fold → boundOk (decimal draft is) ≡ true
+  size-clear : faultsAt draft FoldingShape is ≡ [] → sees class.LAngle w ≡ true → opening w ≡ class.array-fold → sizeOk (fitted (decimal draft is)) ≡ true
   unfolding faultsAt
-  fold-clear f s o = rw s at (passes (not (sees class.LAngle w) || boundOk (decimal draft is)) refusal.Bound (firstOf class.DecLiteral (marks is)) (rw o at f))
+  size-clear f s o = rw s at (passes (not (sees class.LAngle w) || sizeOk (fitted (decimal draft is))) refusal.Size (firstOf class.DecLiteral (marks is)) (rw o at f))
+
+  fold-clear : faultsAt draft FoldingShape is ≡ [] → sees class.LAngle w ≡ true → (opening w ≡ class.array-fold → ⊥) → boundOk (fitted (decimal draft is)) ≡ true
+  unfolding faultsAt
+  fold-clear f s o = rw s at (passes (not (sees class.LAngle w) || boundOk (fitted (decimal draft is))) refusal.Bound (firstOf class.DecLiteral (marks is)) (rw (ne-eqb (opening w) class.array-fold o) at f))
 
   arms-clear : faultsAt draft MatchShape is ≡ [] → armsFault (counted (kind.EnumArm ∷ []) w) (armLows w) ≡ 0
   unfolding faultsAt
   arms-clear f = eqb-true (armsFault (counted (kind.EnumArm ∷ []) w) (armLows w)) 0 (passes (eqb (armsFault (counted (kind.EnumArm ∷ []) w) (armLows w)) 0) (armsFault (counted (kind.EnumArm ∷ []) w) (armLows w)) (firstTok (marks is)) f)
 
   given : (k : ℕ) → faultsAt draft k is ≡ [] → Given k (decimal draft is) w
-  unfolding decimal
   given k f =
       record {
-        small = reads-small (textOf draft (firstOf class.DecLiteral (marks is)));
         absent = no-number draft is;
         listed = λ e s. list-clear (subst (λ (j : ℕ). faultsAt draft j is ≡ []) e f) s;
+        long = λ e. length-clear (subst (λ (j : ℕ). faultsAt draft j is ≡ []) e f);
         sized = λ e s o. size-clear (subst (λ (j : ℕ). faultsAt draft j is ≡ []) e f) s o;
         folded = λ e s o. fold-clear (subst (λ (j : ℕ). faultsAt draft j is ≡ []) e f) s o;
         armed = λ e. arms-clear (subst (λ (j : ℕ). faultsAt draft j is ≡ []) e f);
@@ -206,17 +207,17 @@ module _ (draft : List ℕ) where
   }
 
   good-sub : {es : List Ex} (C i k : ℕ) → getElem? (shape.kindsOf shapes C) i ≡ some k → (is r : Items) → faultsAt draft k is ≡ []
-      → Good (shape.bodyOf shapes k) is → Good es r → Good (shape.child C ∷ es) (recorded (reads (decimal draft is)) (headFor draft k is) is r)
+      → Good (shape.bodyOf shapes k) is → Good es r → Good (shape.child C ∷ es) (recorded (decimal draft is) (headFor draft k is) is r)
   unfolding recorded headFor row seen shape.bodyOf
   good-sub {es} C i k h is r f g g′ =
-      let n = reads (decimal draft is) in
+      let n = decimal draft is in
       let o = given draft is k f in
       let text = textOf draft (firstTok (marks is)) in
       let hd = headOf (formOf k) text n (sorts is) in
       let c = firstClass (yield (arranged (hd .kind) n is)) in
-      let s : SpelledAs hd n (sorts is) = kept k (has-law C i k h) text (decimal draft is) (sorts is) o (body k is (g .made)) in
+      let s : SpelledAs hd n (sorts is) = kept k (has-law C i k h) text n (sorts is) o (body k is (g .made)) in
       record {
-        each = (subst (λ (u : List Sort). Spelled (hd .kind) (hd .low) (hd .high) u) (sym (sorts-arranged (hd .kind) n is)) s, each-arranged (hd .kind) n (o .small) is (g .each), g′ .each);
+        each = (subst (λ (u : List Sort). Spelled (hd .kind) (hd .low) (hd .high) u) (sym (sorts-arranged (hd .kind) n is)) s, each-arranged (hd .kind) n is (fits-call k (has-law C i k h) text n (sorts is) o (body k is (g .made))) (g .each), g′ .each);
         made = seq (one-part (hd .kind) (hd .low) (hd .high) c (part-fits C i k h text n (sorts is) (hd .low) (hd .high) c)) (g′ .made);
       }
 
@@ -224,7 +225,7 @@ module _ (draft : List ℕ) where
   unfolding row
   good-choice {e} {es} {α} i is h g = record { each = g .each; made = pair-in (λ v p. choice-in e i α h v p) (λ v p. p) (row-append α es (g .made)) }
 
-  -- The records of shapes side by side that match a row of expressions, where none of them has a refusal of 9 to 14.
+  -- The records of shapes side by side that match a row of expressions, where none of them has a refusal of 9 to 14 and 19.
   good-items : {es : List Ex} {r : shape.Items} → shape.Match shapes es r → (ts : List Tok) (more : List ℕ) → shape.yield r ++ more ≡ classesOf ts → faults draft r ts ≡ []
       → Good es (recordItems draft r ts)
   unfolding recordItems faults shape.yield row

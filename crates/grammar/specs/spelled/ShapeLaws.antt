@@ -1,4 +1,4 @@
--- The law of each kind of shape: without refusals 9 to 14 at it, its record spells the rule of its kind, and is of a kind of its category.
+-- The law of each kind of shape: without refusals 9 to 14 and 19 at it, its record spells the rule of its kind, and is of a kind of its category.
 -- Assumes nothing.
 use mathlib.Core.Bool.{Bool, true, false, _&&_, cond}
 use mathlib.Core.List.{List, [], _∷_}
@@ -17,8 +17,8 @@ use Rattle.text.specs.Lists.{all, has, span, count}
 use Rattle.words.specs.Words.{BOOL, UINT_TYPES, BUILTIN_ALIASES, wordOf}
 use Rattle.words.specs.declared.Found.{Found}
 use Rattle.words.specs.declared.Found.the-variants.{Word, Plain}
-use Rattle.num.specs.declared.Value.{Value}
-use Rattle.num.specs.Bound.{boundOk, sizeOk, isBound}
+use Rattle.num.specs.Value.{largest, fitted}
+use Rattle.num.specs.Bound.{boundOk, sizeOk, lengthOk, isBound}
 use Rattle.theory.specs.Ebnf as shape
 use Rattle.own.specs.Law.{Sort}
 use Rattle.own.specs.Kinds as kind
@@ -35,14 +35,14 @@ use Rattle.grammar.specs.shapes.Categories as category
 use Rattle.grammar.specs.shapes.Shapes.{rows, shapes}
 use Rattle.grammar.specs.spelled.Rules.{kindsIn, both, seen, partShapes, has-within, nth-none}
 use Rattle.grammar.specs.spelled.Decisions.{freeOf, free-sound}
-use Rattle.grammar.specs.spelled.FormTests.{SpelledAs, Numbers, noNumber, no-numbers, good-bound, good-size, number-of, allBelow, below-all}
+use Rattle.grammar.specs.spelled.FormTests.{SpelledAs, Numbers, noNumber, no-numbers, good-bound, good-size, good-length, number-of, allBelow, below-all}
 use Rattle.grammar.specs.spelled.HeadLaws.{exactIn, exact-sound, always-law, lonely-law, literal-law, type-law, pattern-law}
 use Rattle.grammar.specs.spelled.CountedLaws.{function-law, number-law, angled-law, bound-row, arm-law}
 use Rattle.grammar.specs.spelled.NameLaws.{name-law}
 use Rattle.grammar.specs.spelled.BlockLaws.{block-law}
 use Rattle.grammar.specs.spelled.MatchLaws.{match-law}
 use Rattle.grammar.specs.spelled.ShapeTests.{bodyShape, boundPart, sizePart, foldNumber, tests}
-use Rattle.grammar.specs.records.Records.{Head, head, wide, lowHalf, highHalf, reads, sees, opening, lone, placeIn, typeName, boolType, unsignedType, builtinType, patternName, literalHead, largest}
+use Rattle.grammar.specs.records.Records.{Head, head, wide, lowHalf, highHalf, sees, opening, lone, placeIn, typeName, boolType, unsignedType, builtinType, patternName, literalHead}
 use Rattle.grammar.specs.shapes.Row.{Row, Form, always, numbered, angled, lonely, aFunction, aTypeName, aPatternName, aLiteral, aName, anArm, aBlock, aMatch}
 use Rattle.grammar.specs.records.Records.{functionHead, callHead, wrapperHead, calledHead, aloneHead, nameHead, armHead, headOf, formOf}
 use Rattle.grammar.specs.records.Records as rec
@@ -55,19 +55,19 @@ categoryCount = suc category.arm
 abbrev pub shapeCount : ℕ
 shapeCount = length rows
 
--- What is given of a shape of kind k with the number v and these pieces: the number fits, is 0 if there is no decimal, and no refusal
--- of 9 to 14 is the shape's.
-pub record Given (k : ℕ) (v : Value) (w : List Sort) : Type 0 where
-  pub small : reads v ≤ largest
-  pub absent : sees class.DecLiteral w ≡ false → reads v ≡ 0
-  pub listed : k ≡ ListTypeShape → sees class.LAngle w ≡ true → boundOk v ≡ true
-  pub sized : k ≡ FoldingShape → sees class.LAngle w ≡ true → opening w ≡ class.array-fold → sizeOk v ≡ true
-  pub folded : k ≡ FoldingShape → sees class.LAngle w ≡ true → opening w ≡ class.fold → boundOk v ≡ true
+-- What is given of a shape of kind k with the number n and these pieces: the number is 0 if there is no decimal, and no refusal of 9 to 14 and 19
+-- is the shape's.
+pub record Given (k n : ℕ) (w : List Sort) : Type 0 where
+  pub absent : sees class.DecLiteral w ≡ false → n ≡ 0
+  pub listed : k ≡ ListTypeShape → sees class.LAngle w ≡ true → boundOk (fitted n) ≡ true
+  pub long : k ≡ ArrayTypeShape → lengthOk (fitted n) ≡ true
+  pub sized : k ≡ FoldingShape → sees class.LAngle w ≡ true → opening w ≡ class.array-fold → sizeOk (fitted n) ≡ true
+  pub folded : k ≡ FoldingShape → sees class.LAngle w ≡ true → (opening w ≡ class.array-fold → ⊥) → boundOk (fitted n) ≡ true
   pub armed : k ≡ MatchShape → armsFault (counted (kind.EnumArm ∷ []) w) (armLows w) ≡ 0
 
 -- The law of a kind of shapes.
 abbrev pub Kept : ℕ → Type 0
-Kept k = (text : List ℕ) (v : Value) (w : List Sort) → Given k v w → Spells (bodyShape k) w → SpelledAs (headOf (formOf k) text (reads v) w) (reads v) w
+Kept k = (text : List ℕ) (n : ℕ) (w : List Sort) → Given k n w → Spells (bodyShape k) w → SpelledAs (headOf (formOf k) text n w) n w
 
 -- no decimal among the tokens of `Either` and `Option`
 no-decimal-either : T (freeOf class.DecLiteral (bodyShape EitherTypeShape))
@@ -83,17 +83,17 @@ unfolding lowHalf highHalf
 empty-number K n w e p = rw e (rw e at p)
 
 -- the number of a fold
-fold-numbers : (v : Value) (w : List Sort) → Given FoldingShape v w → (c : ℕ) → opening w ≡ c → sees class.LAngle w ≡ true → Numbers (reads v) (foldNumber c)
+fold-numbers : (n : ℕ) (w : List Sort) → Given FoldingShape n w → (c : ℕ) → opening w ≡ c → sees class.LAngle w ≡ true → Numbers n (foldNumber c)
 unfolding foldNumber boundPart sizePart fits
-fold-numbers v w g c e s p t = go (eqb c class.fold) refl (eqb c class.array-fold) refl p t
+fold-numbers n w g c e s p t = go (eqb c class.fold) refl (eqb c class.array-fold) refl p t
   where
-    as-bound : c ≡ class.fold → T (isBound (number (lowHalf (reads v)) (highHalf (reads v))))
-    as-bound q = subst (λ (m : ℕ). T (isBound m)) (sym (number-of (reads v))) (good-bound v (g .folded refl s (e ∙ q)))
+    as-bound : c ≡ class.fold → T (isBound (number (lowHalf n) (highHalf n)))
+    as-bound q = subst (λ (m : ℕ). T (isBound m)) (sym (number-of n)) (good-bound n (g .folded refl s (λ f. omega arith)) .0)
 
-    as-size : c ≡ class.array-fold → T (ltb 0 (number (lowHalf (reads v)) (highHalf (reads v))))
-    as-size q = subst (λ (m : ℕ). T (ltb 0 m)) (sym (number-of (reads v))) (rw (lt-ltb 0 (reads v) (good-size v (g .sized refl s (e ∙ q)))) tt)
+    as-size : c ≡ class.array-fold → T (ltb 0 (number (lowHalf n) (highHalf n)))
+    as-size q = subst (λ (m : ℕ). T (ltb 0 m)) (sym (number-of n)) (rw (lt-ltb 0 n (good-size n (g .sized refl s (e ∙ q)) .0)) tt)
 
-    go : (a : Bool) → eqb c class.fold ≡ a → (b : Bool) → eqb c class.array-fold ≡ b → (x : Part) → T (cond a (boundPart x) (cond b (sizePart x) false)) → T (fits x kind.Number (lowHalf (reads v)) (highHalf (reads v)) class.DecLiteral)
+    go : (a : Bool) → eqb c class.fold ≡ a → (b : Bool) → eqb c class.array-fold ≡ b → (x : Part) → T (cond a (boundPart x) (cond b (sizePart x) false)) → T (fits x kind.Number (lowHalf n) (highHalf n) class.DecLiteral)
     go true q b r (of ks) u = absurd u
     go true q b r (name cs) u = absurd u
     go true q b r (arm m) u = absurd u
@@ -106,31 +106,27 @@ fold-numbers v w g c e s p t = go (eqb c class.fold) refl (eqb c class.array-fol
     go false q true r size u = as-size (eqb→eq c class.array-fold (subst (λ y. T y) (sym r) tt))
     go false q false r x u = absurd u
 
-module _ (text : List ℕ) (v : Value) (w : List Sort) where
-  -- the number, and its shapes
-  abbrev n : ℕ
-  n = reads v
-
+module _ (text : List ℕ) (n : ℕ) (w : List Sort) where
   -- a function, a parameter
-  kept-function : Given FunctionShape v w → Spells (bodyShape FunctionShape) w → SpelledAs (functionHead w) n w
+  kept-function : Given FunctionShape n w → Spells (bodyShape FunctionShape) w → SpelledAs (functionHead w) n w
   kept-function g p = function-law n (bodyShape FunctionShape) (tests n .function) p
 
   -- Either, Option, List
-  kept-either : Given EitherTypeShape v w → Spells (bodyShape EitherTypeShape) w → SpelledAs (cond (sees class.LAngle w) (wide kind.EitherType n) (rec.plain kind.Alias)) n w
+  kept-either : Given EitherTypeShape n w → Spells (bodyShape EitherTypeShape) w → SpelledAs (cond (sees class.LAngle w) (wide kind.EitherType n) (rec.plain kind.Alias)) n w
   kept-either g p = angled-law n kind.EitherType (exactIn n (rec.plain kind.EitherType)) (bodyShape EitherTypeShape) (λ e l t r. empty-number kind.EitherType n w (g .absent (free-sound class.DecLiteral no-decimal-either p)) (exact-sound n (rec.plain kind.EitherType) l t r)) (tests n .either-type) p
 
-  kept-option : Given OptionTypeShape v w → Spells (bodyShape OptionTypeShape) w → SpelledAs (cond (sees class.LAngle w) (wide kind.OptionType n) (rec.plain kind.Alias)) n w
+  kept-option : Given OptionTypeShape n w → Spells (bodyShape OptionTypeShape) w → SpelledAs (cond (sees class.LAngle w) (wide kind.OptionType n) (rec.plain kind.Alias)) n w
   kept-option g p = angled-law n kind.OptionType (exactIn n (rec.plain kind.OptionType)) (bodyShape OptionTypeShape) (λ e l t r. empty-number kind.OptionType n w (g .absent (free-sound class.DecLiteral no-decimal-option p)) (exact-sound n (rec.plain kind.OptionType) l t r)) (tests n .option-type) p
 
-  kept-list : Given ListTypeShape v w → Spells (bodyShape ListTypeShape) w → SpelledAs (cond (sees class.LAngle w) (wide kind.ListType n) (rec.plain kind.Alias)) n w
-  kept-list g p = angled-law n kind.ListType _ (bodyShape ListTypeShape) (λ e l t r. bound-row n (g .small) (good-bound v (g .listed refl e)) l t r) (tests n .list-type) p
+  kept-list : Given ListTypeShape n w → Spells (bodyShape ListTypeShape) w → SpelledAs (cond (sees class.LAngle w) (wide kind.ListType n) (rec.plain kind.Alias)) n w
+  kept-list g p = angled-law n kind.ListType _ (bodyShape ListTypeShape) (λ e l t r. let b = good-bound n (g .listed refl e) in bound-row n (b .1) (b .0) l t r) (tests n .list-type) p
 
   -- a block, a match
   kept-block : Spells (bodyShape BlockShape) w → SpelledAs (head kind.Block (cond (rec.unended false w) 1 0) 0) n w
   unfolding bodyShape shapes seen partShapes
   kept-block p = block-law n p
 
-  kept-match : Given MatchShape v w → Spells (bodyShape MatchShape) w → SpelledAs (cond (ltb 0 (counted (kind.EnumArm ∷ []) w)) (rec.plain kind.EnumMatch) (rec.plain kind.Match)) n w
+  kept-match : Given MatchShape n w → Spells (bodyShape MatchShape) w → SpelledAs (cond (ltb 0 (counted (kind.EnumArm ∷ []) w)) (rec.plain kind.EnumMatch) (rec.plain kind.Match)) n w
   unfolding bodyShape shapes seen partShapes both kindsIn
   kept-match g p = match-law n (g .armed refl) p
 
@@ -151,32 +147,32 @@ each-at (p & b) (suc i) h k e = each-at b i (omega arith) k (omega arith)
 all-kept : Each Kept 0 rows
 unfolding headOf formOf
 all-kept =
-    (λ text v w g p. kept-function text v w g p)
-    & (λ text v w g p. always-law (reads v) kind.Parameter (bodyShape ParameterShape) (tests (reads v) .parameter) p)
-    & (λ text v w g p. kept-either text v w g p)
-    & (λ text v w g p. kept-option text v w g p)
-    & (λ text v w g p. kept-list text v w g p)
-    & (λ text v w g p. type-law (reads v) text (bodyShape NamedTypeShape) (tests (reads v) .type-name) p)
-    & (λ text v w g p. always-law (reads v) kind.TupleType (bodyShape TupleTypeShape) (tests (reads v) .tuple-type) p)
-    & (λ text v w g p. number-law (reads v) kind.ArrayType (bodyShape ArrayTypeShape) (g .small) (tests (reads v) .array-type) p)
-    & (λ text v w g p. pattern-law (reads v) text (bodyShape NamePatternShape) (tests (reads v) .pattern-name) p)
-    & (λ text v w g p. always-law (reads v) kind.TuplePattern (bodyShape TuplePatternShape) (tests (reads v) .tuple-pattern) p)
-    & (λ text v w g p. always-law (reads v) kind.ArrayPattern (bodyShape ArrayPatternShape) (tests (reads v) .array-pattern) p)
-    & (λ text v w g p. kept-block text v w p)
-    & (λ text v w g p. always-law (reads v) kind.Let (bodyShape AssignmentShape) (tests (reads v) .assignment) p)
-    & (λ text v w g p. literal-law (reads v) (bodyShape LiteralShape) (tests (reads v) .literal) p)
-    & (λ text v w g p. lonely-law (reads v) kind.Parenthesised kind.Tuple (bodyShape ParensShape) (tests (reads v) .parens) p)
-    & (λ text v w g p. always-law (reads v) kind.Array (bodyShape ArrayShape) (tests (reads v) .array) p)
-    & (λ text v w g p. always-law (reads v) kind.List (bodyShape ListShape) (tests (reads v) .list) p)
-    & (λ text v w g p. kept-match text v w g p)
-    & (λ text v w g p. name-law (reads v) (λ c. noNumber) (bodyShape SimpleCallShape) (λ c e s. no-numbers (reads v)) (tests (reads v) .simple-call) p)
-    & (λ text v w g p. name-law (reads v) (λ c. noNumber) (bodyShape CastCallShape) (λ c e s. no-numbers (reads v)) (tests (reads v) .cast-call) p)
-    & (λ text v w g p. name-law (reads v) (λ c. noNumber) (bodyShape NamedShape) (λ c e s. no-numbers (reads v)) (tests (reads v) .named) p)
-    & (λ text v w g p. name-law (reads v) (λ c. noNumber) (bodyShape BareShape) (λ c e s. no-numbers (reads v)) (tests (reads v) .bare) p)
-    & (λ text v w g p. name-law (reads v) (λ c. noNumber) (bodyShape TypedShape) (λ c e s. no-numbers (reads v)) (tests (reads v) .typed) p)
-    & (λ text v w g p. name-law (reads v) foldNumber (bodyShape FoldingShape) (fold-numbers v w g) (tests (reads v) .folding) p)
-    & (λ text v w g p. name-law (reads v) (λ c. noNumber) (bodyShape ForWhileShape) (λ c e s. no-numbers (reads v)) (tests (reads v) .for-while) p)
-    & (λ text v w g p. arm-law (reads v) (bodyShape ArmShape) (tests (reads v) .arm) p)
+    (λ text n w g p. kept-function text n w g p)
+    & (λ text n w g p. always-law n kind.Parameter (bodyShape ParameterShape) (tests n .parameter) p)
+    & (λ text n w g p. kept-either text n w g p)
+    & (λ text n w g p. kept-option text n w g p)
+    & (λ text n w g p. kept-list text n w g p)
+    & (λ text n w g p. type-law n text (bodyShape NamedTypeShape) (tests n .type-name) p)
+    & (λ text n w g p. always-law n kind.TupleType (bodyShape TupleTypeShape) (tests n .tuple-type) p)
+    & (λ text n w g p. number-law n kind.ArrayType (bodyShape ArrayTypeShape) (good-length n (g .long refl)) (tests n .array-type) p)
+    & (λ text n w g p. pattern-law n text (bodyShape NamePatternShape) (tests n .pattern-name) p)
+    & (λ text n w g p. always-law n kind.TuplePattern (bodyShape TuplePatternShape) (tests n .tuple-pattern) p)
+    & (λ text n w g p. always-law n kind.ArrayPattern (bodyShape ArrayPatternShape) (tests n .array-pattern) p)
+    & (λ text n w g p. kept-block text n w p)
+    & (λ text n w g p. always-law n kind.Let (bodyShape AssignmentShape) (tests n .assignment) p)
+    & (λ text n w g p. literal-law n (bodyShape LiteralShape) (tests n .literal) p)
+    & (λ text n w g p. lonely-law n kind.Parenthesised kind.Tuple (bodyShape ParensShape) (tests n .parens) p)
+    & (λ text n w g p. always-law n kind.Array (bodyShape ArrayShape) (tests n .array) p)
+    & (λ text n w g p. always-law n kind.List (bodyShape ListShape) (tests n .list) p)
+    & (λ text n w g p. kept-match text n w g p)
+    & (λ text n w g p. name-law n (λ c. noNumber) (bodyShape SimpleCallShape) (λ c e s. no-numbers n) (tests n .simple-call) p)
+    & (λ text n w g p. name-law n (λ c. noNumber) (bodyShape CastCallShape) (λ c e s. no-numbers n) (tests n .cast-call) p)
+    & (λ text n w g p. name-law n (λ c. noNumber) (bodyShape NamedShape) (λ c e s. no-numbers n) (tests n .named) p)
+    & (λ text n w g p. name-law n (λ c. noNumber) (bodyShape BareShape) (λ c e s. no-numbers n) (tests n .bare) p)
+    & (λ text n w g p. name-law n (λ c. noNumber) (bodyShape TypedShape) (λ c e s. no-numbers n) (tests n .typed) p)
+    & (λ text n w g p. name-law n foldNumber (bodyShape FoldingShape) (fold-numbers n w g) (tests n .folding) p)
+    & (λ text n w g p. name-law n (λ c. noNumber) (bodyShape ForWhileShape) (λ c e s. no-numbers n) (tests n .for-while) p)
+    & (λ text n w g p. arm-law n (bodyShape ArmShape) (tests n .arm) p)
     & end
 
 -- The law of every kind of shapes.
@@ -259,7 +255,7 @@ literal-kind c = go (eqb c class.false) (eqb c class.true) (eqb c class.DecLiter
     go false false false false false false = tt
 
 -- A form decides one of its kinds.
-kind-possible : (f : Form) (text : List ℕ) (n : ℕ) (w : List Sort) → T (has (possible f) (headOf f text n w .kind))
+pub kind-possible : (f : Form) (text : List ℕ) (n : ℕ) (w : List Sort) → T (has (possible f) (headOf f text n w .kind))
 unfolding headOf possible has functionHead patternName armHead
 kind-possible (always k) text n w = self-has k []
 kind-possible (numbered k) text n w = self-has k []

@@ -14,7 +14,7 @@ use Rattle.grammar.specs.shapes.ShapeKind.{FunctionShape}
 use Rattle.grammar.specs.Entry.{Entry, oneFunction}
 use Rattle.grammar.specs.shapes.WellShaped.{Shape, shapeOf}
 use Rattle.grammar.specs.shapes.WellShapedLaws.{Nodes, no-more, a-node, shape-function, shape-nodes, shape-exactly}
-use Rattle.grammar.specs.records.Records.{Role, aMark, asName, asNumber, roleOf, placed, arranged, firstTok, reads, decimal, functionHead, headOf, formOf, Head, headFor, recorded, recordItems, recordTrees}
+use Rattle.grammar.specs.records.Records.{Role, aMark, asName, asNumber, roleOf, placed, arranged, firstTok, decimal, functionHead, headOf, formOf, Head, headFor, recorded, recordItems, recordTrees}
 
 pub length-classes : (ts : List Tok) → length (classesOf ts) ≡ length ts
 unfolding classesOf
@@ -57,7 +57,7 @@ yield-records draft (shape.sub k js r) ts h =
     let a = yield-records draft js ts (omega arith) in
     let b = yield-records draft r (drop n ts) (omega (arith, length-drop n ts)) in
     let is = recordItems draft js ts in
-    yield-recorded (reads (decimal draft is)) (headFor draft k is) is (recordItems draft r (drop n ts)) ∙ ap₂ (λ x y. x ++ y) a b ∙ sym (take-add n m ts)
+    yield-recorded (decimal draft is) (headFor draft k is) is (recordItems draft r (drop n ts)) ∙ ap₂ (λ x y. x ++ y) a b ∙ sym (take-add n m ts)
     ∙ ap (λ i. take i ts) (sym e)
 
 -- the records of nodes alone are trees side by side
@@ -67,7 +67,7 @@ nodes-trees draft ts no-more = refl
 nodes-trees draft ts (a-node k js {r} n) =
     let is = recordItems draft js ts in
     let h = headFor draft k is in
-    ap (λ x. sub (h .kind) (h .low) (h .high) (arranged (h .kind) (reads (decimal draft is)) is) x) (nodes-trees draft (drop (length (shape.yield js)) ts) n)
+    ap (λ x. sub (h .kind) (h .low) (h .high) (arranged (h .kind) (decimal draft is) is) x) (nodes-trees draft (drop (length (shape.yield js)) ts) n)
 
 -- The records of a shape tree are trees side by side.
 pub whole-trees : (en : Entry) (draft : List ℕ) (ts : List Tok) {r : shape.Items} → Shape en r → roots (recordTrees draft ts r) ≡ recordItems draft r ts

@@ -208,7 +208,12 @@ module _ (P : Items) (s : Scrutiny P) (k₁ l₁ h₁ k₂ l₂ h₂ : ℕ) (j�
       ∙ ap (λ (z : List ℕ). sets l (recWide * r) (g ++ (w ++ z))) (sym (append-nil u))
       ∙ ap (λ (z : List (List ℕ)). sets l (recWide * r) (concat (arrange true z))) (sym three-groups)
 
--- What `arrange` leaves: the words of the match as they are handed over.
+-- What `arrange` leaves: as many words as before,
+pub arranges-long : {o k : ℕ} {m m′ : List ℕ} {from mid to : ℕ} → length m ≡ k → Arranged o m from mid to m′ → length m′ ≡ k
+arranges-long n (exchanged o v) = v .long ∙ n
+arranges-long n (stayed o q) = ap length q ∙ n
+
+-- and those of the match as they are handed over.
 module _ (P A : Items) (y : Tok) (s : Scrutiny P) (a : Armed (sorts A)) (l : List ℕ) (r : ℕ) {m m′ : List ℕ} {from mid to : ℕ} (n : length m ≡ length l)
     (e : recWide * to ≤ length l → m ≡ sets l (recWide * r) (concat (wordGroups (joined P (joined A (mark y own.none))))))
     (f : from ≡ r + sizes P) (g : mid ≡ from + sizes (firstNode A)) (h : to ≡ r + sizes (joined P (joined A (mark y own.none)))) where
@@ -224,10 +229,6 @@ module _ (P A : Items) (y : Tok) (s : Scrutiny P) (a : Armed (sorts A)) (l : Lis
       let s₂ : sizes (joined A (mark y own.none)) ≡ 1 + sizes (t .j₁) + (1 + sizes (t .j₂) + 0) = ap (λ (z : Items). sizes (joined z (mark y own.none))) (t .is) in
       exchanges P s (p .k₁) (p .l₁) (p .h₁) (p .k₂) (p .l₂) (p .h₂) (t .j₁) (t .j₂) y l r n q e₁ f (omega arith) (omega arith) v
       ∙ ap (λ (z : Items). sets l (recWide * r) (concat (arrange true (wordGroups (L z))))) (sym (t .is))
-
-  pub arranges-long : Arranged (orderFrom 0 (sorts A)) m from mid to m′ → length m′ ≡ length l
-  arranges-long (exchanged o v) = v .long ∙ n
-  arranges-long (stayed o q) = ap length q ∙ n
 
   pub arranges : Arranged (orderFrom 0 (sorts A)) m from mid to m′ → recWide * to ≤ length l
       → m′ ≡ sets l (recWide * r) (concat (arrange (turned (orderKind (orderFrom 0 (sorts A))) (joined P (joined A (mark y own.none)))) (wordGroups (joined P (joined A (mark y own.none))))))

@@ -18,7 +18,9 @@ use Rattle.lexer.specs.Limits.{noToken}
 use Rattle.theory.specs.Grammar.{nt}
 use Rattle.theory.specs.Ebnf as shape
 use Rattle.theory.specs.Parse.{Found, found, stuck}
-use Rattle.own.specs.Tree.{Tok, Items, Node, Rec, roots, records, concat, classesOf}
+use Rattle.own.specs.Tree.{Tok, Items, Node, Each, Rec, roots, records, concat, classesOf}
+use Rattle.own.specs.Law.{Keeps}
+use Rattle.own.specs.Rules.{each-map}
 use Rattle.own.specs.Flat.{no-token}
 use Rattle.text.specs.Widths.{tokWide, recWide}
 use Rattle.text.specs.Answers as paper
@@ -26,16 +28,18 @@ use Rattle.text.specs.Refusals as refusal
 use Rattle.own.specs.Words.{toks, wordGroups, recWords}
 use Rattle.own.specs.WordLaws.{words-are}
 use Rattle.kinds.specs.Class.{classOf}
+use Rattle.kinds.specs.Spelled.{Spelled}
 use Rattle.grammar.specs.shapes.TablesIndex.{n-function}
 use Rattle.grammar.specs.Entry.{Entry, oneFunction}
 use Rattle.grammar.specs.shapes.WellShaped.{shapeOf}
 use Rattle.grammar.specs.shapes.WellShapedLaws.{reads-shape, reads-too-few, sticks-shape}
 use Rattle.grammar.specs.spelled.TreeTokens.{length-classes, whole-trees, is-shape}
+use Rattle.grammar.specs.spelled.RecordLaws.{all-spelled}
 use Rattle.grammar.specs.records.Records.{recordItems}
 use Rattle.grammar.specs.records.Faults.{Fault, faults, earliest, faultOf}
 use Rattle.grammar.specs.answers.Answer.{toksOf, startOf, treesOf, recordsFor, Reading, unread, read, faulty, shaped, fitted, content, recordsIn}
 use Rattle.parse.specs.Contract as contract
-use Rattle.parse.specs.Contract.{Text, text, countable, classes, tokAt, Read, Stuck, raw, faultIn, sooner, kept, fault, Ready, asItems, Went, Parsed, Gives}
+use Rattle.parse.specs.Contract.{Text, text, countable, classes, tokAt, Read, Stuck, raw, faultIn, sooner, kept, fault, Ready, Holds, asItems, Went, Parsed, Gives}
 use Rattle.parse.specs.Infos.{FunctionKind}
 use Rattle.parse.specs.Entry.{tooMany, readingOf, meant, answered, answerOf, treeOf, Starts, ended, judged}
 use Rattle.parse.specs.declared.State.{State}
@@ -45,6 +49,7 @@ use Rattle.parse.specs.declared.Answer.the-variants.{Records, Refused}
 use Rattle.parse.proofs.rule.Lists.{length-words}
 use Rattle.parse.proofs.rule.Amid.{class-at}
 use Rattle.parse.proofs.token.Tokens.{length-toks}
+use Rattle.parse.proofs.entry.Holds.{spelled-holds}
 
 -- Tokens as the code reads them are those of the paper.
 pub toks-of : (draft : List ℕ) (n : ℕ) (w : List ℕ) → toksOf draft (tokensIn n w) ≡ toks (classOf draft) n w
@@ -237,13 +242,13 @@ module _ (draft words′ : List ℕ) (n : ℕ) (h : tokWide * n ≤ length words
         its-count : length (records ns) ≡ z .out
         its-count = omega (arith, length-words (w .L), ap length its-words, record-words-length (records ns), w .lays .sized, s .out-is)
 
-        its-fit : recWide * z .out ≤ k → l′ ≡ recWords (records ns) ++ replicate (k - length (recWords (records ns))) 0
-        its-fit g =
+        its-fit : Each Holds (w .L) → recWide * z .out ≤ k → l′ ≡ recWords (records ns) ++ replicate (k - length (recWords (records ns))) 0
+        its-fit hold g =
             let ws : List ℕ = concat (wordGroups (w .L)) in
             let m : length l ≡ k = ap length zeros ∙ length-replicate k 0 in
             let v = length-words (w .L) in
             let t₀ : 0 + length ws ≡ length ws = omega arith in
-            w .lays .laid (omega arith) ∙ ap (λ (o : ℕ). sets l (recWide * o) ws) (s .out-is) ∙ sets-eq ws l 0 (omega (arith, w .lays .sized, s .out-is))
+            w .lays .laid hold (omega arith) ∙ ap (λ (o : ℕ). sets l (recWide * o) ws) (s .out-is) ∙ sets-eq ws l 0 (omega (arith, w .lays .sized, s .out-is))
             ∙ (λ i. ws ++ drop (t₀ i) (zeros i)) ∙ ap (λ (u : List ℕ). ws ++ u) (drop-zeros (length ws) k 0)
             ∙ ap (λ (u : List ℕ). u ++ replicate (k - length u) 0) its-words
 
@@ -258,6 +263,12 @@ module _ (draft words′ : List ℕ) (n : ℕ) (h : tokWide * n ≤ length words
           all-read : its ≡ read ts (records ns)
           all-read = reading-faulty none (its-kept true f)
 
+          -- No number is too large then.
+          numbers-fit : Each Holds (w .L)
+          numbers-fit =
+              let clear : faultOf draft (toksOf draft ts) r ≡ none = fault-is ∙ its-kept true f in
+              subst (Each Holds) (sym laid-is) (each-map (Keeps Spelled) Holds spelled-holds (roots ns) (all-spelled oneFunction draft (toksOf draft ts) r shape-of clear))
+
           fitted-is : (b : Bool) → ltb k (recWide * z .out) ≡ b → fitted k its ≡ cond b (paper.refused refusal.NoRoom 0) (paper.accepted (length ts) (z .out))
           fitted-is b g =
               ap (fitted k) all-read ∙ ap (λ (m : ℕ). cond (ltb k (recWide * m)) (paper.refused refusal.NoRoom 0) (paper.accepted (length ts) m)) its-count
@@ -267,7 +278,7 @@ module _ (draft words′ : List ℕ) (n : ℕ) (h : tokWide * n ≤ length words
           says-read true g = (ap answered (fitted-is true g), λ m q. absurd (differ (ap taken q)))
           says-read false g = (
             ap answered (fitted-is false g),
-            λ m q. its-fit (ltb-false k (recWide * z .out) g)
+            λ m q. its-fit numbers-fit (ltb-false k (recWide * z .out) g)
                 ∙ sym (ap₂ (λ (c : paper.Answer) (q : Reading). content c (recWords (recordsIn q)) k) (fitted-is false g) all-read),
           )
 

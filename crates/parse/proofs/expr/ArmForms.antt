@@ -307,7 +307,7 @@ arm-shut {x} {st} {r} {rhs} {l} {ms} {m} {st₁} {l₁} {l′} a b W U {kind} {l
     shuts-as ArmShape y o d one hd tt
     (record { high = armHigh a b; js = d .L; raw-is = its-raw ArmShape y o d one hd tt; laid-is = refl; none-left = refl; its-kind = arm-kinds a b i })
     (d .lays .long)
-    (λ k. d .lays .laid k ∙ ap (λ u. sets l (recWide * r .out) (concat (arrange u (wordGroups (d .L))))) (sym (unturned (armKind a) (d .L) (arm-unturned a))))
+    (λ n k. d .lays .laid n k ∙ ap (λ u. sets l (recWide * r .out) (concat (arrange u (wordGroups (d .L))))) (sym (unturned (armKind a) (d .L) (arm-unturned a))))
     put′ refl (record { at-is = refl; out-is = refl }) (d .lays .stands)
     (d .lays .worst ∙ ap₂ sooner (o .kept-is) (sym (its-fault ArmShape y o d one hd tt ∙ ap (λ u. sooner (earliest u) (faultIn x (r .at) (d .pre))) (no-fault (x .draft) ArmShape (raw x (r .at) (d .pre)) tt)))) in
     subst (λ u. Went x rhs (asNode ArmShape) Arm st l st₁ l′ kind u) (sym (e .1)) (subst (λ u. Went x rhs (asNode ArmShape) Arm st l st₁ l′ u (armLow a b)) (sym (e .0)) base)

@@ -14,7 +14,7 @@ use Rattle.text.specs.Same.{differ}
 use Rattle.text.specs.Table.{is-true}
 use Rattle.text.specs.Refusals as refusal
 use Rattle.text.specs.Lists.{has}
-use Rattle.num.specs.Value.{numberOf}
+use Rattle.num.specs.Value.{fitted, numberOf}
 use Rattle.num.specs.declared.Value.{Value}
 use Rattle.num.specs.Bound.{boundOk, sizeOk}
 use Rattle.kinds.specs.Rules.{wrappers}
@@ -41,6 +41,7 @@ use Rattle.parse.proofs.choice.Chosen.{where-chosen, alone, is-alone, h
 use Rattle.parse.proofs.rule.Marks.{keeping, keeps-between, word-mark}
 use Rattle.parse.proofs.rule.Steps.{numberIn, decided, reads-tok, reads-one}
 use Rattle.parse.proofs.rule.Closing.{Rule}
+use Rattle.parse.proofs.rule.Heads.{unless-is}
 pub use Rattle.parse.proofs.expr.CallRows.{
   simpleRhs,
   castRhs,
@@ -414,11 +415,6 @@ other-is c W h p o f g =
 
 -- The refusal of a fold's number.
 module _ (draft : List ℕ) where
-  unless-is : (y : Tok) (b : Bool) (n : ℕ) → (n ≡ 0 → ⊥) → earliest (unless b n y) ≡ fault (cond b 0 n) (y .start)
-  unfolding unless earliest earlier fault
-  unless-is y true n h = refl
-  unless-is y false n h = ap (λ (b : Bool). cond b none (some (record { number = n; place = y .start }))) (sym (ne-eqb n 0 h))
-
   fold-cases : (b : Bool) (v : Value) (y : Tok) → earliest (cond b (unless (sizeOk v) refusal.Size y) (unless (boundOk v) refusal.Bound y)) ≡ fault (cond b (sizeFault v) (boundFault v)) (y .start)
   unfolding boundFault sizeFault
   fold-cases true v y = unless-is y (sizeOk v) refusal.Size (λ e. omega arith)
@@ -427,7 +423,7 @@ module _ (draft : List ℕ) where
   abbrev folding : List Sort → Value → Tok → List Fault
   folding w v y = cond (eqb (opening w) t.array-fold) (unless (not (sees t.LAngle w) || sizeOk v) refusal.Size y) (unless (not (sees t.LAngle w) || boundOk v) refusal.Bound y)
 
-  fold-at : (is : Items) → faultsAt draft FoldingShape is ≡ folding (sorts is) (decimal draft is) (firstOf t.DecLiteral (marks is))
+  fold-at : (is : Items) → faultsAt draft FoldingShape is ≡ folding (sorts is) (fitted (decimal draft is)) (firstOf t.DecLiteral (marks is))
   unfolding faultsAt
   fold-at is = refl
 
@@ -437,7 +433,7 @@ module _ (draft : List ℕ) where
 
   pub fold-fault : (is : Items) (c : ℕ) {w : List Sort} (v : Value) (y : Tok) → sorts is ≡ word c ∷ word t.DoubleColon ∷ word t.LAngle ∷ w → firstOf t.DecLiteral (marks is) ≡ y → v ≡ numberOf (textOf draft y)
       → earliest (faultsAt draft FoldingShape is) ≡ fault (cond (eqb c t.array-fold) (sizeFault v) (boundFault v)) (y .start)
-  unfolding decimal
+  unfolding decimal numberOf
   fold-fault is c {w} v y e f g =
       ap earliest (fold-at is ∙ (λ i. folding (e i) (numberOf (textOf draft (f i))) (f i)) ∙ (λ i. folding (word c ∷ word t.DoubleColon ∷ word t.LAngle ∷ w) (sym g i) y) ∙ fold-opens c w v y)
       ∙ fold-cases (eqb c t.array-fold) v y
@@ -450,9 +446,9 @@ module _ (draft : List ℕ) where
 
   pub fold-faultless : (is : Items) {w : List Sort} → sorts is ≡ w → sees t.LAngle w ≡ false → earliest (faultsAt draft FoldingShape is) ≡ fault 0 0
   fold-faultless is {w} e f =
-      ap earliest (fold-at is ∙ ap (λ (u : List Sort). folding u (decimal draft is) (firstOf t.DecLiteral (marks is))) e
-      ∙ ap (λ (b : Bool). cond (eqb (opening w) t.array-fold) (unless (not b || sizeOk (decimal draft is)) refusal.Size (firstOf t.DecLiteral (marks is))) (unless (not b || boundOk (decimal draft is)) refusal.Bound (firstOf t.DecLiteral (marks is)))) f)
-      ∙ both-none (eqb (opening w) t.array-fold) (decimal draft is) (firstOf t.DecLiteral (marks is))
+      ap earliest (fold-at is ∙ ap (λ (u : List Sort). folding u (fitted (decimal draft is)) (firstOf t.DecLiteral (marks is))) e
+      ∙ ap (λ (b : Bool). cond (eqb (opening w) t.array-fold) (unless (not b || sizeOk (fitted (decimal draft is))) refusal.Size (firstOf t.DecLiteral (marks is))) (unless (not b || boundOk (fitted (decimal draft is))) refusal.Bound (firstOf t.DecLiteral (marks is)))) f)
+      ∙ both-none (eqb (opening w) t.array-fold) (fitted (decimal draft is)) (firstOf t.DecLiteral (marks is))
 
 -- No `<` in a name alone and in a path.
 pub alone-angle : (c : ℕ) → has t.identifiers c ≡ true → sees t.LAngle (word c ∷ []) ≡ false

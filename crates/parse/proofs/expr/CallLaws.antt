@@ -10,7 +10,7 @@ use borrow.Author.Tests.{ne-eqb}
 use lib.Dec.{eqb}
 use lib.Seq.{sets, length-sets}
 use Rattle.text.specs.Same.{differ}
-use Rattle.num.specs.Value.{numberOf}
+use Rattle.num.specs.Value.{decimalOf}
 use lib.ListN.{length, getD}
 use Rattle.theory.specs.Grammar.{Sym, tok, nt}
 use Rattle.theory.specs.Machine.{expand}
@@ -30,7 +30,7 @@ use Rattle.kinds.specs.Families as family
 use Rattle.lexer.specs.Classes as t
 use Rattle.grammar.specs.shapes.Tables.{means, table}
 use Rattle.grammar.specs.shapes.TablesIndex.{n-arguments, n-path, n-functionName, n-identifier, n-path-many-DoubleColon, n-path-optional}
-use Rattle.grammar.specs.records.Records.{aMark, asName, roleOf, placed, arranged, sees, nameCount, lone, reads, textOf, firstOf}
+use Rattle.grammar.specs.records.Records.{aMark, asName, roleOf, placed, arranged, sees, nameCount, lone, textOf, firstOf}
 use Rattle.grammar.specs.records.Faults.{Fault}
 use Rattle.parse.specs.Contract.{Text, classes, tokAt, Read, raw, kept, fault, Stands, Ready, Near, Moved, Put, Turned, Judged, Info, asItems, Went, Parsed, read, reserved, Named, Decimal, valueAt, Called, named, marked, Only, countable, u32Count}
 use Rattle.parse.specs.Infos.{Args, Path, Begun}
@@ -287,8 +287,8 @@ fold-place c f v p q = λ i. cond (p i) 0 (suc (suc (suc (cond (q i) 0 (suc (suc
 
 module _ {x : Text} {K : ℕ} {N : ℕ → Type 0} {full left : List Sym} {st : State} {l : List ℕ} {c f : ℕ} {w : List Sort} {t₀ t₁ t₂ t₃ t₄ t₅ : Tok} {ms : List Tok} {m : ℕ} {st₁ : State} {l₁ : List ℕ}
     (d : Amid x K N full left st l (word c ∷ word t.DoubleColon ∷ word t.LAngle ∷ word f ∷ word t.Comma ∷ word t.DecLiteral ∷ w) (t₀ ∷ t₁ ∷ t₂ ∷ t₃ ∷ t₄ ∷ t₅ ∷ ms) m st₁ l₁) (p : eqb c t.DecLiteral ≡ false) (q : eqb f t.DecLiteral ≡ false) where
-  pub fold-number : numberIn x (t₀ ∷ t₁ ∷ t₂ ∷ t₃ ∷ t₄ ∷ t₅ ∷ ms) ≡ reads (numberOf (textOf (x .draft) t₅))
-  fold-number = number-at d ∙ ap (λ i. reads (numberOf (textOf (x .draft) (getD (t₀ ∷ t₁ ∷ t₂ ∷ t₃ ∷ t₄ ∷ t₅ ∷ ms) i no-token)))) (fold-place c f (wordsIn w) p q)
+  pub fold-number : numberIn x (t₀ ∷ t₁ ∷ t₂ ∷ t₃ ∷ t₄ ∷ t₅ ∷ ms) ≡ decimalOf (textOf (x .draft) t₅)
+  fold-number = number-at d ∙ ap (λ i. decimalOf (textOf (x .draft) (getD (t₀ ∷ t₁ ∷ t₂ ∷ t₃ ∷ t₄ ∷ t₅ ∷ ms) i no-token))) (fold-place c f (wordsIn w) p q)
 
   pub fold-first : (is : Items) → sorts is ≡ word c ∷ word t.DoubleColon ∷ word t.LAngle ∷ word f ∷ word t.Comma ∷ word t.DecLiteral ∷ w → marks is ≡ t₀ ∷ t₁ ∷ t₂ ∷ t₃ ∷ t₄ ∷ t₅ ∷ ms → firstOf t.DecLiteral (marks is) ≡ t₅
   fold-first is e g = first-is is e g ∙ ap (λ i. getD (t₀ ∷ t₁ ∷ t₂ ∷ t₃ ∷ t₄ ∷ t₅ ∷ ms) i no-token) (fold-place c f (wordsIn w) p q)
@@ -343,13 +343,13 @@ module _ {x : Text} {a b z : State} {l l₁ l₃ l₄ : List ℕ} {u v s e : ℕ
   before = sets l (recWide * a .out) name
 
   pub put-before : Put l (a .out) kind.Name s e 0 0 1 before
-  put-before = record { long = length-sets l (recWide * a .out) name; put = λ h. refl }
+  put-before = record { long = length-sets l (recWide * a .out) name; put = λ n h. refl }
 
   words : List ℕ
   words = concat (wordGroups (q .L))
 
   pub behind : Went x (nt n-arguments ∷ []) asItems Args (reserved a) before z l₄ u v
-  unfolding reserved words
+  unfolding reserved words has
   behind =
       let lay = q .lays in
       let few = lay .few in
@@ -377,9 +377,9 @@ module _ {x : Text} {a b z : State} {l l₁ l₃ l₄ : List ℕ} {u v s e : ℕ
           sized = omega arith;
           few = omega arith;
           long = turn .long ∙ put .long ∙ lay .long ∙ sym n;
-          laid = λ h.
-              let l₁-is = lay .laid (omega arith) in
-              let l₃-is = put .put (omega arith) in
+          laid = λ v h.
+              let l₁-is = lay .laid v (omega arith) in
+              let l₃-is = put .put (λ w. absurd w) (omega arith) in
               let both : l₃ ≡ sets l (recWide * a .out) (words ++ name) = sets-next l words name (recWide * a .out) (recWide * b .out) l₁-is l₃-is (omega arith) in
               let g : recWide * z .out ≤ length l₃ = omega arith in
               let g₁ : length l ≡ length l₃ = sym (put .long ∙ lay .long) in

@@ -14,7 +14,7 @@ use Rattle.theory.specs.Machine.{choose}
 use Rattle.theory.specs.Ebnf.{kindsOf}
 use Rattle.theory.specs.Same.{ex}
 use Rattle.own.specs.Tree as own
-use Rattle.own.specs.Tree.{Tok, Items, mark, sub, marks, turned, arrange, concat}
+use Rattle.own.specs.Tree.{Tok, Items, mark, sub, Each, marks, turned, arrange, concat}
 use Rattle.own.specs.Law.{Sort, word, child, sorts}
 use Rattle.text.specs.Widths.{recWide}
 use Rattle.own.specs.Words.{sizes, wordGroups}
@@ -26,7 +26,7 @@ use Rattle.grammar.specs.records.Faults.{faultsAt, earliest}
 use Rattle.grammar.specs.shapes.ShapeKind.{MatchShape}
 use Rattle.grammar.specs.shapes.TablesIndex.{n-expression, n-many-arm, n-single}
 use Rattle.lexer.specs.Classes as t
-use Rattle.parse.specs.Contract.{Text, classes, tokAt, raw, fault, Stands, Ready, Moved, Eaten, ate, Put, Judged, asItems, asNode, Went, Parsed, Node, ExprKind}
+use Rattle.parse.specs.Contract.{Text, classes, tokAt, raw, fault, Stands, Ready, Moved, Eaten, ate, Holds, Put, Judged, asItems, asNode, Went, Parsed, Node, ExprKind}
 use Rattle.parse.specs.Infos.{Armed, Arms, orderFrom, orderKind, orderFault, firstNode, Arranged}
 use Rattle.parse.specs.declared.State.{State}
 use Rattle.parse.specs.declared.Step.{Step}
@@ -202,18 +202,18 @@ module _ {x : Text} {st r a b d f : State} {l l₁ l₂ : List ℕ} {s₁ s₂ s
       to-is : g .out ≡ r .out + sizes M
       to-is = match₅ .amid .lays .sized ∙ ap (λ (w : Items). r .out + sizes w) (match₅ .is)
 
-      words-here : recWide * g .out ≤ length l → l₂ ≡ sets l (recWide * r .out) (concat (wordGroups M))
-      words-here h = match₅ .amid .lays .laid h ∙ ap (λ (w : Items). sets l (recWide * r .out) (concat (wordGroups w))) (match₅ .is)
+      words-here : Each Holds (match₅ .amid .L) → recWide * g .out ≤ length l → l₂ ≡ sets l (recWide * r .out) (concat (wordGroups M))
+      words-here v h = match₅ .amid .lays .laid v h ∙ ap (λ (w : Items). sets l (recWide * r .out) (concat (wordGroups w))) (match₅ .is)
 
       here : Arranged (orderFrom 0 (sorts (q .L))) l₂ (b .out) mid (g .out) l₃
       here = subst (λ (n : ℕ). Arranged n l₂ (b .out) mid (g .out) l₃) order-here u
 
       pub match-long : length l₃ ≡ length l
-      match-long = arranges-long (third .L) (q .L) (tokAt x (f .at)) (scrutiny (third .L) third-sorts) its-arms l (r .out) (match₅ .amid .lays .long) words-here from-is mid-here to-is here
+      match-long = arranges-long (match₅ .amid .lays .long) u
 
-      pub match-words : recWide * g .out ≤ length l → l₃ ≡ sets l (recWide * r .out) (concat (arrange (turned K (match₅ .amid .L)) (wordGroups (match₅ .amid .L))))
-      match-words h =
-          arranges (third .L) (q .L) (tokAt x (f .at)) (scrutiny (third .L) third-sorts) its-arms l (r .out) (match₅ .amid .lays .long) words-here from-is mid-here to-is here h
+      pub match-words : Each Holds (match₅ .amid .L) → recWide * g .out ≤ length l → l₃ ≡ sets l (recWide * r .out) (concat (arrange (turned K (match₅ .amid .L)) (wordGroups (match₅ .amid .L))))
+      match-words v h =
+          arranges (third .L) (q .L) (tokAt x (f .at)) (scrutiny (third .L) third-sorts) its-arms l (r .out) (match₅ .amid .lays .long) (words-here v) from-is mid-here to-is here h
           ∙ ap₂ (λ (n : ℕ) (w : Items). sets l (recWide * r .out) (concat (arrange (turned (orderKind n) w) (wordGroups w)))) (sym order-here) (sym (match₅ .is))
 
       -- The record of the match.

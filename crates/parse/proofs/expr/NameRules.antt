@@ -194,7 +194,7 @@ module _ {x : Text} {st r : State} {K : ℕ} {l : List ℕ} {w : List Sort} {ms 
   shut-named z y o d one hd h u P p put =
       let e = by-name z d ∙ hd in
       shuts-in (z .k) y o d one e tt P p (d .lays .long)
-      (λ i. d .lays .laid i ∙ ap (λ (b : Bool). sets l (recWide * r .out) (concat (arrange b (wordGroups (d .L))))) (sym (unturned K (d .L) u)))
+      (λ n i. d .lays .laid n i ∙ ap (λ (b : Bool). sets l (recWide * r .out) (concat (arrange b (wordGroups (d .L))))) (sym (unturned K (d .L) u)))
       put refl (record { at-is = refl; out-is = refl }) (d .lays .stands)
       (d .lays .worst
       ∙ ap₂ sooner (o .kept-is)

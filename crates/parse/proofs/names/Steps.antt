@@ -6,7 +6,8 @@ use mathlib.Core.Path.{_≡_, refl, sym, ap, subst, _∙_}
 use Prim.Native.Nat.{ℕ, zero, suc, _≤_, _<_}
 use native.Mathlib.Omega.{arith}
 use lib.ListN.{length}
-use Rattle.num.specs.Value.{numberOf}
+use Rattle.num.specs.Value.{decimalOf, fitted, numberOf}
+use Rattle.num.specs.declared.Value.{Value}
 use Rattle.text.specs.Part.{partOf}
 use Rattle.theory.specs.Grammar.{tok, nt}
 use Rattle.theory.specs.Machine.{expand}
@@ -15,12 +16,13 @@ use Rattle.theory.specs.Ebnf.{sortOf}
 use Rattle.theory.specs.Same.{ex}
 use Rattle.theory.specs.Walk.{k-tok, k-nt}
 use Rattle.grammar.specs.shapes.Tables.{means, table}
-use Rattle.grammar.specs.records.Records.{reads, textOf, lowHalf, highHalf}
+use Rattle.grammar.specs.records.Records.{textOf}
 use Rattle.lexer.specs.Classes as t
 use Rattle.own.specs.Kinds as kind
-use Rattle.parse.specs.Contract.{Text, tokAt, Stands, Ready, Near, Moved, Put, Info, asItems, Parsed, read, stuck, reserved, Named, Decimal, valueAt, countable}
+use Rattle.parse.specs.Contract.{Text, tokAt, Stands, Ready, Near, Moved, Put, PutNumber, Info, asItems, Parsed, read, stuck, reserved, Named, Decimal, valueAt, countable}
 use Rattle.parse.specs.declared.State.{State}
 use Rattle.parse.specs.declared.Step.the-variants.{Next, Refused}
+use Rattle.parse.proofs.tree.Numbers.{number-numbered, put-number}
 use Rattle.parse.proofs.rule.Amid.{inside}
 use Rattle.parse.proofs.rule.Steps.{child-went, reads-tok, reads-one}
 
@@ -65,17 +67,13 @@ module _ {x : Text} {st : State} (y : Ready x st) where
   child-nt pos v put more f e = child-near (ready-near y) pos v put more f e
 
 -- The number that the code reads is that of the token.
-value-is : {x : Text} {st : State} → Stands x st → reads (numberOf (partOf (x .draft) (st .start) (st .stop))) ≡ valueAt x (st .at)
-unfolding textOf
-value-is {x} {st} h = λ i. reads (numberOf (partOf (x .draft) (h .start-is i) (h .stop-is i)))
+value-is : {x : Text} {st : State} → Stands x st → numberOf (partOf (x .draft) (st .start) (st .stop)) ≡ fitted (valueAt x (st .at))
+unfolding textOf numberOf
+value-is {x} {st} h = λ i. fitted (decimalOf (partOf (x .draft) (h .start-is i) (h .stop-is i)))
 
 -- A decimal, with the halves of its number.
-pub child-decimal : {x : Text} {st st₁ st₂ : State} {l l′ : List ℕ} {low high : ℕ} → Ready x st → st .class ≡ t.DecLiteral → Moved x st st₁
-    → Put l (st₁ .out) kind.Number (st .start) (st .stop) low high 1 l′ → st₂ ≡ reserved st₁
-    → low ≡ lowHalf (reads (numberOf (partOf (x .draft) (st .start) (st .stop)))) → high ≡ highHalf (reads (numberOf (partOf (x .draft) (st .start) (st .stop))))
+pub child-decimal : {x : Text} {st st₁ st₂ : State} {l l′ : List ℕ} {v : Value} → Ready x st → st .class ≡ t.DecLiteral → Moved x st st₁
+    → PutNumber l (st₁ .out) kind.Number (st .start) (st .stop) v 1 l′ → st₂ ≡ reserved st₁ → v ≡ numberOf (partOf (x .draft) (st .start) (st .stop))
     → Parsed x (tok t.DecLiteral ∷ []) asItems (Decimal x (st .at)) st l l′ (Next st₂ 0 0)
-child-decimal {x} {st} {st₁} {st₂} {l} {l′} {low} {high} y c v put more e f =
-    let a : low ≡ lowHalf (valueAt x (st .at)) = e ∙ ap lowHalf (value-is (y .stands)) in
-    let b : high ≡ highHalf (valueAt x (st .at)) = f ∙ ap highHalf (value-is (y .stands)) in
-    child-tok (ready-near y) (omega arith) v (subst (λ h. Put l (st₁ .out) kind.Number (st .start) (st .stop) (lowHalf (valueAt x (st .at))) h 1 l′) b
-    (subst (λ h. Put l (st₁ .out) kind.Number (st .start) (st .stop) h high 1 l′) a put)) more c
+child-decimal {x} {st} y c m put more e =
+    child-tok (ready-near y) (omega arith) m (put-number (valueAt x (st .at)) (e ∙ value-is (y .stands)) number-numbered put) more c

@@ -30,12 +30,12 @@ use Rattle.grammar.specs.records.Records.{Role, aMark, asName, asNumber, roleOf
 use Rattle.grammar.specs.records.Faults.{Fault, faults, earliest}
 use Rattle.grammar.specs.spelled.TreeTokens.{length-classes}
 use Rattle.parse.proofs.Step.{the-type}
-use Rattle.parse.specs.Contract.{Text, classes, tokAt, Read, Stuck, raw, faultIn, sooner, kept, Stands, Ready, Moved, Eaten, ate, lacked, Laid, Info, asItems, asNode, Went, Parsed, read, stuck}
+use Rattle.parse.specs.Contract.{Text, classes, tokAt, Read, Stuck, raw, faultIn, sooner, kept, Stands, Ready, Moved, Eaten, ate, lacked, Holds, Laid, Info, asItems, asNode, Went, Parsed, read, stuck}
 use Rattle.parse.specs.declared.State.{State}
 use Rattle.parse.specs.declared.Step.{Step}
 use Rattle.parse.specs.declared.Step.the-variants.{Next, Refused}
 use Rattle.text.specs.Sets.{sets-next}
-use Rattle.parse.proofs.rule.Lists.{joined, joined-none, sorts-joined, marks-joined, arranged-joined, sizes-joined, words-joined, length-words, length-join, raw-join, fault-join, sooner-none, sooner-assoc}
+use Rattle.parse.proofs.rule.Lists.{joined, joined-none, sorts-joined, marks-joined, arranged-joined, sizes-joined, words-joined, each-joined, length-words, length-join, raw-join, fault-join, sooner-none, sooner-assoc}
 
 -- the class of a token
 pub class-at : (ts : List Tok) (i : ℕ) → getD (classesOf ts) i 0 ≡ getD ts i no-token .class
@@ -67,7 +67,7 @@ module _ {x : Text} {σ : List Sym} {wrap : shape.Items → shape.Items} {I : In
 -- What stands in the buffer: nothing more,
 pub laid-nil : (x : Text) {st : State} (l : List ℕ) → Stands x st → Laid x st l shape.nil own.none 0 st l
 unfolding shape.yield faultIn faults earliest
-laid-nil x {st} l h = record { ends = omega arith; sized = omega arith; few = omega arith; long = refl; laid = λ g. refl; worst = sym (sooner-none (kept st)); stands = h }
+laid-nil x {st} l h = record { ends = omega arith; sized = omega arith; few = omega arith; long = refl; laid = λ n g. refl; worst = sym (sooner-none (kept st)); stands = h }
 
 -- or what stands there and more.
 pub laid-join : {x : Text} {st : State} {l : List ℕ} {r : shape.Items} {L : Items} {m : ℕ} {st₁ : State} {l₁ : List ℕ} {u : shape.Items} {M : Items} {n : ℕ} {st₂ : State} {l₂ : List ℕ}
@@ -83,8 +83,9 @@ laid-join {x} {st} {l} {r} {L} {m} {st₁} {l₁} {u} {M} {n} {st₂} {l₂} p q
       sized = omega arith;
       few = omega arith;
       long = g₂ ∙ g₁;
-      laid = λ h.
-          sets-next l (concat (wordGroups L)) (concat (wordGroups M)) (recWide * st .out) (recWide * st₁ .out) (p .laid (omega arith)) (q .laid (omega arith)) (omega arith)
+      laid = λ o h.
+          let b = each-joined Holds L M o in
+          sets-next l (concat (wordGroups L)) (concat (wordGroups M)) (recWide * st .out) (recWide * st₁ .out) (p .laid (b .0) (omega arith)) (q .laid (b .1) (omega arith)) (omega arith)
           ∙ ap (sets l (recWide * st .out)) (sym (words-joined L M));
       worst =
           q .worst ∙ ap₂ (λ a i. sooner a (faultIn x i u)) (p .worst) e₁ ∙ sooner-assoc (kept st) (faultIn x (st .at) r) (faultIn x (st .at + length (shape.yield r)) u)

@@ -16,7 +16,7 @@ use Rattle.theory.specs.Same.{ex}
 use Rattle.theory.specs.Walk.{n-end, n-sub, k-in, reads-within}
 use lib.ListN.{getD, getElem?}
 use Rattle.own.specs.Tree as own
-use Rattle.own.specs.Tree.{Tok, Items, sub, begin, end, turned, arrange, concat}
+use Rattle.own.specs.Tree.{Tok, Items, sub, Each, begin, end, turned, arrange, concat}
 use Rattle.own.specs.Law.{Sort, sorts}
 use Rattle.text.specs.Widths.{recWide}
 use Rattle.own.specs.Words.{recThen, sizes, wordGroups}
@@ -26,7 +26,7 @@ use Rattle.grammar.specs.shapes.Tables.{means, table}
 use Rattle.grammar.specs.records.Records.{Head, head, arranged, headOf}
 use Rattle.grammar.specs.records.Faults.{Fault, faultsAt, earliest}
 use Rattle.grammar.specs.spelled.TreeTokens.{yield-arranged}
-use Rattle.parse.specs.Contract.{Text, classes, tokAt, Read, Stuck, raw, faultIn, sooner, kept, fault, Stands, Ready, Put, Laid, Info, asItems, asNode, Went, Parsed, read, stuck, reserved, cleaned, Node, countable}
+use Rattle.parse.specs.Contract.{Text, classes, tokAt, Read, Stuck, raw, faultIn, sooner, kept, fault, Stands, Ready, Holds, Put, Laid, Info, asItems, asNode, Went, Parsed, read, stuck, reserved, cleaned, Node, countable}
 use Rattle.parse.specs.declared.State.{State}
 use Rattle.parse.specs.declared.Step.{Step}
 use Rattle.parse.proofs.tree.Splice.{header}
@@ -107,7 +107,7 @@ module _ {x : Text} {st r : State} {F : Option Fault} {K : ℕ} {N : ℕ → Typ
 
   -- With the words of what lies below arranged, and the header written over them.
   pub shuts-as : {l₂ l′ : List ℕ} {z : ℕ} {st₂ : State} {I : Info} {a b : ℕ} → I (raw x (st .at) (shape.sub k (d .pre) shape.nil)) (sub K low high (d .L) own.none) 0 a b → length l₂ ≡ length l
-      → (recWide * st₁ .out ≤ length l → l₂ ≡ sets l (recWide * r .out) (concat (arrange (turned K (d .L)) (wordGroups (d .L)))))
+      → (Each Holds (d .L) → recWide * st₁ .out ≤ length l → l₂ ≡ sets l (recWide * r .out) (concat (arrange (turned K (d .L)) (wordGroups (d .L)))))
       → Put l₂ (st .out) K (st .start) (st₁ .end) low high z l′ → z ≡ st₁ .out - st .out → Ends st₁ st₂ → Stands x st₂
       → kept st₂ ≡ sooner (kept st) (faultIn x (st .at) (shape.sub k (d .pre) shape.nil)) → Went x rhs (asNode k) I st l st₂ l′ a b
   unfolding shape.yield
@@ -131,10 +131,10 @@ module _ {x : Text} {st r : State} {F : Option Fault} {K : ℕ} {N : ℕ → Typ
           sized = omega arith;
           few = omega arith;
           long = put .long ∙ long;
-          laid = λ g.
+          laid = λ v g.
               let h : recWide * st₁ .out ≤ length l = omega arith in
               let q : recWide * st .out + recWide ≤ length l = omega arith in
-              header l body (st .out) K (st .start) (st₁ .end) low high z (text h ∙ ap (λ i. sets l (recWide * i) body) o₂) put q
+              header l body (st .out) K (st .start) (st₁ .end) low high z (text (v .1) h ∙ ap (λ i. sets l (recWide * i) body) o₂) put (v .0) q
               ∙ (λ j. sets l (recWide * st .out) (recThen K (its-start j) (its-end j) low high ((hz ∙ size) j) (sym (append-nil body) j)));
           worst = f;
           stands = s;
@@ -147,7 +147,7 @@ module _ {x : Text} {st r : State} {F : Option Fault} {K : ℕ} {N : ℕ → Typ
 
   -- The same, with the node as it is.
   pub shuts-in : {l₂ l′ : List ℕ} {z : ℕ} {st₂ : State} (P : ℕ → Type 0) → P K → length l₂ ≡ length l
-      → (recWide * st₁ .out ≤ length l → l₂ ≡ sets l (recWide * r .out) (concat (arrange (turned K (d .L)) (wordGroups (d .L)))))
+      → (Each Holds (d .L) → recWide * st₁ .out ≤ length l → l₂ ≡ sets l (recWide * r .out) (concat (arrange (turned K (d .L)) (wordGroups (d .L)))))
       → Put l₂ (st .out) K (st .start) (st₁ .end) low high z l′ → z ≡ st₁ .out - st .out → Ends st₁ st₂ → Stands x st₂
       → kept st₂ ≡ sooner (kept st) (faultIn x (st .at) (shape.sub k (d .pre) shape.nil)) → Went x rhs (asNode k) (Node P) st l st₂ l′ 0 0
   shuts-in P p = shuts-as (record { kind = K; low = low; high = high; js = d .L; raw-is = its-raw; laid-is = refl; none-left = refl; its-kind = p })
@@ -160,7 +160,7 @@ module _ {x : Text} {st r : State} {K : ℕ} {N : ℕ → Type 0} {rhs : List Sy
   unfolding earliest
   shuts k y o d one hd hn hf ht P p put hz =
       shuts-in k y o d one hd hn P p (d .lays .long)
-      (λ h. d .lays .laid h ∙ ap (λ b. sets l (recWide * r .out) (concat (arrange b (wordGroups (d .L))))) (sym ht))
+      (λ v h. d .lays .laid v h ∙ ap (λ b. sets l (recWide * r .out) (concat (arrange b (wordGroups (d .L))))) (sym ht))
       put hz (record { at-is = refl; out-is = refl }) (d .lays .stands)
       (d .lays .worst ∙ ap₂ sooner (o .kept-is) (sym (its-fault k y o d one hd hn ∙ ap (λ u. sooner (earliest u) (faultIn x (r .at) (d .pre))) (hf (raw x (r .at) (d .pre))))))
 

@@ -6,12 +6,13 @@ use mathlib.Core.Option.{Option, none, some}
 use mathlib.Core.Path.{_≡_, refl, sym, ap, ap₂, _∙_, subst}
 use Prim.Native.Nat.{ℕ, zero, suc, _+_, _*_, _-_, _≤_, _<_}
 use native.Mathlib.Omega.{arith}
+use borrow.Author.Tests.{ne-eqb}
 use lib.Dec.{T, eqb}
 use lib.ListN.{length, getD}
 use lib.Seq.{sets}
 use Rattle.text.specs.Table.{not-true}
 use Rattle.text.specs.Part.{partOf}
-use Rattle.num.specs.Value.{numberOf}
+use Rattle.num.specs.Value.{decimalOf, fitted, numberOf}
 use Rattle.num.specs.declared.Value.{Value}
 use Rattle.theory.specs.Grammar.{Sym}
 use Rattle.theory.specs.Ebnf as shape
@@ -23,9 +24,9 @@ use Rattle.own.specs.Flat.{no-token}
 use Rattle.own.specs.Law.{Sort, word, child, sorts}
 use Rattle.own.specs.Kinds as kind
 use Rattle.lexer.specs.Classes as t
-use Rattle.grammar.specs.records.Records.{Head, head, firstOf, textOf, reads}
-use Rattle.grammar.specs.records.Faults.{faultsBy, refusedOf, faultsAt, earliest}
-use Rattle.grammar.specs.shapes.Row.{Refused, never, byBound, byFold, byArms}
+use Rattle.grammar.specs.records.Records.{Head, head, firstOf, textOf}
+use Rattle.grammar.specs.records.Faults.{unless, faultsBy, refusedOf, faultsAt, earlier, earliest}
+use Rattle.grammar.specs.shapes.Row.{Refused, never, byBound, byLength, byFold, byArms}
 use Rattle.parse.specs.Contract.{Text, text, classes, tokAt, raw, faultIn, sooner, fault, Judged, kept, Stands, Ready, Put, asNode, Went, Node, valueAt}
 use Rattle.parse.specs.declared.State.{State}
 use Rattle.parse.proofs.rule.Amid.{Amid}
@@ -37,6 +38,7 @@ use Rattle.parse.proofs.rule.Commas.{AnyN}
 abbrev pub spared : Refused → Bool
 spared never = true
 spared byBound = false
+spared byLength = false
 spared byFold = false
 spared byArms = false
 
@@ -50,6 +52,7 @@ no-fault draft k is h = go (refusedOf k) h
     go : (r : Refused) → T (spared r) → faultsBy r draft is ≡ []
     go never t = refl
     go byBound t = absurd t
+    go byLength t = absurd t
     go byFold t = absurd t
     go byArms t = absurd t
 
@@ -87,15 +90,15 @@ first-place c (sub k l h js r) = first-place c r
 
 -- The number of the decimal among the tokens, by its place among them.
 pub number-at : {x : Text} {K : ℕ} {N : ℕ → Type 0} {full left : List Sym} {st : State} {l : List ℕ} {w : List Sort} {ms : List Tok} {m : ℕ} {st₁ : State} {l₁ : List ℕ}
-    → Amid x K N full left st l w ms m st₁ l₁ → numberIn x ms ≡ reads (numberOf (textOf (x .draft) (getD ms (place t.DecLiteral (wordsIn w)) no-token)))
+    → Amid x K N full left st l w ms m st₁ l₁ → numberIn x ms ≡ decimalOf (textOf (x .draft) (getD ms (place t.DecLiteral (wordsIn w)) no-token))
 number-at {x} {st = st} d =
-    ap (numberIn x) (sym (d .marked)) ∙ ap (λ t. reads (numberOf (textOf (x .draft) t))) (first-place t.DecLiteral (raw x (st .at) (d .pre)))
-    ∙ ap₂ (λ (u : List Tok) (v : List Sort). reads (numberOf (textOf (x .draft) (getD u (place t.DecLiteral (wordsIn v)) no-token)))) (d .marked) (d .sorted)
+    ap (numberIn x) (sym (d .marked)) ∙ ap (λ t. decimalOf (textOf (x .draft) t)) (first-place t.DecLiteral (raw x (st .at) (d .pre)))
+    ∙ ap₂ (λ (u : List Tok) (v : List Sort). decimalOf (textOf (x .draft) (getD u (place t.DecLiteral (wordsIn v)) no-token))) (d .marked) (d .sorted)
 
 -- The number of the token where a state stands.
-pub value-is : (d w : List ℕ) (n : ℕ) {st : State} {v : Value} → Stands (text d w n) st → v ≡ numberOf (partOf d (st .start) (st .stop)) → reads v ≡ valueAt (text d w n) (st .at)
-unfolding text textOf
-value-is d w n s e = ap reads e ∙ ap₂ (λ (a b : ℕ). reads (numberOf (partOf d a b))) (s .start-is) (s .stop-is)
+pub value-is : (d w : List ℕ) (n : ℕ) {st : State} {v : Value} → Stands (text d w n) st → v ≡ numberOf (partOf d (st .start) (st .stop)) → v ≡ fitted (valueAt (text d w n) (st .at))
+unfolding text textOf numberOf
+value-is d w n s e = e ∙ ap₂ (λ (a b : ℕ). fitted (decimalOf (partOf d a b))) (s .start-is) (s .stop-is)
 
 -- The state with a refusal judged stands where it stood.
 judged-stands : {x : Text} {outer inner r : State} {n p : ℕ} → Stands x inner → Judged outer inner n p r → Stands x r
@@ -125,7 +128,7 @@ module _ {x : Text} {st r : State} {K : ℕ} {N : ℕ → Type 0} {rhs : List Sy
       → ((is : Items) → sorts is ≡ w → marks is ≡ ms → earliest (faultsAt (x .draft) k is) ≡ fault number place) → Went x rhs (asNode k) (Node P) st l st₂ l′ 0 0
   shut-judged k y o d one hd hn t P p put j own =
       shuts-in k y o d one hd hn P p (d .lays .long)
-      (λ h. d .lays .laid h ∙ ap (λ b. sets l (recWide * r .out) (concat (arrange b (wordGroups (d .L))))) (sym (unturned K (d .L) t)))
+      (λ n h. d .lays .laid n h ∙ ap (λ b. sets l (recWide * r .out) (concat (arrange b (wordGroups (d .L))))) (sym (unturned K (d .L) t)))
       put refl (record { at-is = j .at-is; out-is = j .out-is }) (judged-stands (d .lays .stands) j)
       (judged-kept k y o d one hd hn j own)
 
@@ -137,3 +140,9 @@ value-text d w n s e = e ∙ ap₂ (λ (a b : ℕ). numberOf (partOf d a b)) (s 
 -- The decimal among the tokens, by its place among them.
 pub first-is : (is : Items) {w : List Sort} {ms : List Tok} → sorts is ≡ w → marks is ≡ ms → firstOf t.DecLiteral (marks is) ≡ getD ms (place t.DecLiteral (wordsIn w)) no-token
 first-is is e f = first-place t.DecLiteral is ∙ ap₂ (λ (u : List Tok) (v : List Sort). getD u (place t.DecLiteral (wordsIn v)) no-token) f e
+
+-- The refusal of a number that fails its test.
+pub unless-is : (y : Tok) (b : Bool) (n : ℕ) → (n ≡ 0 → ⊥) → earliest (unless b n y) ≡ fault (cond b 0 n) (y .start)
+unfolding unless earliest earlier fault
+unless-is y true n h = refl
+unless-is y false n h = ap (λ (b : Bool). cond b none (some (record { number = n; place = y .start }))) (sym (ne-eqb n 0 h))

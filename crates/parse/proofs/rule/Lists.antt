@@ -13,11 +13,11 @@ use lib.Seq.{drop-drop}
 use Rattle.theory.specs.Ebnf as shape
 use Rattle.theory.specs.Walk.{join}
 use Rattle.own.specs.Tree as own
-use Rattle.own.specs.Tree.{Tok, Items, mark, sub, marks, turned, arrange, exchange, concat}
+use Rattle.own.specs.Tree.{Tok, Items, mark, sub, Node, Each, marks, turned, arrange, exchange, concat}
 use Rattle.own.specs.Law.{Sort, sorts}
 use Rattle.text.specs.Widths.{recWide}
 use Rattle.own.specs.Words.{recThen, sizes, wordGroups}
-use Rattle.grammar.specs.records.Records.{Role, aMark, asName, asNumber, roleOf, placed, arranged, reads, decimal, firstTok, headFor, recorded, recordItems}
+use Rattle.grammar.specs.records.Records.{Role, aMark, asName, asNumber, roleOf, placed, arranged, decimal, firstTok, headFor, recorded, recordItems}
 use Rattle.grammar.specs.records.Faults.{Fault, faultsAt, faults, earlier, earliest}
 use Rattle.parse.specs.Contract.{Text, raw, faultIn, sooner}
 
@@ -72,6 +72,12 @@ concat-append (x ∷ a) b = ap (λ l. x ++ l) (concat-append a b) ∙ sym (appen
 pub words-joined : (r s : Items) → concat (wordGroups (joined r s)) ≡ concat (wordGroups r) ++ concat (wordGroups s)
 words-joined r s = ap concat (groups-joined r s) ∙ concat-append (wordGroups r) (wordGroups s)
 
+-- what holds of every record beneath
+pub each-joined : (P : Node → Type 0) (r s : Items) → Each P (joined r s) → Each P r × Each P s
+each-joined P own.none s h = (tt, h)
+each-joined P (mark t r) s h = each-joined P r s h
+each-joined P (sub k l i js r) s h = let b = each-joined P r s (h .2) in ((h .0, h .1, b .0), b .1)
+
 length-arranged : (b : Bool) (gs : List (List ℕ)) → length (concat (arrange b gs)) ≡ length (concat gs)
 length-arranged false gs = refl
 length-arranged true [] = refl
@@ -113,7 +119,7 @@ items-join draft (shape.sub k js r) u ts =
     let n = length (shape.yield js) in
     let is = recordItems draft js ts in
     let e : drop (length (shape.yield r)) (drop n ts) ≡ drop (length (shape.yield js ++ shape.yield r)) ts = drops n (length (shape.yield r)) ts ∙ ap (λ i. drop i ts) (sym (length-append (shape.yield js) (shape.yield r))) in
-    ap (recorded (reads (decimal draft is)) (headFor draft k is) is)
+    ap (recorded (decimal draft is) (headFor draft k is) is)
     (items-join draft r u (drop n ts) ∙ ap (λ l. joined (recordItems draft r (drop n ts)) (recordItems draft u l)) e)
 
 pub raw-join : (x : Text) (at : ℕ) (r u : shape.Items) → raw x at (join r u) ≡ joined (raw x at r) (raw x (at + length (shape.yield r)) u)

@@ -8,7 +8,7 @@ use Prim.Native.Nat.{ℕ, zero, suc, _+_, _*_, _-_, _%_, _≤_, _<_}
 use native.Mathlib.Omega.{arith}
 use lib.ListN.{length, getD, drop, take, length-append, length-drop, take-append-drop}
 use lib.Seq.{sets, drop-cons, length-take-le}
-use Rattle.num.specs.Value.{numberOf}
+use Rattle.num.specs.Value.{decimalOf}
 use Rattle.theory.specs.Grammar.{Sym, tok, nt}
 use Rattle.theory.specs.Machine.{expand}
 use Rattle.theory.specs.Ebnf as shape
@@ -23,7 +23,7 @@ use Rattle.text.specs.Widths.{recWide}
 use Rattle.own.specs.Words.{recThen, sizes, wordGroups}
 use Rattle.own.specs.WordLaws.{place-start, place-stop}
 use Rattle.grammar.specs.shapes.Tables.{means, table}
-use Rattle.grammar.specs.records.Records.{Head, head, Role, aMark, asName, asNumber, roleOf, placed, arranged, firstTok, firstOf, textOf, reads, decimal, headOf, formOf, headFor, recorded, recordItems}
+use Rattle.grammar.specs.records.Records.{Head, head, Role, aMark, asName, asNumber, roleOf, placed, arranged, firstTok, firstOf, textOf, decimal, headOf, formOf, headFor, recorded, recordItems}
 use Rattle.grammar.specs.records.Faults.{Fault, faultsAt, faults, earliest}
 use Rattle.grammar.specs.spelled.TreeTokens.{length-classes, yield-arranged, yield-records}
 use Rattle.lexer.specs.Classes as t
@@ -81,7 +81,7 @@ module _ {x : Text} {st st′ : State} (h : Stands x st) (i : st .at < length (x
         sized = omega arith;
         few = omega arith;
         long = refl;
-        laid = λ g. refl;
+        laid = λ n g. refl;
         worst = v .kept-is ∙ sym (sooner-none (kept st)) ∙ ap (sooner (kept st)) (sym (no-faults x (st .at) c));
         stands = moved;
       }
@@ -113,7 +113,7 @@ module _ {x : Text} {st st′ : State} (h : Stands x st) (i : st .at < length (x
           sized = omega arith;
           few = omega arith;
           long = put .long;
-          laid = λ g. put .put (omega arith)
+          laid = λ n g. put .put (n .0) (omega arith)
               ∙ (λ j. sets l (recWide * o j) (recThen kind (h .start-is j) (h .stop-is j) low high 1 []))
               ∙ ap (sets l (recWide * st .out)) (sym (leaf-words kind low high (tokAt x (st .at))));
           worst = k₂ ∙ v .kept-is ∙ sym (sooner-none (kept st)) ∙ ap (sooner (kept st)) (sym (no-faults x (st .at) c));
@@ -176,7 +176,7 @@ module _ (x : Text) (at : ℕ) (r : shape.Items) (h : at + length (shape.yield r
 
 -- The number among the tokens of a record.
 abbrev pub numberIn : Text → List Tok → ℕ
-numberIn x ms = reads (numberOf (textOf (x .draft) (firstOf t.DecLiteral ms)))
+numberIn x ms = decimalOf (textOf (x .draft) (firstOf t.DecLiteral ms))
 
 -- The head that the pieces and the tokens of a shape decide.
 abbrev pub decided : Text → ℕ → List Sort → List Tok → Head
@@ -188,7 +188,7 @@ module _ (x : Text) (at k : ℕ) (pre : shape.Items) (K low high : ℕ) {w : Lis
   unfolding headFor decimal
   its-head = ap₂ (λ (u : List Sort) (v : List Tok). decided x k u v) sorted marked ∙ hd
 
-  its-number : reads (decimal (x .draft) (raw x at pre)) ≡ numberIn x ms
+  its-number : decimal (x .draft) (raw x at pre) ≡ numberIn x ms
   unfolding decimal
   its-number = ap (numberIn x) marked
 

@@ -9,7 +9,7 @@ use lib.Seq.{sets, sets-eq, length-sets, set-comm, take-at, drop-at, length-take
 use Rattle.text.specs.Widths.{recWide}
 use Rattle.text.specs.Sets.{sets-append}
 use Rattle.own.specs.Words.{recThen}
-use Rattle.parse.specs.Contract.{Put}
+use Rattle.parse.specs.Contract.{Halved, Put}
 
 -- a word in front can be written last
 sets-set : (ws l : List ℕ) (i j x : ℕ) → i < j → sets (set l i x) j ws ≡ set (sets l j ws) i x
@@ -23,12 +23,12 @@ sets-sets [] ws l i j h = refl
 sets-sets (v ∷ vs) ws l i j h = sets-sets vs ws (set l i v) (suc i) j (omega arith) ∙ ap (λ (m : List ℕ). sets m (suc i) vs) (sets-set ws l i j v (omega arith))
 
 -- The header law: a record written after what lies below it.
-pub header : (l : List ℕ) {l₁ l′ : List ℕ} (ws : List ℕ) (out k b e low high z : ℕ) → l₁ ≡ sets l (recWide * (out + 1)) ws → Put l₁ out k b e low high z l′ → recWide * out + recWide ≤ length l
+pub header : (l : List ℕ) {l₁ l′ : List ℕ} (ws : List ℕ) (out k b e low high z : ℕ) → l₁ ≡ sets l (recWide * (out + 1)) ws → Put l₁ out k b e low high z l′ → Halved k low high → recWide * out + recWide ≤ length l
     → l′ ≡ sets l (recWide * out) (recThen k b e low high z ws)
-header l {l₁} ws out k b e low high z p q h =
+header l {l₁} ws out k b e low high z p q hold h =
     let hd : List ℕ = recThen k b e low high z [] in
     let n : length l₁ ≡ length l = ap length p ∙ length-sets l (recWide * (out + 1)) ws in
-    q .put (omega arith) ∙ ap (λ (m : List ℕ). sets m (recWide * out) hd) p ∙ sym (sets-sets hd ws l (recWide * out) (recWide * (out + 1)) (omega arith))
+    q .put hold (omega arith) ∙ ap (λ (m : List ℕ). sets m (recWide * out) hd) p ∙ sym (sets-sets hd ws l (recWide * out) (recWide * (out + 1)) (omega arith))
     ∙ ap (λ (j : ℕ). sets (sets l (recWide * out) hd) j ws) (omega arith) ∙ sym (sets-append hd ws l (recWide * out))
 
 -- the part of a buffer where two runs stand, turned round

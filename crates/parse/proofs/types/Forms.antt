@@ -12,11 +12,10 @@ use lib.ListN.{length, take, drop, getD, getElem?}
 use Rattle.text.specs.Part.{partOf}
 use Rattle.text.specs.Refusals as refusal
 use Rattle.text.specs.Lists.{has}
-use Rattle.num.specs.Value as numbers
 use Rattle.num.specs.Digits as digits
-use Rattle.num.specs.Value.{numberOf}
+use Rattle.num.specs.Value.{decimalFrom, decimalOf, numberOf}
 use Rattle.num.specs.declared.Value.{Value}
-use Rattle.num.specs.Bound.{boundOk}
+use Rattle.num.specs.Bound.{boundOk, lengthOk}
 use Rattle.words.specs.Words.{BOOL, UINT_TYPES, BUILTIN_ALIASES, wordOf}
 use Rattle.words.specs.declared.Found.{Found}
 use Rattle.words.specs.declared.Found.the-variants.{Word, Plain}
@@ -32,11 +31,11 @@ use Rattle.own.specs.Law.{Sort, word, child, sorts}
 use Rattle.own.specs.Kinds as kind
 use Rattle.grammar.specs.shapes.Shapes.{shapes}
 use Rattle.grammar.specs.shapes.Tables.{means, table}
-use Rattle.grammar.specs.records.Records.{Head, head, wide, plain, sees, headOf, formOf, lowHalf, highHalf, typeName, patternName, textOf, firstTok, firstOf, opening, reads, decimal, builtinType, unsignedType, boolType, Role, aMark, roleOf}
+use Rattle.grammar.specs.records.Records.{Head, head, wide, plain, sees, headOf, formOf, lowHalf, highHalf, typeName, patternName, textOf, firstTok, firstOf, opening, decimal, builtinType, unsignedType, boolType, Role, aMark, roleOf}
 use Rattle.grammar.specs.records.Faults.{unless, faultsAt, earliest, earlier}
 use Rattle.grammar.specs.shapes.ShapeKind.{ArrayTypeShape, EitherTypeShape, ListTypeShape, NamedTypeShape, OptionTypeShape, TupleTypeShape}
 use Rattle.grammar.specs.shapes.TablesIndex.{n-eitherType-optional-LAngle, n-list-type, n-listType-optional-LAngle, n-namedType, n-optionType-optional-LAngle, n-tail-type, n-type}
-use Rattle.parse.specs.Contract.{Text, text, tokAt, Stands, fault, boundFault, Judged}
+use Rattle.parse.specs.Contract.{Text, text, tokAt, Stands, fault, boundFault, lengthFault, Judged}
 use Rattle.parse.specs.declared.State.{State}
 use Rattle.parse.specs.Choice as choice
 use Rattle.parse.proofs.rule.ByClass.{run}
@@ -45,6 +44,7 @@ use Rattle.parse.proofs.rule.Marks.{keeping, keeping-mark, keeps-betwee
 use Rattle.parse.proofs.rule.Amid.{Amid}
 use Rattle.parse.proofs.rule.Steps.{numberIn, decided}
 use Rattle.parse.proofs.rule.Closing.{Rule}
+use Rattle.parse.proofs.rule.Heads.{unless-is}
 use Rattle.parse.proofs.rule.Commas.{Rows}
 
 -- The rules of types.
@@ -225,9 +225,9 @@ pub wide-is : {H : Head} {K n u low high : ℕ} → H ≡ wide K n → n ≡ u �
 wide-is {K = K} e f p q = e ∙ ap (wide K) f ∙ ap₂ (head K) (sym p) (sym q)
 
 -- Without a decimal the number is 0.
-pub no-value : (draft : List ℕ) → reads (numberOf (textOf draft no-token)) ≡ 0
-unfolding reads numberOf textOf partOf numbers.fitted numbers.decimalFrom digits.plain
-no-value draft = ap (λ (p : List ℕ). reads (numberOf p)) (go (leb 0 0 && leb 0 (length draft)))
+pub no-value : (draft : List ℕ) → decimalOf (textOf draft no-token) ≡ 0
+unfolding decimalOf textOf partOf decimalFrom digits.plain
+no-value draft = ap decimalOf (go (leb 0 0 && leb 0 (length draft)))
   where
     go : (b : Bool) → cond b (take (0 - 0) (drop 0 draft)) [] ≡ []
     go true = refl
@@ -241,21 +241,23 @@ pub zero-high : 0 ≡ highHalf 0
 unfolding highHalf
 zero-high = refl
 
--- The refusal of a List's bound.
+-- The refusals of a List's bound and of an array's length.
 module _ (draft : List ℕ) where
-  judged : (v : Value) (y : Tok) (b : Bool) → boundOk v ≡ b → earliest (unless b refusal.Bound y) ≡ fault (cond b 0 refusal.Bound) (y .start)
-  unfolding unless earliest earlier fault
-  judged v y true e = refl
-  judged v y false e = refl
-
   pub list-fault : (is : Items) {w : List Sort} (v : Value) (y : Tok) → sorts is ≡ word t.List ∷ word t.LAngle ∷ w → firstOf t.DecLiteral (marks is) ≡ y → v ≡ numberOf (textOf draft y) → earliest (faultsAt draft ListTypeShape is) ≡ fault (boundFault v) (y .start)
-  unfolding faultsAt sees decimal boundFault
+  unfolding faultsAt sees decimal numberOf boundFault
   list-fault is {w} v y e f g =
-      (λ i. earliest (unless (not (sees t.LAngle (e i)) || boundOk (numberOf (textOf draft (f i)))) refusal.Bound (f i))) ∙ (λ i. earliest (unless (boundOk (sym g i)) refusal.Bound y)) ∙ judged v y (boundOk v) refl
+      (λ i. earliest (unless (not (sees t.LAngle (e i)) || boundOk (numberOf (textOf draft (f i)))) refusal.Bound (f i))) ∙ (λ i. earliest (unless (boundOk (sym g i)) refusal.Bound y))
+      ∙ unless-is y (boundOk v) refusal.Bound (λ q. omega arith)
 
   pub list-alone-fault : (is : Items) → sorts is ≡ word t.List ∷ [] → earliest (faultsAt draft ListTypeShape is) ≡ fault 0 0
-  unfolding faultsAt sees decimal unless earliest fault
+  unfolding faultsAt sees decimal numberOf unless earliest fault
   list-alone-fault is e = λ i. earliest (unless (not (sees t.LAngle (e i)) || boundOk (numberOf (textOf draft (firstOf t.DecLiteral (marks is))))) refusal.Bound (firstOf t.DecLiteral (marks is)))
+
+  pub array-fault : (is : Items) (v : Value) (y : Tok) → firstOf t.DecLiteral (marks is) ≡ y → v ≡ numberOf (textOf draft y) → earliest (faultsAt draft ArrayTypeShape is) ≡ fault (lengthFault v) (y .start)
+  unfolding faultsAt decimal numberOf lengthFault
+  array-fault is v y f g =
+      (λ i. earliest (unless (lengthOk (numberOf (textOf draft (f i)))) refusal.Length (f i))) ∙ (λ i. earliest (unless (lengthOk (sym g i)) refusal.Length y))
+      ∙ unless-is y (lengthOk v) refusal.Length (λ q. omega arith)
 
 -- The refusal of a number stands at its token.
 pub judged-at : {outer inner r : State} {n n′ p p′ : ℕ} → Judged outer inner n p r → n ≡ n′ → p ≡ p′ → Judged outer inner n′ p′ r

@@ -66,10 +66,10 @@ same-length : tie.Need-same-length
 same-length c = search needs
 
 returns : tie.Need-returns
-returns c = record { long = simp length-set; put = λ h. rw (add-one, add-two, add-three, add-four, add-five) refl }
+returns c = record { long = simp length-set; put = λ n h. rw (add-one, add-two, add-three, add-four, add-five) refl }
 
 returns-2 : tie.Need-returns-2
-returns-2 c = record { long = refl; put = λ h. absurd (omega arith) }
+returns-2 c = record { long = refl; put = λ n h. absurd (omega arith) }
 
 pub put-spec : {M : Type 1} → statement M
 put-spec =

@@ -19,7 +19,7 @@ use Rattle.text.specs.Part.{partOf}
 use Rattle.theory.specs.Walk.{k-nt}
 use Rattle.theory.specs.Machine.{expand}
 use Rattle.grammar.specs.shapes.Tables.{table}
-use Rattle.parse.specs.Contract.{text, tokAt, Ready, Parsed, read, stuck, Node, TypeKind, Commas}
+use Rattle.parse.specs.Contract.{text, tokAt, Ready, Parsed, read, stuck, Node, TypeKind, Commas, valueAt}
 use Rattle.parse.proofs.rule.Amid.{Amid, starts, then-turns, then-passed}
 use Rattle.parse.proofs.rule.Closing.{opens, opens-clean, as-nonterminal, enters}
 use Rattle.parse.proofs.rule.Chain.{further, advances, advances-one, then-eats, then-lacks, then-node}
@@ -28,6 +28,7 @@ use Rattle.parse.proofs.rule.Marks.{sign-mark, keeping-mark}
 use Rattle.parse.proofs.rule.Commas.{AnyN, Lined}
 use Rattle.parse.proofs.rule.Commas as lined
 use Rattle.parse.proofs.rule.Heads.{shut, shut-judged, number-at, value-is, value-text, first-is}
+use Rattle.parse.proofs.tree.Numbers.{array-numbered, list-numbered, put-number}
 use Rattle.parse.proofs.types.Forms as form
 use Rattle.lexer.specs.Classes as class
 use Rattle.own.specs.Kinds as kind
@@ -60,12 +61,12 @@ use Rattle.parse.proofs.choice.types.Reads as types-reads
 use Rattle.parse.proofs.fault.bound.Reads as bound-reads
 use Rattle.parse.proofs.fault.clean.Reads as clean-reads
 use Rattle.parse.proofs.fault.judged.Reads as judged-reads
-use Rattle.parse.proofs.names.high.Reads as high-reads
-use Rattle.parse.proofs.names.low.Reads as low-reads
+use Rattle.parse.proofs.fault.length.Reads as length-reads
 use Rattle.parse.proofs.names.number.Reads as number-reads
 use Rattle.parse.proofs.token.advance.Reads as advance-reads
 use Rattle.parse.proofs.token.eat.Reads as eat-reads
 use Rattle.parse.proofs.tree.close.Reads as close-reads
+use Rattle.parse.proofs.tree.close_number.Reads as close-number-reads
 use Rattle.parse.proofs.tree.reserve.Reads as reserve-reads
 use Rattle.parse.proofs.types.named.Reads as named-reads
 use Rattle.parse.proofs.types.+array+either+list+option+tuple+ty+types.{statement}
@@ -83,9 +84,9 @@ pub +array+either+list+option+tuple+ty+types-spec : {M : Type 1} → statement M
 +array+either+list+option+tuple+ty+types-spec =
     close μ-array μ-either μ-list μ-option μ-tuple μ-ty μ-types
     (λ t. array-lts.spec (array-calls t) (array-at t) array.Post
-    (Of-array.array-reserve-requires t) (Of-array.array-advance-requires t) (Of-array.array-ty-requires t) (Of-array.array-enum-known-inner t) (Of-array.array-enum-told t) (Of-array.array-same-length t) (Of-array.array-returns t) (Of-array.array-eat-requires t) (Of-array.array-enum-known-semi t) (Of-array.array-enum-told-2 t) (Of-array.array-same-length-2 t)
-    (Of-array.array-returns-2 t) (Of-array.array-eat-requires-2 t) (Of-array.array-enum-known-decimal t) (Of-array.array-enum-told-3 t) (Of-array.array-same-length-3 t) (Of-array.array-returns-3 t) (Of-array.array-eat-requires-3 t) (Of-array.array-enum-known-bracket t) (Of-array.array-enum-told-4 t) (Of-array.array-same-length-4 t) (Of-array.array-returns-4 t)
-    (Of-array.array-number-requires t) (Of-array.array-low-requires t) (Of-array.array-high-requires t) (Of-array.array-close-requires t) (Of-array.array-same-length-5 t) (Of-array.array-returns-5 t))
+    (Of-array.array-clean-requires t) (Of-array.array-reserve-requires t) (Of-array.array-advance-requires t) (Of-array.array-ty-requires t) (Of-array.array-enum-known-inner t) (Of-array.array-enum-told t) (Of-array.array-same-length t) (Of-array.array-returns t) (Of-array.array-eat-requires t) (Of-array.array-enum-known-semi t) (Of-array.array-enum-told-2 t)
+    (Of-array.array-same-length-2 t) (Of-array.array-returns-2 t) (Of-array.array-eat-requires-2 t) (Of-array.array-enum-known-decimal t) (Of-array.array-enum-told-3 t) (Of-array.array-same-length-3 t) (Of-array.array-returns-3 t) (Of-array.array-eat-requires-3 t) (Of-array.array-enum-known-bracket t) (Of-array.array-enum-told-4 t) (Of-array.array-same-length-4 t)
+    (Of-array.array-returns-4 t) (Of-array.array-number-requires t) (Of-array.array-close-number-requires t) (Of-array.array-length-requires t) (Of-array.array-judged-requires t) (Of-array.array-same-length-5 t) (Of-array.array-returns-5 t))
     (λ t. either-lts.spec (either-calls t) (either-at t) either.Post
     (Of-either.either-reserve-requires t) (Of-either.either-advance-requires t) (Of-either.either-close-requires t) (Of-either.either-same-length t) (Of-either.either-returns t) (Of-either.either-advance-requires-2 t) (Of-either.either-ty-requires t) (Of-either.either-enum-known-left t) (Of-either.either-enum-told t) (Of-either.either-same-length-2 t)
     (Of-either.either-returns-2 t) (Of-either.either-eat-requires t) (Of-either.either-enum-known-comma t) (Of-either.either-enum-told-2 t) (Of-either.either-same-length-3 t) (Of-either.either-returns-3 t) (Of-either.either-ty-requires-2 t) (Of-either.either-enum-known-right t) (Of-either.either-enum-told-3 t) (Of-either.either-same-length-4 t)
@@ -93,8 +94,7 @@ pub +array+either+list+option+tuple+ty+types-spec : {M : Type 1} → statement M
     (λ t. list-lts.spec (list-calls t) (list-at t) list.Post
     (Of-list.list-clean-requires t) (Of-list.list-reserve-requires t) (Of-list.list-advance-requires t) (Of-list.list-close-requires t) (Of-list.list-judged-requires t) (Of-list.list-same-length t) (Of-list.list-returns t) (Of-list.list-advance-requires-2 t) (Of-list.list-ty-requires t) (Of-list.list-enum-known-inner t) (Of-list.list-enum-told t)
     (Of-list.list-same-length-2 t) (Of-list.list-returns-2 t) (Of-list.list-eat-requires t) (Of-list.list-enum-known-comma t) (Of-list.list-enum-told-2 t) (Of-list.list-same-length-3 t) (Of-list.list-returns-3 t) (Of-list.list-eat-requires-2 t) (Of-list.list-enum-known-decimal t) (Of-list.list-enum-told-3 t) (Of-list.list-same-length-4 t) (Of-list.list-returns-4 t)
-    (Of-list.list-eat-requires-3 t) (Of-list.list-enum-known-angle t) (Of-list.list-enum-told-4 t) (Of-list.list-same-length-5 t) (Of-list.list-returns-5 t) (Of-list.list-number-requires t) (Of-list.list-low-requires t) (Of-list.list-high-requires t) (Of-list.list-close-requires-2 t) (Of-list.list-bound-requires t) (Of-list.list-judged-requires-2 t)
-    (Of-list.list-same-length-6 t) (Of-list.list-returns-6 t))
+    (Of-list.list-eat-requires-3 t) (Of-list.list-enum-known-angle t) (Of-list.list-enum-told-4 t) (Of-list.list-same-length-5 t) (Of-list.list-returns-5 t) (Of-list.list-number-requires t) (Of-list.list-close-number-requires t) (Of-list.list-bound-requires t) (Of-list.list-judged-requires-2 t) (Of-list.list-same-length-6 t) (Of-list.list-returns-6 t))
     (λ t. option-lts.spec (option-calls t) (option-at t) option.Post
     (Of-option.option-reserve-requires t) (Of-option.option-advance-requires t) (Of-option.option-close-requires t) (Of-option.option-same-length t) (Of-option.option-returns t) (Of-option.option-advance-requires-2 t) (Of-option.option-ty-requires t) (Of-option.option-enum-known-inner t) (Of-option.option-enum-told t) (Of-option.option-same-length-2 t)
     (Of-option.option-returns-2 t) (Of-option.option-eat-requires t) (Of-option.option-enum-known-angle t) (Of-option.option-enum-told-2 t) (Of-option.option-same-length-3 t) (Of-option.option-returns-3 t) (Of-option.option-close-requires-2 t) (Of-option.option-same-length-4 t) (Of-option.option-returns-4 t))

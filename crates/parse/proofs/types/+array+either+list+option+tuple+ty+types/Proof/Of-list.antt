@@ -11,7 +11,7 @@ use Rattle.text.specs.Part.{partOf}
 use Rattle.theory.specs.Walk.{k-nt}
 use Rattle.theory.specs.Machine.{expand}
 use Rattle.grammar.specs.shapes.Tables.{table}
-use Rattle.parse.specs.Contract.{text, tokAt, Ready, Parsed, read, stuck, Node, TypeKind, Commas}
+use Rattle.parse.specs.Contract.{text, tokAt, Ready, Parsed, read, stuck, Node, TypeKind, Commas, valueAt}
 use Rattle.parse.proofs.rule.Amid.{Amid, starts, then-turns, then-passed}
 use Rattle.parse.proofs.rule.Closing.{opens, opens-clean, as-nonterminal, enters}
 use Rattle.parse.proofs.rule.Chain.{further, advances, advances-one, then-eats, then-lacks, then-node}
@@ -20,6 +20,7 @@ use Rattle.parse.proofs.rule.Marks.{sign-mark, keeping-mark}
 use Rattle.parse.proofs.rule.Commas.{AnyN, Lined}
 use Rattle.parse.proofs.rule.Commas as lined
 use Rattle.parse.proofs.rule.Heads.{shut, shut-judged, number-at, value-is, value-text, first-is}
+use Rattle.parse.proofs.tree.Numbers.{array-numbered, list-numbered, put-number}
 use Rattle.parse.proofs.types.Forms as form
 use Rattle.lexer.specs.Classes as class
 use Rattle.own.specs.Kinds as kind
@@ -52,12 +53,12 @@ use Rattle.parse.proofs.choice.types.Reads as types-reads
 use Rattle.parse.proofs.fault.bound.Reads as bound-reads
 use Rattle.parse.proofs.fault.clean.Reads as clean-reads
 use Rattle.parse.proofs.fault.judged.Reads as judged-reads
-use Rattle.parse.proofs.names.high.Reads as high-reads
-use Rattle.parse.proofs.names.low.Reads as low-reads
+use Rattle.parse.proofs.fault.length.Reads as length-reads
 use Rattle.parse.proofs.names.number.Reads as number-reads
 use Rattle.parse.proofs.token.advance.Reads as advance-reads
 use Rattle.parse.proofs.token.eat.Reads as eat-reads
 use Rattle.parse.proofs.tree.close.Reads as close-reads
+use Rattle.parse.proofs.tree.close_number.Reads as close-number-reads
 use Rattle.parse.proofs.tree.reserve.Reads as reserve-reads
 use Rattle.parse.proofs.types.named.Reads as named-reads
 use Rattle.parse.proofs.types.+array+either+list+option+tuple+ty+types.Proof.Common.{list-at, list-calls}
@@ -238,16 +239,8 @@ module _ (t : ℕ) where
   list-number-requires c κs =
       search needs
 
-  pub list-low-requires : list-lts.Need-low-requires (list-calls t) (list-at t) list.Post
-  list-low-requires c κs =
-      search needs
-
-  pub list-high-requires : list-lts.Need-high-requires (list-calls t) (list-at t) list.Post
-  list-high-requires c κs =
-      search needs
-
-  pub list-close-requires-2 : list-lts.Need-close-requires-2 (list-calls t) (list-at t) list.Post
-  list-close-requires-2 c κs =
+  pub list-close-number-requires : list-lts.Need-close-number-requires (list-calls t) (list-at t) list.Post
+  list-close-number-requires c κs =
       search needs
 
   pub list-bound-requires : list-lts.Need-bound-requires (list-calls t) (list-at t) list.Post
@@ -260,39 +253,39 @@ module _ (t : ℕ) where
 
   pub list-same-length-6 : list-lts.Need-same-length-6 (list-calls t) (list-at t) list.Post
   list-same-length-6 c =
-      c .before .before .before .before .close2 .kept .0 ∙ c .before .before .before .before .before .before .before .before .before .before .before .before .before .before .before .before .before .before .before .before .before .before .before .before .before .before .ty .kept .1 .1 .1 .0
+      c .before .before .before .before .close-number .kept .0 ∙ c .before .before .before .before .before .before .before .before .before .before .before .before .before .before .before .before .before .before .before .before .before .before .before .before .ty .kept .1 .1 .1 .0
 
   pub list-returns-6 : list-lts.Need-returns-6 (list-calls t) (list-at t) list.Post
   list-returns-6 c =
-      let x = text (c .before .before .before .before .before .before .before .before .before .before .before .before .before .before .before .before .before .before .before .before .before .before .before .before .before .before .before .before .before .before .before .before .before .before .before .before .before .args .draft .now)
-      (c .before .before .before .before .before .before .before .before .before .before .before .before .before .before .before .before .before .before .before .before .before .before .before .before .before .before .before .before .before .before .before .before .before .before .before .before .before .args .tokens .now)
-      (c .before .before .before .before .before .before .before .before .before .before .before .before .before .before .before .before .before .before .before .before .before .before .before .before .before .before .before .before .before .before .before .before .before .before .before .before .before .args .count) in
-      let y = c .before .before .before .before .before .before .before .before .before .before .before .before .before .before .before .before .before .before .before .before .before .before .before .before .before .before .before .before .before .before .before .before .before .before .before .before .before .pre .1 .0 in
-      let e = c .before .before .before .before .before .before .before .before .before .before .before .before .before .before .before .before .before .before .before .before .before .before .before .before .before .before .before .before .before .before .before .before .before .before .before .before .before .pre .1 .1 in
-      let o = opens-clean y (c .before .before .before .before .before .before .before .before .before .before .before .before .before .before .before .before .before .before .before .before .before .before .before .before .before .before .before .before .before .before .before .before .before .clean .ensures)
-      (c .before .before .before .before .before .before .before .before .before .before .before .before .before .before .before .before .before .before .before .before .before .before .before .before .before .before .before .before .before .before .before .before .reserve .ensures) in
-      let d0 = starts kind.ListType AnyN form.listRhs
-      (c .before .before .before .before .before .before .before .before .before .before .before .before .before .before .before .before .before .before .before .before .before .before .before .before .before .before .before .before .before .before .before .before .before .before .before .before .before .args .tree .now) (o .stands) in
-      let k = o .class-is ∙ form.at-list (c .before .before .before .before .before .before .before .before .before .before .before .before .before .before .before .before .before .before .before .before .before .before .before .before .before .before .before .before .before .before .before .before .before .before .before .before .before .args .st .class) e in
-      let d1 = advances d0 k (omega arith) (c .before .before .before .before .before .before .before .before .before .before .before .before .before .before .before .before .before .before .before .before .before .before .before .before .before .before .before .before .before .before .before .advance .ensures) (keeping-mark kind.ListType class.List tt) in
+      let x = text (c .before .before .before .before .before .before .before .before .before .before .before .before .before .before .before .before .before .before .before .before .before .before .before .before .before .before .before .before .before .before .before .before .before .before .before .args .draft .now)
+      (c .before .before .before .before .before .before .before .before .before .before .before .before .before .before .before .before .before .before .before .before .before .before .before .before .before .before .before .before .before .before .before .before .before .before .before .args .tokens .now)
+      (c .before .before .before .before .before .before .before .before .before .before .before .before .before .before .before .before .before .before .before .before .before .before .before .before .before .before .before .before .before .before .before .before .before .before .before .args .count) in
+      let y = c .before .before .before .before .before .before .before .before .before .before .before .before .before .before .before .before .before .before .before .before .before .before .before .before .before .before .before .before .before .before .before .before .before .before .before .pre .1 .0 in
+      let e = c .before .before .before .before .before .before .before .before .before .before .before .before .before .before .before .before .before .before .before .before .before .before .before .before .before .before .before .before .before .before .before .before .before .before .before .pre .1 .1 in
+      let o = opens-clean y (c .before .before .before .before .before .before .before .before .before .before .before .before .before .before .before .before .before .before .before .before .before .before .before .before .before .before .before .before .before .before .before .clean .ensures)
+      (c .before .before .before .before .before .before .before .before .before .before .before .before .before .before .before .before .before .before .before .before .before .before .before .before .before .before .before .before .before .before .reserve .ensures) in
+      let d0 = starts kind.ListType AnyN form.listRhs (c .before .before .before .before .before .before .before .before .before .before .before .before .before .before .before .before .before .before .before .before .before .before .before .before .before .before .before .before .before .before .before .before .before .before .before .args .tree .now) (o .stands) in
+      let k = o .class-is ∙ form.at-list (c .before .before .before .before .before .before .before .before .before .before .before .before .before .before .before .before .before .before .before .before .before .before .before .before .before .before .before .before .before .before .before .before .before .before .before .args .st .class) e in
+      let d1 = advances d0 k (omega arith) (c .before .before .before .before .before .before .before .before .before .before .before .before .before .before .before .before .before .before .before .before .before .before .before .before .before .before .before .before .before .advance .ensures) (keeping-mark kind.ListType class.List tt) in
       let d2 = then-turns (tok class.LAngle ∷ nt n-type ∷ tok class.Comma ∷ tok class.DecLiteral ∷ tok class.RAngle ∷ []) d1 form.flat-list (form.list-angle (sym
-      (d1 .lays .stands .class-is) ∙ c .before .before .before .before .before .before .before .before .before .before .before .before .before .before .before .before .before .before .before .before .before .before .before .before .before .before .before .before .before .if1 .left)) in
-      let d3 = advances d2 (c .before .before .before .before .before .before .before .before .before .before .before .before .before .before .before .before .before .before .before .before .before .before .before .before .before .before .before .before .before .if1 .left) (omega arith)
-      (c .before .before .before .before .before .before .before .before .before .before .before .before .before .before .before .before .before .before .before .before .before .before .before .before .before .before .before .before .advance2 .ensures) (sign-mark kind.ListType class.LAngle tt) in
-      let d4 = then-node d3 (c .before .before .before .before .before .before .before .before .before .before .before .before .before .before .before .before .before .before .before .before .before .before .before .before .before .before .ty .ensures)
-      (c .before .before .before .before .before .before .before .before .before .before .before .before .before .before .before .before .before .before .before .before .before .before .inner .given .1) in
-      let d5 = then-eats (d4 .amid) (omega arith) (c .before .before .before .before .before .before .before .before .before .before .before .before .before .before .before .before .before .before .before .before .eat .ensures)
-      (c .before .before .before .before .before .before .before .before .before .before .before .before .before .before .before .before .before .before .comma .given .1) (sign-mark kind.ListType class.Comma tt) in
-      let d6 = then-eats d5 (omega arith) (c .before .before .before .before .before .before .before .before .before .before .before .before .before .before .before .before .eat2 .ensures) (c .before .before .before .before .before .before .before .before .before .before .before .before .before .before .decimal .given .1) (keeping-mark kind.ListType class.DecLiteral tt) in
-      let d7 = then-eats d6 (omega arith) (c .before .before .before .before .before .before .before .before .before .before .before .before .eat3 .ensures) (c .before .before .before .before .before .before .before .before .before .before .angle .given .1) (sign-mark kind.ListType class.RAngle tt) in
-      let v = value-is (c .before .before .before .before .before .before .before .before .before .before .before .before .before .before .before .before .before .before .before .before .before .before .before .before .before .before .before .before .before .before .before .before .before .before .before .before .before .args .draft .now)
-      (c .before .before .before .before .before .before .before .before .before .before .before .before .before .before .before .before .before .before .before .before .before .before .before .before .before .before .before .before .before .before .before .before .before .before .before .before .before .args .tokens .now)
-      (c .before .before .before .before .before .before .before .before .before .before .before .before .before .before .before .before .before .before .before .before .before .before .before .before .before .before .before .before .before .before .before .before .before .before .before .before .before .args .count) (d5 .lays .stands)
-      (c .before .before .before .before .before .before .before .before .number .ensures) in
-      let z = form.wide-is (form.list-head d7) (number-at d7 ∙ sym v) (c .before .before .before .before .before .before .low .ensures) (c .before .before .before .before .before .high .ensures) in
-      as-nonterminal form.list-rule y e (read (shut-judged ListTypeShape y o d7 (omega arith) z tt tt TypeKind (omega arith, omega arith) (c .before .before .before .before .close2 .ensures) (form.judged-at (c .judged2 .ensures) (c .before .bound .ensures) (d5 .lays .stands .start-is)) (λ is u v. form.list-fault (x .draft) is
-      (c .before .before .before .before .before .before .before .before .number .result) (tokAt x (c .before .before .before .before .before .before .before .before .before .before .before .before .before .before .before .before .before .before .comma .given .0 .0 .at)) u (first-is is u v) (value-text
-      (c .before .before .before .before .before .before .before .before .before .before .before .before .before .before .before .before .before .before .before .before .before .before .before .before .before .before .before .before .before .before .before .before .before .before .before .before .before .args .draft .now)
-      (c .before .before .before .before .before .before .before .before .before .before .before .before .before .before .before .before .before .before .before .before .before .before .before .before .before .before .before .before .before .before .before .before .before .before .before .before .before .args .tokens .now)
-      (c .before .before .before .before .before .before .before .before .before .before .before .before .before .before .before .before .before .before .before .before .before .before .before .before .before .before .before .before .before .before .before .before .before .before .before .before .before .args .count) (d5 .lays .stands)
-      (c .before .before .before .before .before .before .before .before .number .ensures)))))
+      (d1 .lays .stands .class-is) ∙ c .before .before .before .before .before .before .before .before .before .before .before .before .before .before .before .before .before .before .before .before .before .before .before .before .before .before .before .if1 .left)) in
+      let d3 = advances d2 (c .before .before .before .before .before .before .before .before .before .before .before .before .before .before .before .before .before .before .before .before .before .before .before .before .before .before .before .if1 .left) (omega arith)
+      (c .before .before .before .before .before .before .before .before .before .before .before .before .before .before .before .before .before .before .before .before .before .before .before .before .before .before .advance2 .ensures) (sign-mark kind.ListType class.LAngle tt) in
+      let d4 = then-node d3 (c .before .before .before .before .before .before .before .before .before .before .before .before .before .before .before .before .before .before .before .before .before .before .before .before .ty .ensures)
+      (c .before .before .before .before .before .before .before .before .before .before .before .before .before .before .before .before .before .before .before .before .inner .given .1) in
+      let d5 = then-eats (d4 .amid) (omega arith) (c .before .before .before .before .before .before .before .before .before .before .before .before .before .before .before .before .before .before .eat .ensures) (c .before .before .before .before .before .before .before .before .before .before .before .before .before .before .before .before .comma .given .1)
+      (sign-mark kind.ListType class.Comma tt) in
+      let d6 = then-eats d5 (omega arith) (c .before .before .before .before .before .before .before .before .before .before .before .before .before .before .eat2 .ensures) (c .before .before .before .before .before .before .before .before .before .before .before .before .decimal .given .1) (keeping-mark kind.ListType class.DecLiteral tt) in
+      let d7 = then-eats d6 (omega arith) (c .before .before .before .before .before .before .before .before .before .before .eat3 .ensures) (c .before .before .before .before .before .before .before .before .angle .given .1) (sign-mark kind.ListType class.RAngle tt) in
+      let n = value-is (c .before .before .before .before .before .before .before .before .before .before .before .before .before .before .before .before .before .before .before .before .before .before .before .before .before .before .before .before .before .before .before .before .before .before .before .args .draft .now)
+      (c .before .before .before .before .before .before .before .before .before .before .before .before .before .before .before .before .before .before .before .before .before .before .before .before .before .before .before .before .before .before .before .before .before .before .before .args .tokens .now)
+      (c .before .before .before .before .before .before .before .before .before .before .before .before .before .before .before .before .before .before .before .before .before .before .before .before .before .before .before .before .before .before .before .before .before .before .before .args .count) (d5 .lays .stands)
+      (c .before .before .before .before .before .before .number .ensures) in
+      let z = form.wide-is (form.list-head d7) (number-at d7) refl refl in
+      as-nonterminal form.list-rule y e (read (shut-judged ListTypeShape y o d7 (omega arith) z tt tt TypeKind (omega arith, omega arith) (put-number (valueAt x (c .before .before .before .before .before .before .before .before .before .before .before .before .before .before .before .before .comma .given .0 .0 .at)) n list-numbered
+      (c .before .before .before .before .close-number .ensures)) (form.judged-at (c .judged2 .ensures) (c .before .bound .ensures) (d5 .lays .stands .start-is)) (λ is u v. form.list-fault (x .draft) is (c .before .before .before .before .before .before .number .result) (tokAt x
+      (c .before .before .before .before .before .before .before .before .before .before .before .before .before .before .before .before .comma .given .0 .0 .at)) u (first-is is u v) (value-text
+      (c .before .before .before .before .before .before .before .before .before .before .before .before .before .before .before .before .before .before .before .before .before .before .before .before .before .before .before .before .before .before .before .before .before .before .before .args .draft .now)
+      (c .before .before .before .before .before .before .before .before .before .before .before .before .before .before .before .before .before .before .before .before .before .before .before .before .before .before .before .before .before .before .before .before .before .before .before .args .tokens .now)
+      (c .before .before .before .before .before .before .before .before .before .before .before .before .before .before .before .before .before .before .before .before .before .before .before .before .before .before .before .before .before .before .before .before .before .before .before .args .count) (d5 .lays .stands)
+      (c .before .before .before .before .before .before .number .ensures)))))

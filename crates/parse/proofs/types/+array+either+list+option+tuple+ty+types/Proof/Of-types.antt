@@ -11,7 +11,7 @@ use Rattle.text.specs.Part.{partOf}
 use Rattle.theory.specs.Walk.{k-nt}
 use Rattle.theory.specs.Machine.{expand}
 use Rattle.grammar.specs.shapes.Tables.{table}
-use Rattle.parse.specs.Contract.{text, tokAt, Ready, Parsed, read, stuck, Node, TypeKind, Commas}
+use Rattle.parse.specs.Contract.{text, tokAt, Ready, Parsed, read, stuck, Node, TypeKind, Commas, valueAt}
 use Rattle.parse.proofs.rule.Amid.{Amid, starts, then-turns, then-passed}
 use Rattle.parse.proofs.rule.Closing.{opens, opens-clean, as-nonterminal, enters}
 use Rattle.parse.proofs.rule.Chain.{further, advances, advances-one, then-eats, then-lacks, then-node}
@@ -20,6 +20,7 @@ use Rattle.parse.proofs.rule.Marks.{sign-mark, keeping-mark}
 use Rattle.parse.proofs.rule.Commas.{AnyN, Lined}
 use Rattle.parse.proofs.rule.Commas as lined
 use Rattle.parse.proofs.rule.Heads.{shut, shut-judged, number-at, value-is, value-text, first-is}
+use Rattle.parse.proofs.tree.Numbers.{array-numbered, list-numbered, put-number}
 use Rattle.parse.proofs.types.Forms as form
 use Rattle.lexer.specs.Classes as class
 use Rattle.own.specs.Kinds as kind
@@ -52,12 +53,12 @@ use Rattle.parse.proofs.choice.types.Reads as types-reads
 use Rattle.parse.proofs.fault.bound.Reads as bound-reads
 use Rattle.parse.proofs.fault.clean.Reads as clean-reads
 use Rattle.parse.proofs.fault.judged.Reads as judged-reads
-use Rattle.parse.proofs.names.high.Reads as high-reads
-use Rattle.parse.proofs.names.low.Reads as low-reads
+use Rattle.parse.proofs.fault.length.Reads as length-reads
 use Rattle.parse.proofs.names.number.Reads as number-reads
 use Rattle.parse.proofs.token.advance.Reads as advance-reads
 use Rattle.parse.proofs.token.eat.Reads as eat-reads
 use Rattle.parse.proofs.tree.close.Reads as close-reads
+use Rattle.parse.proofs.tree.close_number.Reads as close-number-reads
 use Rattle.parse.proofs.tree.reserve.Reads as reserve-reads
 use Rattle.parse.proofs.types.named.Reads as named-reads
 use Rattle.parse.proofs.types.+array+either+list+option+tuple+ty+types.Proof.Common.{types-at, types-Inv-loop, types-μ-loop, types-calls}
