@@ -1,16 +1,18 @@
-//! Seeks the smallest draft of each refusal: tries every draft of up to three bytes, then for 9 to 14
-//! every token list that has the right shape so far and leaves room for what the number needs.
+//! Seeks the smallest draft of each refusal: tries every draft of up to three bytes, then for 9 to 14 and
+//! 19 every token list that has the right shape so far and leaves room for what the number needs.
 
 use std::collections::BTreeMap;
 
+/// The shortest spelling of a number that 64 bits do not hold.
+const TOO_LARGE: &str = "18446744073709551616";
 /// Every token that a refusal tells apart, in its shortest spelling. `a` stands for all other names, `0`
-/// for all digits, `true` for both booleans.
+/// for all digits but those of a number that is too large, `true` for both booleans.
 #[rustfmt::skip]
-const TOKENS: [&str; 44] = [
+const TOKENS: [&str; 45] = [
     "pub", "fn", "let", "match", "a", "0", "true", "(", ")", "[", "]", "{", "}", "<", ">", ",", ";",
     ":", "::", "=", "->", "=>", "None", "Left", "Right", "Some", "Either", "Option", "List", "into",
     "fold", "array_fold", "for_while", "unwrap", "unwrap_left", "unwrap_right", "is_none",
-    "raw_hash", "jet::a", "witness::a", "assert!", "panic!", "dbg!", "list!",
+    "raw_hash", "jet::a", "witness::a", "assert!", "panic!", "dbg!", "list!", TOO_LARGE,
 ];
 /// Heads of built-in arms; the shortest have four bytes.
 const BUILT_IN: [&str; 5] = ["Left", "Right", "None", "Some", "true"];
@@ -99,7 +101,8 @@ fn missing(number: u32, tokens: &[&str]) -> usize {
         11 => arms(0, 0),
         12 => arms(2, 1) + short(&["::"], 1, 2),
         13 => arms(1, 1),
-        _ => arms(2, 2),
+        14 => arms(2, 2),
+        _ => short(&[TOO_LARGE], 1, TOO_LARGE.len()) + short(&["["], 1, 1) + short(&[";"], 1, 1),
     }
 }
 
@@ -123,5 +126,5 @@ fn try_tokens(number: u32) {
 
 fn main() {
     try_bytes();
-    (9..=14).for_each(try_tokens);
+    (9..=14).chain([19]).for_each(try_tokens);
 }

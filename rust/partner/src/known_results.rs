@@ -89,12 +89,16 @@ fn draft(text: &str) -> Vec<u8> {
     draft.into_bytes()
 }
 
-/// The words of both buffers count: one too few is refused, just enough is not.
+/// The words of both buffers count: one too few is refused, just enough is not. 6 goes before a
+/// length that is too large, and 15 after it.
 fn buffers_hold() -> bool {
     let draft = b"fn f(){}";
+    let too_large = b"fn f()->[b;18446744073709551616]{}";
     read(draft, 17, 18) == Err((6, 7))
         && read(draft, 18, 17) == Err((15, 0))
         && read(draft, 18, 18).is_ok()
+        && read(too_large, 35, 0) == Err((6, 33))
+        && read(too_large, 36, 0) == Err((19, 11))
 }
 
 #[test]

@@ -63,8 +63,13 @@ pub fn decimal_value(text: &[u8]) -> Option<u64> {
 }
 
 /// A bound is a power of two, and not 1.
-pub fn is_bound(value: Option<u64>) -> bool {
-    value.is_some_and(|value| value.count_ones() == 1 && value > 1)
+pub fn is_bound(value: u64) -> bool {
+    value.count_ones() == 1 && value > 1
+}
+
+/// The size of an array that is folded is not 0.
+pub fn is_size(value: u64) -> bool {
+    value > 0
 }
 
 pub fn halves(number: u64) -> (u32, u32) {

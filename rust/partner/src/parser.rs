@@ -9,10 +9,10 @@ mod statements;
 mod types;
 
 use crate::kinds::{refusal, token};
-use crate::names::decimal_value;
+use crate::names::{decimal_value, halves};
 use crate::{Record, Refusal, Step, Token};
 
-/// The tree of a well-shaped draft, or refusal 8, or the earliest of 9 to 14.
+/// The tree of a well-shaped draft, or refusal 8, or the earliest of 9 to 14 and 19.
 pub fn parse(draft: &[u8], tokens: &[Token]) -> Step<Vec<Record>> {
     let records = Vec::with_capacity(tokens.len());
     let mut parser = Parser {
@@ -36,7 +36,7 @@ struct Parser<'a> {
     /// Number of the next token.
     next: usize,
     records: Vec<Record>,
-    /// The earliest of the refusals 9 to 14 so far; it counts once the draft is well-shaped.
+    /// The earliest of the refusals 9 to 14 and 19 so far; it counts once the draft is well-shaped.
     fault: Option<Refusal>,
 }
 
@@ -93,11 +93,17 @@ impl<'a> Parser<'a> {
         found
     }
 
-    /// Takes a decimal number: its value, `None` when it is over the largest 64-bit number.
-    fn decimal(&mut self) -> Step<Option<u64>> {
+    /// Takes a decimal number: its value, `None` when the draft is refused for it, with that number.
+    /// One over the largest 64-bit number has no value and is refused by each rule.
+    fn decimal(&mut self, number: u32, allows: fn(u64) -> bool) -> Step<Option<u64>> {
+        let place = self.place();
         let text = self.text();
         self.take(token::DEC_LITERAL)?;
-        Ok(decimal_value(text))
+        let value = decimal_value(text).filter(|value| allows(*value));
+        if value.is_none() {
+            self.fault(number, place);
+        }
+        Ok(value)
     }
 
     /// Sets a record aside, before its children, for a rule that starts at the next token.
@@ -113,6 +119,15 @@ impl<'a> Parser<'a> {
         let size = (self.records.len() - at) as u32;
         self.records[at] = [kind, start, end, low, high, size];
         Ok(())
+    }
+
+    /// Fills in an opened record that holds a number. Without one the draft is refused, and as no
+    /// one will see the record, it stays as it was set aside.
+    fn close_number(&mut self, at: usize, kind: u32, number: Option<u64>) -> Step {
+        match number {
+            Some(number) => self.close(at, kind, halves(number)),
+            None => Ok(()),
+        }
     }
 
     /// Takes the next token as a record of its own.

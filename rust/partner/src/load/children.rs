@@ -2,7 +2,7 @@
 
 use super::fields::number;
 use crate::kinds::{arm, call, record};
-use crate::names::is_bound;
+use crate::names::{is_bound, is_size};
 use crate::Record;
 
 /// Whether these are children that the record may have; its fields are known to be allowed.
@@ -100,8 +100,8 @@ fn take_call(name: u32, rest: &mut Rest) -> Option<()> {
             rest.one(is_name)?;
             let number = number(&rest.one(|kind| kind == record::NUMBER)?);
             let right = match name {
-                call::FOLD => is_bound(Some(number)),
-                _ => number > 0,
+                call::FOLD => is_bound(number),
+                _ => is_size(number),
             };
             right.then_some(())?;
         }

@@ -16,7 +16,7 @@ pub fn allowed(record: &Record) -> bool {
         record::FUNCTION => low <= 3,
         record::BUILTIN => low <= LAST_BUILTIN && high == 0,
         record::UNSIGNED => low.is_power_of_two() && low <= 256 && high == 0,
-        record::LIST_TYPE => is_bound(Some(number(record))),
+        record::LIST_TYPE => is_bound(number(record)),
         // Of an array type and of a call's number any 64 bits; the call says which it takes.
         record::ARRAY_TYPE | record::NUMBER => true,
         record::BLOCK | record::BOOLEAN => low <= 1 && high == 0,

@@ -2,7 +2,7 @@
 
 use super::Parser;
 use crate::kinds::{call, record, refusal, token};
-use crate::names::{halves, is_bound};
+use crate::names::{is_bound, is_size};
 use crate::Step;
 
 impl Parser<'_> {
@@ -56,11 +56,8 @@ impl Parser<'_> {
         let at = self.open();
         self.next += 3;
         match number {
-            call::FOLD | call::ARRAY_FOLD => {
-                self.function_name()?;
-                self.take(token::COMMA)?;
-                self.number(number)?;
-            }
+            call::FOLD => self.folded(refusal::BOUND_NOT_POW2, is_bound)?,
+            call::ARRAY_FOLD => self.folded(refusal::ARRAY_SIZE, is_size)?,
             call::FOR_WHILE => self.function_name()?,
             _ => self.aliased_type()?,
         }
@@ -69,17 +66,12 @@ impl Parser<'_> {
         self.close(at, record::CALL, (number, 0))
     }
 
-    /// The bound of `fold` or the size of `array_fold`.
-    fn number(&mut self, number: u32) -> Step {
-        let place = self.place();
+    /// The function of `fold` or `array_fold`, and the bound or the size.
+    fn folded(&mut self, number: u32, allows: fn(u64) -> bool) -> Step {
+        self.function_name()?;
+        self.take(token::COMMA)?;
         let at = self.open();
-        let value = self.decimal()?;
-        if number == call::FOLD && !is_bound(value) {
-            self.fault(refusal::BOUND_NOT_POW2, place);
-        }
-        if number == call::ARRAY_FOLD && matches!(value, None | Some(0)) {
-            self.fault(refusal::ARRAY_SIZE, place);
-        }
-        self.close(at, record::NUMBER, halves(value.unwrap_or(0)))
+        let value = self.decimal(number, allows)?;
+        self.close_number(at, record::NUMBER, value)
     }
 }

@@ -2,7 +2,7 @@
 
 use super::Parser;
 use crate::kinds::{record, refusal, token};
-use crate::names::{halves, is_bound, named_type};
+use crate::names::{is_bound, named_type};
 use crate::Step;
 
 impl Parser<'_> {
@@ -30,10 +30,10 @@ impl Parser<'_> {
         self.advance();
         self.aliased_type()?;
         self.take(token::SEMI)?;
-        // A length that is too large reads as 0; no length is refused.
-        let length = self.decimal()?.unwrap_or(0);
+        // Any length that 64 bits hold, 0 too.
+        let length = self.decimal(refusal::ARRAY_LENGTH, |_| true)?;
         self.take(token::R_BRACKET)?;
-        self.close(at, record::ARRAY_TYPE, halves(length))
+        self.close_number(at, record::ARRAY_TYPE, length)
     }
 
     fn either_type(&mut self) -> Step {
@@ -59,12 +59,8 @@ impl Parser<'_> {
         self.next += 2;
         self.aliased_type()?;
         self.take(token::COMMA)?;
-        let place = self.place();
-        let bound = self.decimal()?;
-        if !is_bound(bound) {
-            self.fault(refusal::BOUND_NOT_POW2, place);
-        }
+        let bound = self.decimal(refusal::BOUND_NOT_POW2, is_bound)?;
         self.take(token::R_ANGLE)?;
-        self.close(at, record::LIST_TYPE, halves(bound.unwrap_or(0)))
+        self.close_number(at, record::LIST_TYPE, bound)
     }
 }
