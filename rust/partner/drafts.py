@@ -2,7 +2,7 @@
 """Random escrow drafts as a stream of cases: a decimal length, a line end, that many bytes.
 
 Use: drafts.py SEED COUNT KIND, where KIND is
-  shaped   drafts written from the grammar, some with bounds, arms or limits that are refused
+  shaped   drafts written from the grammar, some with numbers, arms or limits that are refused
   damaged  shaped drafts with a token dropped, doubled, swapped or replaced, or a byte changed
   tokens   strings of lexemes, each one that may follow the last, now and then any other
 """
@@ -24,6 +24,12 @@ WRONG_BOUNDS = ["0", "1", "3", "6", "9223372036854775807", "9223372036854775809"
                 "18446744073709551615", "18446744073709551616", "99999999999999999999999"]
 SIZES = ["1", "2", "3", "0_5", "18446744073709551615"]
 WRONG_SIZES = ["0", "0_0", "18446744073709551616", "99999999999999999999999"]
+LENGTHS = ["0", "00", "0_0", "1", "2", "0_5", "4294967296", "18446744073709551614",
+           "18446744073709551615", "00018_446_744_073_709_551_615_"]
+WRONG_LENGTHS = ["18446744073709551616", "18446744073709551619", "18446744073709551620",
+                 "36893488147419103232", "99999999999999999999", "100000000000000000000",
+                 "184467440737095516160", "018446744073709551616", "1844674407370955161_6_",
+                 60 * "9"]
 MARKS = "-> :: : ; , = => ( ) [ ] { } < >".split()
 LITERALS = ["0", "7", "1_000", "0x1F", "0xa_b", "0b1", "0b1_0", "true", "false",
             "jet::add", "jet::match", "witness::w", "param::p", "assert!", "panic!", "dbg!",
@@ -33,7 +39,7 @@ ODD = ["simc", "-", "/", "!", "/*", "*/", "//", "é", "\x00", "0x_1", "0b2", "je
 
 
 class Shaped:
-    """Writes the lexemes of a well-shaped draft; `wrong` is the chance of a refusal 9 to 14."""
+    """Writes the lexemes of a well-shaped draft; `wrong` is the chance of 9 to 14 and 19."""
 
     def __init__(self, rng, size, wrong):
         self.rng, self.left, self.wrong = rng, size, wrong
@@ -102,7 +108,7 @@ class Shaped:
         elif shape == 9:
             self.put("[")
             self.type()
-            self.put(";", self.rng.choice(SIZES + WRONG_SIZES), "]")
+            self.put(";", self.length(), "]")
         else:
             self.put("(")
             self.listed(self.type, self.some())
@@ -113,6 +119,9 @@ class Shaped:
 
     def size(self):
         return self.rng.choice(WRONG_SIZES if self.chance(self.wrong) else SIZES)
+
+    def length(self):
+        return self.rng.choice(WRONG_LENGTHS if self.chance(self.wrong) else LENGTHS)
 
     def pattern(self):
         shape = self.rng.randint(0, 7) if self.left > 0 else 0
@@ -279,7 +288,7 @@ def shaped(rng):
     if rng.random() < 0.01:
         return near_limits(rng)
     size = rng.choice([5, 15, 40, 40, 80, 80, 160, 300])
-    draft = Shaped(rng, size, rng.choice([0, 0, 0, 0.15]))
+    draft = Shaped(rng, size, rng.choice([0, 0, 0, 0, 0.15, 0.5]))
     draft.function()
     return draft.out
 

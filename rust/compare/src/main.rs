@@ -3,6 +3,7 @@
 //!   bytes     every string of a few bytes
 //!   lexemes   every string of a few lexemes, in telling surroundings
 //!   limits    drafts at each limit, and buffers of every length
+//!   faults    array lengths around 64 bits, and several of the refusals 9 to 14 and 19 in one draft
 //!   stream    the drafts on standard input: length, line end, bytes
 //!   shapes    listings of records with every few children
 //!   listings  the listings of the drafts on standard input, whole and damaged
@@ -11,6 +12,7 @@
 
 mod comparison;
 mod damage;
+mod faults;
 mod grafts;
 mod lexemes;
 mod limits;
@@ -64,6 +66,7 @@ impl Total {
             "bytes" => strings::bytes(&mut run),
             "lexemes" => lexemes::all(&mut run),
             "limits" => limits::all(&mut run),
+            "faults" => faults::all(&mut run),
             "stream" => stream(&mut run)?,
             _ => return None,
         }
