@@ -3,7 +3,8 @@
 
 A case: a line with the words of the token buffer, the words of the tree buffer, the bytes of the byte buffer and the bytes of the
 draft; then the draft and a line end.
---partner PATH: also writes stdout, the answers of the partner's program, and sees that every record kind, call and refusal is there.
+--partner PATH: also writes stdout, the answers of the partner's program, and sees that every record kind, call and refusal is there, and that the
+partner says what is written here from the papers, where that is.
 --check: exit 1 if a file differs.
 """
 import argparse, pathlib, random, re, subprocess, sys
@@ -21,20 +22,34 @@ def body(text):
     return HEAD + "{" + text + "}"
 
 
-# Three small drafts: one that is accepted, one with a refusal 9, one with a refusal 8. And one whose arms are exchanged.
-SMALL, WRONG_BOUND, WRONG_SHAPE = body(""), body("fold::<g,3>(x)"), body("1 2")
+# The first number that 64 bits do not hold.
+OVER = 2 ** 64
+# Small drafts: one that is accepted, one with a refusal 9, one with a refusal 8, one with a refusal 19. And one whose arms are exchanged.
+SMALL, WRONG_BOUND, WRONG_SHAPE, WRONG_LENGTH = body(""), body("fold::<g,3>(x)"), body("1 2"), f"{HEAD}->[b;{OVER}]{{}}"
 EXCHANGED = body("match x{Some(a:u1)~{1},None~{2}}")
 
 
 class Cases:
     def __init__(self):
-        self.count, self.parts = 0, []
+        # `said` has what the answer of a case must hold.
+        self.count, self.parts, self.said = 0, [], {}
 
     def add(self, draft, tokens=TOKENS, tree=TREE, out=BYTES):
         if isinstance(draft, str):
             draft = draft.replace("~", "=>").encode()
         self.parts.append(b"%d %d %d %d\n%s\n" % (tokens, tree, out, len(draft), draft))
         self.count += 1
+
+    def add_refused(self, number, draft):
+        """A draft that is refused with that number, at the mark `^`."""
+        self.said[self.count] = f"refused {number} {draft.replace('~', '=>').index('^')} "
+        self.add(draft.replace("^", ""))
+
+    def add_array(self, draft, number):
+        """A draft that is accepted, with an array type of that length over one record, whose place is from mark `^` to mark `^`."""
+        start, end = (at - marks for marks, at in enumerate(found.start() for found in re.finditer(r"\^", draft.replace("~", "=>"))))
+        self.said[self.count] = f"0B {start:04X} {end:04X} {number % 2 ** 32:08X} {number >> 32:08X} 0002\n"
+        self.add(draft.replace("^", ""))
 
     def add_bodies(self, *texts, **buffers):
         for text in texts:
@@ -98,9 +113,9 @@ def add_matches(cases):
 
 
 def add_words_lent(cases):
-    """Token and tree buffers of every length up to a few over what is needed, so that 6, 8, 9 and 15 are seen in their order."""
+    """Token and tree buffers of every length up to a few over what is needed, so that 6, 8, 9 and 19, 15 are seen in their order."""
     # The words of the tokens, and those that the records take or would take.
-    for draft, tokens, tree in ((SMALL, 18, 18), (WRONG_BOUND, 48, 42), (WRONG_SHAPE, 24, 30)):
+    for draft, tokens, tree in ((SMALL, 18, 18), (WRONG_BOUND, 48, 42), (WRONG_SHAPE, 24, 30), (WRONG_LENGTH, 36, 30)):
         for words in range(tokens + 5):
             cases.add(draft, words, tree, 0)
         for words in range(tree + 5):
@@ -118,7 +133,7 @@ def add_words_lent(cases):
 
 def add_bytes_lent(cases):
     """Byte buffers of no bytes, around each line, and of more than any draft needs."""
-    for draft, lines in ((SMALL, 3), (EXCHANGED, 13), (WRONG_BOUND, 1), (WRONG_SHAPE, 1)):
+    for draft, lines in ((SMALL, 3), (EXCHANGED, 13), (WRONG_BOUND, 1), (WRONG_SHAPE, 1), (WRONG_LENGTH, 1)):
         for out in [0, 1, 80000] + [LINE * line + step for line in range(1, lines + 2) for step in (-1, 0, 1)]:
             cases.add(draft, out=out)
 
@@ -194,7 +209,7 @@ def add_enum_arms(cases):
 
 
 def add_smallest(cases):
-    """The smallest draft of each refusal 1 to 15."""
+    """The smallest draft of each refusal 1 to 15, and of 19."""
     cases.add(16385 * " ", out=LINE)
     for draft in (b"\x80", b"-", b"/*", b"simc"):
         cases.add(draft)
@@ -204,6 +219,7 @@ def add_smallest(cases):
         cases.add(draft)
     cases.add_bodies("array_fold::<f,0>()", "match a{}", "match a{None~{}A::B~{}}", "match a{None~{}}", "match a{None~{}None~{}}")
     cases.add(SMALL, tree=17)
+    cases.add(WRONG_LENGTH)
 
 
 def add_differences(cases):
@@ -233,10 +249,68 @@ def add_orders(cases):
     # 6 before 7 before 8.
     for draft, tokens in ((49 * "(", 144), (49 * "(", 147), ("1" + 49 * "(", 150)):
         cases.add(draft, tokens)
-    # 8 before 9 to 14, which go by place, an outer `match` before what is in it.
+    # 8 before 9 to 14 and 19, which go by place, an outer `match` before what is in it.
     cases.add_bodies("fold::<g,3>(x) 1", "match x{} 1", "match match x{}{true~1,}", "match fold::<g,3>(x){}", "fold::<g,3>(match x{})",
                      "array_fold::<g,0>();fold::<g,0>()", "match x{None~match y{},true~1,}", "match x{true~match y{},false~2,}",
                      "match x{A::B~fold::<g,5>(),None~1,}", "let a:List<List<u1,3>,5>=1;", "let a:List<u1,0>=match x{};")
+
+
+def spellings(number):
+    """A number with zeros before it, and with `_` between its digits and behind."""
+    return str(number), f"0{number}", f"{30 * '0'}{number}", f"{number:_}_", f"0_{number}__"
+
+
+def add_lengths(cases):
+    """Lengths of array types: "19 when an array type's length is over the largest 64-bit number, at the number"; any other is read as it is."""
+    for number in (0, 1, 2 ** 32 - 1, 2 ** 32, 2 ** 63, OVER - 2, OVER - 1):
+        for length in spellings(number):
+            cases.add_array(f"{HEAD}->^[b;{length}]^{{}}", number)
+    for number in (OVER, OVER + 1, OVER + 3, OVER + 4, 2 * OVER, 10 ** 20 - 1, 10 ** 20, 10 * OVER, OVER ** 2, 10 ** 60 - 1):
+        for length in spellings(number):
+            cases.add_refused(19, f"{HEAD}->[b;^{length}]{{}}")
+    for length in ("00", "0_0", 300 * "0"):
+        cases.add_array(f"{HEAD}->^[b;{length}]^{{}}", 0)
+    cases.add_refused(19, f"{HEAD}->[b;^{9000 * '9'}]{{}}")
+    # Wherever a type stands, and in each type that holds one.
+    places = ["fn f(a:#){}", "fn f(a:u1,b:#,){}", "pub fn f()->#{}"]
+    places += map(body, ("let a:#=1;", "let (a,_):#={1};", "match x{Left(a:#)~1,Right(b:u1)~2,}", "match x{Right(a:#)~1,Left(b:u1)~2,}",
+                         "match x{None~1,Some([]:#)~{}}", "match x{A::B(a:#)~1,}", "match x{A::B~{}A::C(a:u1,b:#,)~{}}", "<#>::into(1)",
+                         "unwrap_left::<#>(1)", "unwrap_right::<#>()", "is_none::<#>(1)", "raw_hash::<#>(1)", "g(match {<#>::into()}{A::B~1,})"))
+    around = ("#", "Either<#,u1>", "Either<u1,#>", "Option<#>", "List<#,2>", "(#)", "(u1,#,)", "[#;2]")
+    for place in places:
+        for outer in around if place in places[2:4] else around[:1]:
+            draft = place.replace("#", outer)
+            cases.add_array(draft.replace("#", f"^[u1;{OVER - 1}]^"), OVER - 1)
+            cases.add_refused(19, draft.replace("#", f"[u1;^{OVER}]"))
+
+
+def add_faults(cases):
+    """9 to 14 with 19 before it, behind it and around it: the earliest place, the number for 9, 10 and 19 and the `match` for the others."""
+    long = f"<[u1;{OVER}]>::into"
+    marked = long.replace(";", ";^")
+    numbers = ((9, "fold::<g,^3>({})"), (9, f"fold::<g,^{OVER}>({{}})"), (9, "is_none::<List<u1,^0>>({})"), (10, "array_fold::<g,^0>({})"),
+               (10, f"array_fold::<g,^{OVER}>({{}})"), (11, "^match {}{}"), (12, "^match {}{A::B~1,true~2,}"), (13, "^match {}{true~1,}"),
+               (13, "^match {}{true~1,false~2,true~3,}"), (14, "^match {}{None~1,true~2,}"), (19, f"is_none::<[u1;^{OVER + 3}]>({{}})"))
+    for number, fault in numbers:
+        alone = fault.replace("{}", "x", 1)
+        other = alone.replace("^", "")
+        cases.add_refused(number, body(f"{alone};{long}(x)"))
+        cases.add_refused(number, body(fault.replace("{}", f"{long}(x)", 1)))
+        cases.add_refused(19, body(f"{marked}(x);{other}"))
+        cases.add_refused(19, body(f"{marked}({other})"))
+        # A draft that is not well-shaped gets 8, before its other faults and behind them.
+        cases.add_refused(8, body(f"{long}({other}) ^1"))
+        cases.add_refused(8, body(f"1 ^1;{long}({other})"))
+    # In the arms of a match that is refused itself, and in one type.
+    cases.add_refused(12, body(f"^match x{{A::B(a:[u1;{OVER}])~1,true~2,}}"))
+    cases.add_refused(13, body(f"^match x{{Left(a:[u1;{OVER}])~1,}}"))
+    cases.add_refused(14, body(f"^match x{{Left(a:[u1;{OVER}])~1,Some(b:[u1;{OVER}])~2,}}"))
+    for number, name in ((19, "List<[u1;^@],3>"), (19, "List<[u1;^@],@>"), (9, "[List<u1,^3>;@]"), (9, "[List<u1,^@>;@]"), (19, "[[u1;^@];@]"),
+                         (19, "[[u1;0];^@]"), (19, "Either<[u1;^@],List<u1,1>>"), (9, "Either<List<u1,^1>,[u1;@]>"), (19, "([u1;^@],[u1;@])")):
+        cases.add_refused(number, body(f"let a:{name.replace('@', str(OVER))}=1;"))
+    # Refusal 8 in the array type itself.
+    for name in "[u1;@^,] [u1^,@] [u1;@^;@] [u1;@^ [u1;^0x@] [u1;^] [^@;@] u1^[u1;@]".split():
+        cases.add_refused(8, f"{HEAD}->{name.replace('@', str(OVER))}{{}}")
 
 
 def add_wrong_shapes(cases):
@@ -278,7 +352,8 @@ def add_random(cases):
 
 SECTIONS = (
     add_bytes_of_drafts, add_tokens, add_brackets, add_matches, add_words_lent, add_bytes_lent, add_functions, add_types, add_statements,
-    add_expressions, add_calls, add_arms, add_enum_arms, add_smallest, add_differences, add_built_in_arms, add_orders, add_wrong_shapes, add_random,
+    add_expressions, add_calls, add_arms, add_enum_arms, add_smallest, add_differences, add_built_in_arms, add_orders, add_lengths, add_faults,
+    add_wrong_shapes, add_random,
 )
 
 
@@ -297,8 +372,14 @@ def missing(answers):
     records = {tuple(int(word, 16) for word in line.split()) for line in answers.splitlines() if re.match(r"[0-9A-F]{2} ", line)}
     kinds, calls = {record[0] for record in records}, {record[3] for record in records if record[0] == 39}
     refusals = {int(number) for number in re.findall(r"^refused (\d+)", answers, re.M)}
-    wanted = (("kind", kinds, 40), ("call", calls, 14), ("refusal", refusals, 15))
-    return [f"{name} {number}" for name, found, last in wanted for number in range(1, last + 1) if number not in found]
+    wanted = (("kind", kinds, range(1, 41)), ("call", calls, range(1, 15)), ("refusal", refusals, [*range(1, 16), 19]))
+    return [f"{name} {number}" for name, found, numbers in wanted for number in numbers if number not in found]
+
+
+def differing(cases, answers):
+    """The cases whose answer is not what the papers say."""
+    each = re.split(r"^(?=accepted |refused )", answers, flags=re.M)[1:]
+    return [f"{cases.parts[at]} is not answered with {said!r}" for at, said in cases.said.items() if said not in each[at]]
 
 
 def main():
@@ -311,7 +392,8 @@ def main():
     bad = []
     if options.partner:
         files["stdout"] = subprocess.run([options.partner, "--cases"], input=files["stdin"], check=True, capture_output=True).stdout
-        bad += [f"no case has {name}" for name in missing(files["stdout"].decode())]
+        answers = files["stdout"].decode()
+        bad += [f"no case has {name}" for name in missing(answers)] + differing(cases, answers)
     for name, content in files.items():
         path = ROOT / "crates/reader_cases" / name
         if not options.check:
