@@ -1,5 +1,6 @@
 #!/usr/bin/env python3
-"""Compares the definition of the answer (crates/grammar) with the partner (rust/partner) on random drafts, every byte of the listing.
+"""Compares the definition of the answer (crates/grammar) with the partner (rust/partner) on random drafts, and on array lengths around the largest 64-bit
+number, every byte of the listing.
 
 antt computes the definition: the drafts with the partner's listings become one more file of specs/ in a copy of the repository, and the
 check there refuses it if one of them differs.
@@ -11,6 +12,19 @@ import collections, pathlib, shutil, subprocess, sys, tempfile
 
 root = pathlib.Path(__file__).resolve().parent.parent
 PROVED = ("rlib", "stamp")  # where rt keeps what it has proved
+LARGEST = 2 ** 64 - 1
+# Lengths that 64 bits hold, then those that they do not.
+LENGTHS = [0, "0_0", 2 ** 32, LARGEST - 1, LARGEST, f"00{LARGEST}", f"{LARGEST:_}_"]
+TOO_LARGE = [LARGEST + 1, LARGEST + 4, LARGEST + 5, 10 ** 20 - 1, 10 ** 20, f"00{LARGEST + 1}", f"{LARGEST + 1:_}_", 60 * "9"]
+
+
+def lengths():
+    """Array types of each length; then with another refusal before and behind, and cut off."""
+    drafts = [f"fn f()->[b;{length}]{{}}" for length in LENGTHS + TOO_LARGE]
+    array = f"[b;{LARGEST + 1}]"
+    drafts += [f"fn f(a:{name}){{}}" for name in (f"[{array};0]", f"[[b;0];{LARGEST + 1}]", f"List<{array},3>", f"[List<b,3>;{LARGEST + 1}]")]
+    drafts += [f"fn f(){{match <{array}>::into(){{}}}}", f"fn f(){{<{array}>::into(match x{{}})}}", f"fn f()->{array}{{"]
+    return [draft.encode() for draft in drafts]
 
 
 def cases(stream):
@@ -49,7 +63,7 @@ def main():
     partner, seed, count, length = sys.argv[1], sys.argv[2], int(sys.argv[3]), int(sys.argv[4])
     with tempfile.TemporaryDirectory() as folder:
         work = pathlib.Path(folder)
-        drafts = []
+        drafts = lengths()
         for kind in ("shaped", "damaged", "tokens"):
             stream = subprocess.run([sys.executable, root / "rust/partner/drafts.py", seed, str(20 * count), kind], capture_output=True, check=True).stdout
             drafts += list(dict.fromkeys(d for d in cases(stream) if len(d) <= length))[:count]
