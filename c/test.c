@@ -152,6 +152,37 @@ static void test_long_drafts(void)
     CHECK(lists(draft, 16385, TOGMELIC_MOST_BYTES, "00 4000 4000 00000001 00000000 0001\n"));
 }
 
+/*
+ * Document 02, order 2: 19 where an array type's length is over the largest 64-bit number, at the number, and of 9 to 14 and 19 the earliest place.
+ * The largest number itself is in both halves of the type's line.
+ */
+static void test_lengths_of_arrays(void)
+{
+    CHECK(listed("fn f()->[b;18446744073709551615]{}",
+                 "01 0000 0022 00000002 00000000 0005\n"
+                 "02 0003 0004 00000000 00000000 0001\n"
+                 "0B 0008 0020 FFFFFFFF FFFFFFFF 0002\n"
+                 "04 0009 000A 00000000 00000000 0001\n"
+                 "12 0020 0022 00000000 00000000 0001\n"));
+    CHECK(listed("fn f()->[b;00]{}",
+                 "01 0000 0010 00000002 00000000 0005\n"
+                 "02 0003 0004 00000000 00000000 0001\n"
+                 "0B 0008 000E 00000000 00000000 0002\n"
+                 "04 0009 000A 00000000 00000000 0001\n"
+                 "12 000E 0010 00000000 00000000 0001\n"));
+    CHECK(listed("fn f()->[b;18446744073709551616]{}", "00 000B 000B 00000013 00000000 0001\n"));
+    CHECK(listed("fn f()->[b;100000000000000000000]{}", "00 000B 000B 00000013 00000000 0001\n"));
+    CHECK(listed("fn f()->[b;0_18446744073709551616_]{}", "00 000B 000B 00000013 00000000 0001\n"));
+    /* Before 9 and after it, beneath a match without arms, and in a draft that is cut off. */
+    CHECK(listed("fn f()->List<[b;18446744073709551616],3>{}", "00 0010 0010 00000013 00000000 0001\n"));
+    CHECK(listed("fn f()->[List<b,3>;18446744073709551616]{}", "00 0010 0010 00000009 00000000 0001\n"));
+    CHECK(listed("fn f(){match <[b;18446744073709551616]>::into(){}}", "00 0007 0007 0000000B 00000000 0001\n"));
+    CHECK(listed("fn f()->[b;18446744073709551616]{", "00 0021 0021 00000008 00000000 0001\n"));
+    /* A bound and a size that are too large keep their own numbers. */
+    CHECK(listed("fn f()->List<b,18446744073709551616>{}", "00 000F 000F 00000009 00000000 0001\n"));
+    CHECK(listed("fn f(){array_fold::<g,18446744073709551616>()}", "00 0016 0016 0000000A 00000000 0001\n"));
+}
+
 /* The example's records: six words for each of its lines. */
 enum { EXAMPLE_WORDS = 9 * TOGMELIC_RECORD_WORDS };
 static const uint32_t EXAMPLE_RECORDS[EXAMPLE_WORDS] = {
@@ -238,6 +269,7 @@ int main(void)
     test_lengths_of_out();
     test_every_byte();
     test_long_drafts();
+    test_lengths_of_arrays();
     test_loading();
     test_bytes_of_a_line();
     if (failures > 0) {

@@ -29,7 +29,8 @@ extern "C" {
  * of the draft from 0, end being the byte after; size counts the record and all beneath it.
  *
  * A refused draft has one line: kind 00, the place twice, the number of the refusal as low, high 0, size 1. The place
- * is a byte number, or the draft's length where something is missing at its end. docs/REFUSALS.md has the numbers.
+ * is a byte number, or the draft's length where something is missing at its end. The number is one of 1 to 14, or 19
+ * for an array type whose length is over 18,446,744,073,709,551,615. docs/REFUSALS.md has them all.
  *
  * Every byte of out behind the lines is set to zero. The lines are no C string: where they fill out, no zero ends them.
  *

@@ -6,12 +6,14 @@ use std::fmt;
 /// Why a draft is refused, and where.
 #[derive(Clone, Copy, Debug, PartialEq, Eq, Hash)]
 pub struct Refusal {
-    /// 1 to 14, as in document 01; 15 needs a tree buffer shorter than the one used here.
+    /// 1 to 14, as in document 01, or 19, as in document 02, order 2; 15 needs a tree buffer shorter than the one used
+    /// here.
     pub number: u32,
     /// Number of a byte of the draft, from 0; the draft's length where something is missing at its end.
     pub place: usize,
 }
 
+/// The reasons of 1 to 15, in order.
 const REASONS: [&str; 15] = [
     "the draft is over 16,384 bytes",
     "a byte is over 127",
@@ -33,8 +35,11 @@ const REASONS: [&str; 15] = [
 impl Refusal {
     /// What the number says, in words.
     pub fn reason(&self) -> &'static str {
-        let row = (self.number as usize).wrapping_sub(1);
-        REASONS.get(row).copied().unwrap_or("no such refusal")
+        match self.number {
+            number @ 1..=15 => REASONS[number as usize - 1],
+            19 => "the length is over 18,446,744,073,709,551,615",
+            _ => "no such refusal",
+        }
     }
 
     /// The refusal that a line is, if it is one.

@@ -31,9 +31,10 @@ const WORDS: [u32; 54] = [
 ];
 
 /// One draft for each group of kinds.
-const DRAFTS: [&str; 7] = [
+const DRAFTS: [&str; 8] = [
     "fn f(){}",
     "pub fn f(a:u8,b:Point)->Either<Option<bool>,List<([_;0],),9223372036854775808>>{}",
+    "fn f(a:[u8;18446744073709551615])->[u8;18446744073709551614]{}",
     "fn f(){let (a,[_]):(u1,x)=Left(Right(Some(None)));((),(1,),(1),[0x1],list![0b1,],true)}",
     "fn f(){match A::B(1){Right(x:u8)=>witness::w,Left(x:u8)=>{param::p;}}}",
     "fn f(){match x{A::B=>1,A::B::C(x:u8,_:u8)=>{}}}",

@@ -51,6 +51,26 @@ fn numbers_of_64_bits() {
     let list_type = tree.iter().find(|record| record.kind == 12).unwrap();
     assert_eq!((list_type.low, list_type.high), (0, 1 << 31));
     assert_eq!(list_type.number(), 9_223_372_036_854_775_808);
+    let tree = in_body("let a:[u8;18446744073709551615]=1;").unwrap();
+    let array_type = tree.iter().find(|record| record.kind == 11).unwrap();
+    assert_eq!((array_type.low, array_type.high), (u32::MAX, u32::MAX));
+    assert_eq!(array_type.number(), u64::MAX);
+}
+
+/// Document 02, order 2: at the number, and the earliest place among 9 to 14.
+#[test]
+fn lengths_over_64_bits() {
+    for (text, refusal) in [
+        ("let a:[u8;18446744073709551616]=1;", (19, 17)),
+        ("let a:[u8;0_99999999999999999999_]=1;", (19, 17)),
+        ("let a:List<[u8;18446744073709551616],3>=1;", (19, 22)),
+        ("let a:[List<u8,3>;18446744073709551616]=1;", (9, 22)),
+        ("match <[u8;18446744073709551616]>::into(x){}", (11, 7)),
+        ("<[u8;18446744073709551616]>::into(match x{})", (19, 12)),
+        ("let a:[u8;18446744073709551616]=1", (8, 40)),
+    ] {
+        assert_eq!(refused(text), refusal, "{text}");
+    }
 }
 
 #[test]
@@ -83,6 +103,18 @@ fn refusals_in_words() {
         refusal.to_string(),
         "refusal 11 at byte 7: the match has no arms"
     );
+    let refusal = in_body("<[u8;18446744073709551616]>::into(x)").unwrap_err();
+    assert_eq!(
+        refusal.to_string(),
+        "refusal 19 at byte 12: the length is over 18,446,744,073,709,551,615"
+    );
+    let reason = |number| Refusal { number, place: 0 }.reason();
+    assert_eq!(reason(1), "the draft is over 16,384 bytes");
+    assert_eq!(reason(15), "the tree buffer is too short");
+    // 16 to 18 are about listings.
+    for number in [0, 16, 17, 18, 20, u32::MAX] {
+        assert_eq!(reason(number), "no such refusal");
+    }
 }
 
 #[test]
