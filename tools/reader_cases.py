@@ -226,7 +226,7 @@ def add_differences(cases):
     """The smallest inputs of docs/DIFFERENCES.md."""
     for draft in ("\u00e9", "\u00a0", "//\u00e9"):
         cases.add(draft.encode())
-    for draft in ("# #", "/*/*", 9 * "match ", "fn fold(){}", "fn f(a:[u8;4294967296]){}"):
+    for draft in ("# #", "/*/*", 9 * "match ", "fn fold(){}", "fn f()->[b;4294967296]{}"):
         cases.add(draft)
     cases.add(";", tokens=2)
     cases.add_bodies("fold(x)", "assert(x)")
