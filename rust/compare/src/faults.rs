@@ -25,13 +25,14 @@ const PLACES: [&str; 16] = [
 ];
 
 /// Types that hold another, some with a number of their own that is refused.
-const AROUND: [&str; 11] = [
+const AROUND: [&str; 12] = [
     "#",
     "Either<#,u8>",
     "Either<u8,#>",
     "Option<#>",
     "List<#,2>",
     "List<#,3>",
+    "List<#,18446744073709551616>",
     "(#)",
     "(u8,#,)",
     "[#;2]",
