@@ -66,8 +66,8 @@ pub(crate) fn size(v: num::Value) -> u32
     if num::is_size(v) { 0 } else { refusal::SIZE }
 }
 
-// The refusal of a length, or 0.
-pub(crate) fn length(v: num::Value) -> u32
+// The refusal of an array's length, or 0.
+pub(crate) fn array_length(v: num::Value) -> u32
     ensures { λ r. ⌜ r ≡ lengthFault v ⌝ }
 {
     if num::is_length(v) {

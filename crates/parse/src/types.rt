@@ -177,7 +177,7 @@ fn array(draft: &[u8], tokens: &[u32], count: usize, tree: &mut [u32], st: State
     };
     let v = names::number(draft, c);
     tree::close_number(tree, st, e, kind::ARRAY_TYPE, v);
-    let f = fault::judged(st, e, fault::length(v), c.start);
+    let f = fault::judged(st, e, fault::array_length(v), c.start);
     Step::Next(f, 0, 0)
 }
 

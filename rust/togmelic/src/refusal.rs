@@ -37,7 +37,7 @@ impl Refusal {
     pub fn reason(&self) -> &'static str {
         match self.number {
             number @ 1..=15 => REASONS[number as usize - 1],
-            19 => "the length is over 18,446,744,073,709,551,615",
+            19 => "the array length is over 18,446,744,073,709,551,615",
             _ => "no such refusal",
         }
     }

@@ -106,7 +106,7 @@ fn refusals_in_words() {
     let refusal = in_body("<[u8;18446744073709551616]>::into(x)").unwrap_err();
     assert_eq!(
         refusal.to_string(),
-        "refusal 19 at byte 12: the length is over 18,446,744,073,709,551,615"
+        "refusal 19 at byte 12: the array length is over 18,446,744,073,709,551,615"
     );
     let reason = |number| Refusal { number, place: 0 }.reason();
     assert_eq!(reason(1), "the draft is over 16,384 bytes");

@@ -43,7 +43,7 @@ pub data Reading : Type 0 where
   unread : ℕ → ℕ → Reading
   read : List Token → List Rec → Reading
 
--- "of 9 to 14 the earliest place"
+-- "of 9 to 14 the earliest place", and 19 "among" them
 abbrev pub faulty : Option Fault → List Token → List Rec → Reading
 faulty none ts rs = read ts rs
 faulty (some f) ts rs = unread (f .number) (f .place)

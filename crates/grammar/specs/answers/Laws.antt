@@ -54,7 +54,7 @@ module _ (en : Entry) (l : Limits) (draft : List ℕ) (tw rw : ℕ) where
   law-1 = accepted-exactly en l draft tw rw
 
   -- The order of refusals. "Refusal 1 is tested first; of 2 to 5 the earliest place wins; then 6, 7 and 8 in turn, each over all
-  -- tokens; of 9 to 14 the earliest place; last 15."
+  -- tokens; of 9 to 14 the earliest place; last 15." 19 is "among 9 to 14".
   pub refusals-in-order : (c p : ℕ) → (answer en l draft tw rw ≡ refused c p) ↔ Refusal en l draft tw rw c p
   refusals-in-order = refused-exactly en l draft tw rw
 
@@ -105,7 +105,7 @@ module _ (en : Entry) (l : Limits) (draft : List ℕ) (tw rw : ℕ) where
   row-misshapen (no-room s e h) q = absurd (omega arith)
 
   -- Law 2. Row 8, both halves: "the tokens before this one can be continued to a well-shaped draft, but not with this one", at "its
-  -- start, or the length at the end". "In 8, limits and refusals 9 to 14 are left aside."
+  -- start, or the length at the end". "In 8, limits and refusals 9 to 14 are left aside", 19 among them.
   pub law-2 : (p : ℕ) → (answer en l draft tw rw ≡ refused refusal.Misshapen p) ↔ Misshapen en l draft tw p
   law-2 p = ((λ e. row-misshapen (refused-exactly en l draft tw rw refusal.Misshapen p .0 e) refl), λ w. refused-exactly en l draft tw rw refusal.Misshapen p .1 (misshapen w))
 

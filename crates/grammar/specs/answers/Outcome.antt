@@ -1,5 +1,5 @@
 -- When the reader accepts and when it refuses, row by row in document 01's order of refusals: "Refusal 1 is tested first; of 2 to 5 the earliest
--- place wins; then 6, 7 and 8 in turn, each over all tokens; of 9 to 14 the earliest place; last 15."
+-- place wins; then 6, 7 and 8 in turn, each over all tokens; of 9 to 14 the earliest place; last 15." 19 is "among 9 to 14" (document 02, order 2).
 -- Assumes nothing: these are definitions. That `answer` is just that stands in OutcomeLaws.antt.
 use mathlib.Core.List.{List, _++_, map}
 use mathlib.Core.Option.{none, some}
@@ -46,7 +46,7 @@ pub record Continued (en : Entry) (these : List (ℕ × List ℕ)) : Type 0 wher
   pub begins : take (length these) (spelled draft its-tokens) ≡ these
   pub well-shaped : WellShaped en (classesOf (toksOf draft its-tokens))
 
--- Row 8, both halves: "In 8, limits and refusals 9 to 14 are left aside."
+-- Row 8, both halves: "In 8, limits and refusals 9 to 14 are left aside", 19 among them.
 pub record Misshapen (en : Entry) (l : Limits) (draft : List ℕ) (tw p : ℕ) : Type 0 where
   pub its-tokens : List Token
   pub within : Within l draft tw its-tokens
@@ -74,7 +74,7 @@ pub data Refusal (en : Entry) (l : Limits) (draft : List ℕ) (tw rw : ℕ) : �
   too-deep : {ts : List Token} {p : ℕ} → length draft ≤ l .bytes → lexemes draft ≡ tokens ts → length ts ≤ room l tw → tooDeep 0 0 ts ≡ some p
       → Refusal en l draft tw rw refusal.TooDeep p
   misshapen : {p : ℕ} → Misshapen en l draft tw p → Refusal en l draft tw rw refusal.Misshapen p
-  -- those of the shapes: "of 9 to 14 the earliest place"
+  -- those of the shapes: "of 9 to 14 the earliest place", 19 among them
   faulted : {ts : List Token} {r : Items} {f : Fault} → Shaped en l draft tw ts r → faultOf draft (toksOf draft ts) r ≡ some f → Refusal en l draft tw rw (f .number) (f .place)
   -- 15: "tree buffer under six words a record", at 0
   no-room : {ts : List Token} {r : Items} → Shaped en l draft tw ts r → faultOf draft (toksOf draft ts) r ≡ none → rw < recWide * length (recordsFor en draft ts r)

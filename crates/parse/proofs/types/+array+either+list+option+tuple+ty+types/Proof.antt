@@ -58,10 +58,10 @@ use Rattle.parse.proofs.types.types.Reads as types
 use Rattle.parse.proofs.types.types.Kinds as types-kinds
 use Rattle.parse.proofs.types.+array+either+list+option+tuple+ty+types.Lts-types as types-lts
 use Rattle.parse.proofs.choice.types.Reads as types-reads
+use Rattle.parse.proofs.fault.array_length.Reads as array-length-reads
 use Rattle.parse.proofs.fault.bound.Reads as bound-reads
 use Rattle.parse.proofs.fault.clean.Reads as clean-reads
 use Rattle.parse.proofs.fault.judged.Reads as judged-reads
-use Rattle.parse.proofs.fault.length.Reads as length-reads
 use Rattle.parse.proofs.names.number.Reads as number-reads
 use Rattle.parse.proofs.token.advance.Reads as advance-reads
 use Rattle.parse.proofs.token.eat.Reads as eat-reads
@@ -86,7 +86,7 @@ pub +array+either+list+option+tuple+ty+types-spec : {M : Type 1} → statement M
     (λ t. array-lts.spec (array-calls t) (array-at t) array.Post
     (Of-array.array-clean-requires t) (Of-array.array-reserve-requires t) (Of-array.array-advance-requires t) (Of-array.array-ty-requires t) (Of-array.array-enum-known-inner t) (Of-array.array-enum-told t) (Of-array.array-same-length t) (Of-array.array-returns t) (Of-array.array-eat-requires t) (Of-array.array-enum-known-semi t) (Of-array.array-enum-told-2 t)
     (Of-array.array-same-length-2 t) (Of-array.array-returns-2 t) (Of-array.array-eat-requires-2 t) (Of-array.array-enum-known-decimal t) (Of-array.array-enum-told-3 t) (Of-array.array-same-length-3 t) (Of-array.array-returns-3 t) (Of-array.array-eat-requires-3 t) (Of-array.array-enum-known-bracket t) (Of-array.array-enum-told-4 t) (Of-array.array-same-length-4 t)
-    (Of-array.array-returns-4 t) (Of-array.array-number-requires t) (Of-array.array-close-number-requires t) (Of-array.array-length-requires t) (Of-array.array-judged-requires t) (Of-array.array-same-length-5 t) (Of-array.array-returns-5 t))
+    (Of-array.array-returns-4 t) (Of-array.array-number-requires t) (Of-array.array-close-number-requires t) (Of-array.array-array-length-requires t) (Of-array.array-judged-requires t) (Of-array.array-same-length-5 t) (Of-array.array-returns-5 t))
     (λ t. either-lts.spec (either-calls t) (either-at t) either.Post
     (Of-either.either-reserve-requires t) (Of-either.either-advance-requires t) (Of-either.either-close-requires t) (Of-either.either-same-length t) (Of-either.either-returns t) (Of-either.either-advance-requires-2 t) (Of-either.either-ty-requires t) (Of-either.either-enum-known-left t) (Of-either.either-enum-told t) (Of-either.either-same-length-2 t)
     (Of-either.either-returns-2 t) (Of-either.either-eat-requires t) (Of-either.either-enum-known-comma t) (Of-either.either-enum-told-2 t) (Of-either.either-same-length-3 t) (Of-either.either-returns-3 t) (Of-either.either-ty-requires-2 t) (Of-either.either-enum-known-right t) (Of-either.either-enum-told-3 t) (Of-either.either-same-length-4 t)

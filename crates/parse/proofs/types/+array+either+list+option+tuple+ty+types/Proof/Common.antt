@@ -50,10 +50,10 @@ use Rattle.parse.proofs.types.types.Reads as types
 use Rattle.parse.proofs.types.types.Kinds as types-kinds
 use Rattle.parse.proofs.types.+array+either+list+option+tuple+ty+types.Lts-types as types-lts
 use Rattle.parse.proofs.choice.types.Reads as types-reads
+use Rattle.parse.proofs.fault.array_length.Reads as array-length-reads
 use Rattle.parse.proofs.fault.bound.Reads as bound-reads
 use Rattle.parse.proofs.fault.clean.Reads as clean-reads
 use Rattle.parse.proofs.fault.judged.Reads as judged-reads
-use Rattle.parse.proofs.fault.length.Reads as length-reads
 use Rattle.parse.proofs.names.number.Reads as number-reads
 use Rattle.parse.proofs.token.advance.Reads as advance-reads
 use Rattle.parse.proofs.token.eat.Reads as eat-reads
@@ -132,7 +132,8 @@ abbrev pub types-μ-loop : types-lts.MeasureT-loop
 types-μ-loop draft tokens count tree₀ here₀ tree here = count - here .at
 
 abbrev pub array-calls : ℕ → array-lts.Claims
-array-calls t = (clean-reads.Asked, clean-reads.Learnt, reserve-reads.Asked, reserve-reads.Learnt, advance-reads.Asked, advance-reads.Learnt, ty-below t, ty.Post, eat-reads.Asked, eat-reads.Learnt, number-reads.Asked, number-reads.Learnt, close-number-reads.Asked, close-number-reads.Learnt, length-reads.Asked, length-reads.Learnt, judged-reads.Asked, judged-reads.Learnt)
+array-calls t =
+    (clean-reads.Asked, clean-reads.Learnt, reserve-reads.Asked, reserve-reads.Learnt, advance-reads.Asked, advance-reads.Learnt, ty-below t, ty.Post, eat-reads.Asked, eat-reads.Learnt, number-reads.Asked, number-reads.Learnt, close-number-reads.Asked, close-number-reads.Learnt, array-length-reads.Asked, array-length-reads.Learnt, judged-reads.Asked, judged-reads.Learnt)
 
 abbrev pub either-calls : ℕ → either-lts.Claims
 either-calls t = (reserve-reads.Asked, reserve-reads.Learnt, advance-reads.Asked, advance-reads.Learnt, close-reads.Asked, close-reads.Learnt, ty-below t, ty.Post, eat-reads.Asked, eat-reads.Learnt)

@@ -50,10 +50,10 @@ use Rattle.parse.proofs.types.types.Reads as types
 use Rattle.parse.proofs.types.types.Kinds as types-kinds
 use Rattle.parse.proofs.types.+array+either+list+option+tuple+ty+types.Lts-types as types-lts
 use Rattle.parse.proofs.choice.types.Reads as types-reads
+use Rattle.parse.proofs.fault.array_length.Reads as array-length-reads
 use Rattle.parse.proofs.fault.bound.Reads as bound-reads
 use Rattle.parse.proofs.fault.clean.Reads as clean-reads
 use Rattle.parse.proofs.fault.judged.Reads as judged-reads
-use Rattle.parse.proofs.fault.length.Reads as length-reads
 use Rattle.parse.proofs.names.number.Reads as number-reads
 use Rattle.parse.proofs.token.advance.Reads as advance-reads
 use Rattle.parse.proofs.token.eat.Reads as eat-reads
@@ -200,8 +200,8 @@ module _ (t : ℕ) where
   array-close-number-requires c κs =
       search needs
 
-  pub array-length-requires : array-lts.Need-length-requires (array-calls t) (array-at t) array.Post
-  array-length-requires c κs =
+  pub array-array-length-requires : array-lts.Need-array-length-requires (array-calls t) (array-at t) array.Post
+  array-array-length-requires c κs =
       search needs
 
   pub array-judged-requires : array-lts.Need-judged-requires (array-calls t) (array-at t) array.Post
@@ -235,7 +235,7 @@ module _ (t : ℕ) where
       (c .before .before .before .before .before .before .before .before .before .before .before .before .before .before .before .before .before .before .before .before .before .before .before .before .before .before .before .before .before .before .before .before .args .count) (d3 .lays .stands) (c .before .before .before .before .before .before .number .ensures) in
       let z = form.wide-is (form.array-head d5) (number-at d5) refl refl in
       as-nonterminal form.array-rule y e (read (shut-judged ArrayTypeShape y o d5 (omega arith) z tt tt TypeKind (omega arith, omega arith) (put-number (valueAt x (c .before .before .before .before .before .before .before .before .before .before .before .before .before .before .before .before .semi .given .0 .0 .at)) n array-numbered
-      (c .before .before .before .before .close-number .ensures)) (form.judged-at (c .judged .ensures) (c .before .length .ensures) (d3 .lays .stands .start-is)) (λ is u v. form.array-fault (x .draft) is (c .before .before .before .before .before .before .number .result) (tokAt x
+      (c .before .before .before .before .close-number .ensures)) (form.judged-at (c .judged .ensures) (c .before .array-length .ensures) (d3 .lays .stands .start-is)) (λ is u v. form.array-fault (x .draft) is (c .before .before .before .before .before .before .number .result) (tokAt x
       (c .before .before .before .before .before .before .before .before .before .before .before .before .before .before .before .before .semi .given .0 .0 .at)) (first-is is u v) (value-text
       (c .before .before .before .before .before .before .before .before .before .before .before .before .before .before .before .before .before .before .before .before .before .before .before .before .before .before .before .before .before .before .before .before .args .draft .now)
       (c .before .before .before .before .before .before .before .before .before .before .before .before .before .before .before .before .before .before .before .before .before .before .before .before .before .before .before .before .before .before .before .before .args .tokens .now)

@@ -50,10 +50,10 @@ use Rattle.parse.proofs.types.types.Reads as types
 use Rattle.parse.proofs.types.types.Kinds as types-kinds
 use Rattle.parse.proofs.types.+array+either+list+option+tuple+ty+types.Lts-types as types-lts
 use Rattle.parse.proofs.choice.types.Reads as types-reads
+use Rattle.parse.proofs.fault.array_length.Reads as array-length-reads
 use Rattle.parse.proofs.fault.bound.Reads as bound-reads
 use Rattle.parse.proofs.fault.clean.Reads as clean-reads
 use Rattle.parse.proofs.fault.judged.Reads as judged-reads
-use Rattle.parse.proofs.fault.length.Reads as length-reads
 use Rattle.parse.proofs.names.number.Reads as number-reads
 use Rattle.parse.proofs.token.advance.Reads as advance-reads
 use Rattle.parse.proofs.token.eat.Reads as eat-reads

@@ -5,8 +5,8 @@ use mathlib.Core.Path.{sym, ap, _∙_}
 use Rattle.text.specs.Refusals as refusal
 use Rattle.parse.specs.Contract.{lengthFault}
 use borrow.Author.Needs.{needs}
-use Rattle.parse.proofs.fault.length.Statement.{statement}
-use Rattle.parse.proofs.fault.length.Tie as tie
+use Rattle.parse.proofs.fault.array_length.Statement.{statement}
+use Rattle.parse.proofs.fault.array_length.Tie as tie
 
 is-length-requires : tie.Need-is-length-requires
 is-length-requires c κs = search needs
@@ -19,5 +19,5 @@ returns-2 : tie.Need-returns-2
 unfolding lengthFault
 returns-2 c = sym (ap (λ b. cond b 0 refusal.Length) (sym (c .before .is-length .ensures) ∙ c .if1 .left))
 
-pub length-spec : {M : Type 1} → statement M
-length-spec = tie.close (tie.spec is-length-requires returns returns-2)
+pub array-length-spec : {M : Type 1} → statement M
+array-length-spec = tie.close (tie.spec is-length-requires returns returns-2)
