@@ -47,7 +47,8 @@ class Cases:
 
     def add_array(self, draft, number):
         """A draft that is accepted, with an array type of that length over one record, whose place is from mark `^` to mark `^`."""
-        start, end = (at - marks for marks, at in enumerate(found.start() for found in re.finditer(r"\^", draft.replace("~", "=>"))))
+        before, inside, _ = draft.replace("~", "=>").split("^")
+        start, end = len(before), len(before) + len(inside)
         self.said[self.count] = f"0B {start:04X} {end:04X} {number % 2 ** 32:08X} {number >> 32:08X} 0002\n"
         self.add(draft.replace("^", ""))
 
@@ -113,7 +114,7 @@ def add_matches(cases):
 
 
 def add_words_lent(cases):
-    """Token and tree buffers of every length up to a few over what is needed, so that 6, 8, 9 and 19, 15 are seen in their order."""
+    """Token and tree buffers of every length up to a few over what is needed, so that 6, 8, then 9 or 19, then 15 are seen in their order."""
     # The words of the tokens, and those that the records take or would take.
     for draft, tokens, tree in ((SMALL, 18, 18), (WRONG_BOUND, 48, 42), (WRONG_SHAPE, 24, 30), (WRONG_LENGTH, 36, 30)):
         for words in range(tokens + 5):
@@ -249,7 +250,7 @@ def add_orders(cases):
     # 6 before 7 before 8.
     for draft, tokens in ((49 * "(", 144), (49 * "(", 147), ("1" + 49 * "(", 150)):
         cases.add(draft, tokens)
-    # 8 before 9 to 14 and 19, which go by place, an outer `match` before what is in it.
+    # 8 before 9 to 14, which go by place, an outer `match` before what is in it. `add_faults` has those with 19.
     cases.add_bodies("fold::<g,3>(x) 1", "match x{} 1", "match match x{}{true~1,}", "match fold::<g,3>(x){}", "fold::<g,3>(match x{})",
                      "array_fold::<g,0>();fold::<g,0>()", "match x{None~match y{},true~1,}", "match x{true~match y{},false~2,}",
                      "match x{A::B~fold::<g,5>(),None~1,}", "let a:List<List<u1,3>,5>=1;", "let a:List<u1,0>=match x{};")
@@ -271,7 +272,7 @@ def add_lengths(cases):
     for length in ("00", "0_0", 300 * "0"):
         cases.add_array(f"{HEAD}->^[b;{length}]^{{}}", 0)
     cases.add_refused(19, f"{HEAD}->[b;^{9000 * '9'}]{{}}")
-    # Wherever a type stands, and in each type that holds one.
+    # Wherever a type stands; and in each type that holds one, as a result and in a `let`.
     places = ["fn f(a:#){}", "fn f(a:u1,b:#,){}", "pub fn f()->#{}"]
     places += map(body, ("let a:#=1;", "let (a,_):#={1};", "match x{Left(a:#)~1,Right(b:u1)~2,}", "match x{Right(a:#)~1,Left(b:u1)~2,}",
                          "match x{None~1,Some([]:#)~{}}", "match x{A::B(a:#)~1,}", "match x{A::B~{}A::C(a:u1,b:#,)~{}}", "<#>::into(1)",

@@ -139,12 +139,12 @@ pub fn is_size(v: Value) -> bool
     }
 }
 
-// A good length is a number, of whatever size that is not too large.
+// A good length is any number that is not too large, 0 too.
 pub fn is_length(v: Value) -> bool
     ensures { λ r. ⌜ r ≡ lengthOk v ⌝ }
 {
-    let Value::TooLarge = v else {
-        return true;
+    let Value::Number(_) = v else {
+        return false;
     };
-    false
+    true
 }

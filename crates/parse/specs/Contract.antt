@@ -127,13 +127,13 @@ pub data Eaten (x : Text) (st : State) (c : ℕ) : Step → Type 0 where
   ate : {st′ : State} → st .class ≡ c → Moved x st st′ → Eaten x st c (Next st′ 0 0)
   lacked : (st .class ≡ c → ⊥) → Eaten x st c (Refused (st .at))
 
--- The kinds whose low and high "together [..] hold a 64-bit number",
-abbrev pub numbered : List ℕ
-numbered = kind.ArrayType ∷ kind.ListType ∷ kind.Number ∷ []
+-- The kinds of records that hold a number, those with fields `wide` or `bounded` in the kinds table.
+abbrev pub numberKinds : List ℕ
+numberKinds = kind.ArrayType ∷ kind.ListType ∷ kind.Number ∷ []
 
--- and that they do: then they are its two halves, of 32 bits each.
+-- Low and high of such a kind are two halves of 32 bits.
 abbrev pub Halved : ℕ → ℕ → ℕ → Type 0
-Halved k low high = T (has numbered k) → T (halves low high)
+Halved k low high = T (has numberKinds k) → T (halves low high)
 
 abbrev pub Holds : own.Node → Type 0
 Holds n = Halved (n .kind) (n .low) (n .high)

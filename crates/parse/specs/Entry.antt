@@ -1,5 +1,5 @@
--- What `parse` hands over (document 01, "What the reader hands over": row 6 for a count that is too large, and from row 8 on): from a draft and the words of its token buffer to
--- the answer and every word of the tree buffer. What the draft is read as, and how many tokens there may be, are parameters.
+-- What `parse` hands over (document 01, "What the reader hands over": row 6 for a count that is too large, and from row 8 on; 19 among 9 to 14): from a
+-- draft and the words of its token buffer to the answer and every word of the tree buffer. What the draft is read as, and how many tokens there may be, are parameters.
 -- Assumes nothing: these are definitions.
 use mathlib.Core.Bool.{Bool, cond, _||_}
 use mathlib.Core.List.{List}

@@ -152,7 +152,7 @@ fn tuple(draft: &[u8], tokens: &[u32], count: usize, tree: &mut [u32], st: State
     Step::Next(c, 0, 0)
 }
 
-// `[A; n]`. What is refused inside is kept apart.
+// `[A; n]`. As in `list`, what is refused inside is kept apart until the number is judged.
 fn array(draft: &[u8], tokens: &[u32], count: usize, tree: &mut [u32], st: State) -> Step
     requires { ⌜ Ready (text (now draft) (now tokens) count) st ⌝ }
     requires { ⌜ choose table n-type (st .class) ≡ choice.ArrayType ⌝ }

@@ -65,7 +65,7 @@ NoFunction = 17
 abbrev pub NoLoadRoom : ℕ
 NoLoadRoom = 18
 
--- Of a shape again (order 2), in Faults.antt of `grammar` too.
+-- Of a shape again (order 2); its sentence stands in Faults.antt of `grammar`.
 abbrev pub Length : ℕ
 Length = 19
 

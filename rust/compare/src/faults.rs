@@ -1,5 +1,5 @@
 //! Well-shaped drafts with numbers and arms that are refused: lengths around the largest 64-bit number wherever a type
-//! may stand, and up to three of the refusals 9 to 14 and 19 in one draft, in every order, whole and misshapen.
+//! may stand, and up to three of the refusals 9 to 14 and 19 in one draft, in every order; with up to two also misshapen.
 
 use crate::comparison::Comparison;
 use crate::strings;
@@ -24,7 +24,7 @@ const PLACES: [&str; 16] = [
     "fn f(a:#,b:#)->#{<#>::into(a)}",
 ];
 
-/// Types that hold another, some with a number of their own that is refused.
+/// The type itself, and types that hold it, some with a number of their own that is refused.
 const AROUND: [&str; 12] = [
     "#",
     "Either<#,u8>",
@@ -41,16 +41,18 @@ const AROUND: [&str; 12] = [
 ];
 
 /// Expressions with room for others. All but the first are refused, by each number in its ways.
-const FAULTS: [&str; 19] = [
+const FAULTS: [&str; 21] = [
     "g(#)",
     "fold::<g,3>(#)",
     "fold::<g,18446744073709551616>(#)",
+    "is_none::<List<u8,3>>(#)",
     "array_fold::<g,0>(#)",
     "array_fold::<g,18446744073709551616>(#)",
     "match #{}",
     "match #{A::B=>1,true=>2,}",
     "match x{A::B=>#,true=>#,}",
     "match #{true=>1,}",
+    "match #{true=>1,false=>2,true=>3,}",
     "match x{Left(a:[u8;18446744073709551616])=>#,}",
     "match #{None=>1,true=>2,}",
     "match x{None=>#,Left(a:[u8;18446744073709551616])=>#,}",
@@ -66,9 +68,11 @@ const FAULTS: [&str; 19] = [
 pub fn all(comparison: &mut Comparison) {
     for length in lengths() {
         let array = format!("[u8;{length}]");
-        for (place, around) in pairs(&PLACES, &AROUND) {
-            let draft = place.replace('#', &around.replace('#', &array));
-            comparison.check_short(draft.as_bytes());
+        for place in PLACES {
+            for around in AROUND {
+                let draft = place.replace('#', &around.replace('#', &array));
+                comparison.check_short(draft.as_bytes());
+            }
         }
     }
     let pieces = FAULTS.map(str::as_bytes);
@@ -82,15 +86,6 @@ pub fn all(comparison: &mut Comparison) {
         }
         faults.len() < 3
     });
-}
-
-fn pairs<'a>(
-    these: &'a [&'a str],
-    those: &'a [&'a str],
-) -> impl Iterator<Item = (&'a str, &'a str)> {
-    these
-        .iter()
-        .flat_map(move |this| those.iter().map(move |that| (*this, *that)))
 }
 
 fn text(piece: &[u8]) -> &str {

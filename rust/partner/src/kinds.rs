@@ -1,4 +1,4 @@
-//! The numbers of document 01's tables: refusals, tokens, records, calls and arms.
+//! The numbers of the papers' tables: refusals, tokens, records, calls and arms.
 
 /// Gives each name of a module its number, counted up from the first.
 macro_rules! numbered {

@@ -93,7 +93,7 @@ impl<'a> Parser<'a> {
         found
     }
 
-    /// Takes a decimal number: its value, `None` when the draft is refused for it, with that number.
+    /// Takes a decimal: its value, or `None` where the draft is refused for it, with the refusal `number`.
     /// One over the largest 64-bit number has no value and is refused by each rule.
     fn decimal(&mut self, number: u32, allows: fn(u64) -> bool) -> Step<Option<u64>> {
         let place = self.place();

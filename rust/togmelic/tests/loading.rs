@@ -30,7 +30,7 @@ const WORDS: [u32; 54] = [
     24, 21, 22, 0, 0, 1,
 ];
 
-/// One draft for each group of kinds.
+/// One draft for each group of kinds, and one with the largest lengths.
 const DRAFTS: [&str; 8] = [
     "fn f(){}",
     "pub fn f(a:u8,b:Point)->Either<Option<bool>,List<([_;0],),9223372036854775808>>{}",

@@ -1,4 +1,4 @@
-//! The typed view: records and refusals of drafts whose results document 01 gives.
+//! The typed view: records and refusals of drafts whose results the papers give.
 
 use togmelic::{list, read, records, Record, Refusal, MOST_BYTES};
 

@@ -1,4 +1,4 @@
--- The laws of the reader's answer, each with its sentence of document 01. `answer` and the two buffers are those of Answer.antt.
+-- The laws of the reader's answer, each with its sentence of the papers. `answer` and the two buffers are those of Answer.antt.
 -- Assumes nothing.
 use mathlib.Core.List.{List, _++_}
 use mathlib.Core.Option.{none}

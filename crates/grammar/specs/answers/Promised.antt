@@ -1,5 +1,5 @@
 -- What is promised of a reading, whichever entry reads: the answer, every word of both buffers, and the ownership of what is handed over. All of it
--- is said in the terms of document 01, without the function `answer` and its tables.
+-- is said in the terms of the papers, without the function `answer` and its tables.
 -- Assumes nothing: these are definitions. That `answer` and the buffers keep the promise stands in Laws.antt.
 use mathlib.Core.List.{List}
 use mathlib.Core.Logic.{_↔_}

@@ -1,5 +1,6 @@
--- Drafts at the limits, of bytes and tokens by small figures, and in the order of refusals; and the drafts of document 01's "Drafts with known results" that
--- are not marked, but for `0x_1` (lexer's Samples.antt): what the definitions make of each is computed. Refusals are in the paper's figures, so that the names for them are tested too.
+-- Drafts at the limits, of bytes and tokens by small figures, and in the order of refusals; array lengths around the largest 64-bit number; and the drafts of
+-- document 01's "Drafts with known results" that are not marked, but for `0x_1` (lexer's Samples.antt): what the definitions make of each is computed. Refusals
+-- are in the paper's figures, so that the names for them are tested too.
 -- Assumes nothing.
 use mathlib.Core.List.{List, [], _∷_, _++_, map}
 use mathlib.Core.Path.{_≡_, refl}

@@ -1,4 +1,4 @@
--- Drafts with what document 01 says of each, and what the definitions say of them in the same form, opened so that it computes.
+-- Drafts with what the papers say of each, and what the definitions say of them in the same form, opened so that it computes.
 -- Assumes nothing.
 use mathlib.Core.List.{List, _++_}
 use Prim.Native.Nat.{ℕ, _*_}

@@ -1,4 +1,4 @@
--- The numbers of the refusals of a shape tree are of the family of the shapes (document 01, "What the reader hands over").
+-- The numbers of the refusals of a shape tree are of the family of the shapes (document 01, "What the reader hands over"; 19: document 02, order 2).
 -- Assumes nothing.
 use mathlib.Core.Bool.{Bool, true, false, cond}
 use mathlib.Core.List.{List, [], _∷_}

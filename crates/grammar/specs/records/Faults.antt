@@ -1,4 +1,4 @@
--- The refusals of the shapes, each with its place, and the earliest of a shape tree (document 01, "What the reader hands over").
+-- The refusals of the shapes, each with its place, and the earliest of a shape tree (document 01, "What the reader hands over"; 19: document 02, order 2).
 -- Assumes nothing.
 use mathlib.Core.Bool.{Bool, false, _||_, not, cond}
 use mathlib.Core.List.{List, [], _∷_, _++_, map}
@@ -50,13 +50,13 @@ armsFault e lows =
     cond (eqb e 0) (cond (eqb (length lows) 0) refusal.NoArms (cond (eqb (length lows) 2) (cond (mates lows) 0 refusal.NoPartners) refusal.ArmCount))
     (cond (eqb (length lows) 0) 0 refusal.MixedArms)
 
--- The refusals of a shape made of these items: 9 "`List` or `fold` bound not a power of two from 2 to 9,223,372,036,854,775,808" and
--- 10 "`array_fold` size 0 or over 18,446,744,073,709,551,615", at the number; 11 to 14 at `match`. Without `<` a List is an alias name,
--- and `fold` a variable or a path. 19 (document 02, order 2) "when an array type's length is over the largest 64-bit number, at the number".
--- Which of them a shape of kind k may have is in its row.
+-- 9 "`List` or `fold` bound not a power of two from 2 to 9,223,372,036,854,775,808" and 10 "`array_fold` size 0 or over
+-- 18,446,744,073,709,551,615", at the number. Without `<` a List is an alias name, and `fold` a variable or a path.
 abbrev pub numberFault : (Value → Bool) → ℕ → List ℕ → Items → List Fault
 numberFault ok n draft is = unless (not (sees t.LAngle (sorts is)) || ok (fitted (decimal draft is))) n (firstOf t.DecLiteral (marks is))
 
+-- The refusals of a shape made of these items: those two; 19 "when an array type's length is over the largest 64-bit number, at the number"; 11 to 14
+-- at `match`. Which of them a shape of kind k may have is in its row.
 abbrev pub faultsBy : Refused → List ℕ → Items → List Fault
 faultsBy never draft is = []
 faultsBy byBound draft is = numberFault boundOk refusal.Bound draft is

@@ -42,7 +42,7 @@ head k l h = record { kind = k; low = l; high = h }
 abbrev pub plain : ℕ → Head
 plain k = head k 0 0
 
--- "together they hold a 64-bit number where `number` stands": its two halves of 32 bits.
+-- "together they hold a 64-bit number where `number` stands": its two halves of 32 bits. (The high one is larger only of a number that is refused.)
 unfoldable pub lowHalf : ℕ → ℕ
 lowHalf n = n % halfRange
 

@@ -17,7 +17,7 @@ use Rattle.kinds.specs.Fields as field
 use Rattle.kinds.specs.Fields.{Fields, halves, holds}
 use Rattle.kinds.specs.Rules.{Form, forms}
 use Rattle.kinds.specs.Spelled.{formsOf, Written, Spelled}
-use Rattle.parse.specs.Contract.{numbered, Holds}
+use Rattle.parse.specs.Contract.{numberKinds, Holds}
 
 -- Fields that hold a number, be it a bound.
 abbrev ofNumber : Fields → Bool
@@ -32,7 +32,7 @@ ofNumber (field.among ns) = false
 
 -- Every form of such a kind has such fields: by one computation.
 abbrev sound : Form → Bool
-sound f = not (has numbered (f .kind)) || ofNumber (f .fields)
+sound f = not (has numberKinds (f .kind)) || ofNumber (f .fields)
 
 all-sound : T (all sound forms)
 unfolding all forms has span count
@@ -53,11 +53,11 @@ pub spelled-holds : (n : Node) → Keeps Spelled n → Holds n
 unfolding formsOf
 spelled-holds n s t = from-some one (all-some sound all-sound (some-keep (λ f. eqb (f .kind) (n .kind)) forms s))
   where
-    numbers : (f : Form) → T (eqb (f .kind) (n .kind)) → T (not (has numbered (f .kind))) ⊎ T (ofNumber (f .fields)) → T (ofNumber (f .fields))
+    numbers : (f : Form) → T (eqb (f .kind) (n .kind)) → T (not (has numberKinds (f .kind))) ⊎ T (ofNumber (f .fields)) → T (ofNumber (f .fields))
     numbers f e (inl u) =
-        let k : T (has numbered (f .kind)) = subst (λ (i : ℕ). T (has numbered i)) (sym (eqb→eq (f .kind) (n .kind) e)) t in
-        absurd (subst (λ y. T y) (not-true (has numbered (f .kind)) u) k)
+        let k : T (has numberKinds (f .kind)) = subst (λ (i : ℕ). T (has numberKinds i)) (sym (eqb→eq (f .kind) (n .kind) e)) t in
+        absurd (subst (λ y. T y) (not-true (has numberKinds (f .kind)) u) k)
     numbers f e (inr u) = u
 
     one : (f : Form) → T (sound f) × (T (eqb (f .kind) (n .kind)) × Written (n .low) (n .high) (sorts (n .items)) f) → T (halves (n .low) (n .high))
-    one f (a, (e, w)) = fields-hold (f .fields) (n .low) (n .high) (sorts (n .items)) (numbers f e (or-cases (not (has numbered (f .kind))) (ofNumber (f .fields)) a)) (w .fields)
+    one f (a, (e, w)) = fields-hold (f .fields) (n .low) (n .high) (sorts (n .items)) (numbers f e (or-cases (not (has numberKinds (f .kind))) (ofNumber (f .fields)) a)) (w .fields)

@@ -16,7 +16,7 @@ use Rattle.own.specs.Kinds as kind
 use Rattle.kinds.specs.Shape.{halfRange}
 use Rattle.kinds.specs.Fields.{halves}
 use Rattle.grammar.specs.records.Records.{lowHalf, highHalf}
-use Rattle.parse.specs.Contract.{numbered, Put, PutNumber, written, unwritten}
+use Rattle.parse.specs.Contract.{numberKinds, Put, PutNumber, written, unwritten}
 
 -- Two halves hold no larger number.
 halves-small : (n : ℕ) → T (halves (lowHalf n) (highHalf n)) → n ≤ largest
@@ -24,19 +24,19 @@ unfolding halves lowHalf highHalf
 halves-small n t = let h = ltb→lt (n / halfRange) halfRange (second-of (ltb (n % halfRange) halfRange) (ltb (n / halfRange) halfRange) t) in omega arith
 
 -- The kinds that hold a number.
-pub array-numbered : T (has numbered kind.ArrayType)
+pub array-numbered : T (has numberKinds kind.ArrayType)
 unfolding has
 array-numbered = tt
 
-pub list-numbered : T (has numbered kind.ListType)
+pub list-numbered : T (has numberKinds kind.ListType)
 unfolding has
 list-numbered = tt
 
-pub number-numbered : T (has numbered kind.Number)
+pub number-numbered : T (has numberKinds kind.Number)
 unfolding has
 number-numbered = tt
 
-pub put-number : {l l′ : List ℕ} {here k b e z : ℕ} {v : Value} (n : ℕ) → v ≡ fitted n → T (has numbered k) → PutNumber l here k b e v z l′ → Put l here k b e (lowHalf n) (highHalf n) z l′
+pub put-number : {l l′ : List ℕ} {here k b e z : ℕ} {v : Value} (n : ℕ) → v ≡ fitted n → T (has numberKinds k) → PutNumber l here k b e v z l′ → Put l here k b e (lowHalf n) (highHalf n) z l′
 put-number {l} {l′} {here} {k} {b} {e} {z} n f t p = go (held n) (subst (λ u. PutNumber l here k b e u z l′) f p)
   where
     go : {u : Value} → Held n u → PutNumber l here k b e u z l′ → Put l here k b e (lowHalf n) (highHalf n) z l′
