@@ -9,13 +9,14 @@ FUNCTION_RESERVED = "unwrap_left unwrap_right array_fold for_while is_none unwra
 KEYWORDS = "pub use as fn let type mod const match enum crate simc true false".split()
 MACROS = "assert! panic! dbg! list!".split()
 MODULE_RESERVED = "jet witness param".split()
-RULE_WORDS = "Left Right Some None Either Option List".split() + FUNCTION_RESERVED + MACROS + ["false", "true"]
 UINTS = ["u" + str(2 ** k) for k in range(9)]
 BUILTIN_ALIASES = (
     "Ctx8 Pubkey Message Message64 Signature Scalar Fe Ge Gej Point Height Time Distance Duration Lock Outpoint Confidential1 "
     "ExplicitAsset Asset1 ExplicitAmount Amount1 ExplicitNonce Nonce TokenAmount1"
 ).split()
-TABLES = [FUNCTION_RESERVED, KEYWORDS, MACROS, MODULE_RESERVED, RULE_WORDS, ["bool"] + UINTS + BUILTIN_ALIASES]
+RULE_NAMES = "Left Right Some None Either Option List".split()
+RULE_WORDS = RULE_NAMES + FUNCTION_RESERVED + MACROS + ["false", "true"] + ["bool"] + UINTS + BUILTIN_ALIASES
+TABLES = [FUNCTION_RESERVED, KEYWORDS, MACROS, MODULE_RESERVED, RULE_WORDS]
 
 
 def near(word):

@@ -14,13 +14,13 @@ use Rattle.text.specs.Same.{same}
 use Rattle.text.specs.SameLaws.{same-true}
 use Rattle.text.specs.Table.{all, each, every, at, is-true, first-of, second-of, implied}
 use Rattle.words.specs.Right.{Says, says}
-use Rattle.words.specs.Words.{FUNCTION_RESERVED, KEYWORDS, MACROS, MODULE_RESERVED, RULE_NAMES, BOOLEANS, RULE_WORDS, find, wordOf}
+use Rattle.words.specs.Words.{FUNCTION_RESERVED, KEYWORDS, MACROS, MODULE_RESERVED, RULE_NAMES, BOOLEANS, BOOL, UINT_TYPES, BUILTIN_ALIASES, TYPE_NAMES, RULE_WORDS, find, wordOf}
 use Rattle.words.specs.declared.Found.{Found}
 use Rattle.words.specs.declared.Found.the-variants.{Word, Plain}
 use Rattle.lexer.specs.Chars.{among, whitespace, lineEnds, plainBytes, binaryDigits, decimalDigits, hexDigits, underscore, nameStarts, nameBytes, run, begins}
 use Rattle.lexer.specs.Class.{wordClass, classOf}
 use Rattle.lexer.specs.Classes as t
-use Rattle.lexer.specs.ClassLaws.{other-class, identifier-class, function-name-class}
+use Rattle.lexer.specs.ClassLaws.{other-class, identifier-class, function-name-class, alias-name-class}
 use Rattle.lexer.specs.ClassLaw.{ClassLaw}
 use Rattle.lexer.specs.ClassTexts.{Sample, samples, wordKinds, neverGiven, given, AllGiven, sampleIn, sampleOf, sampled, draftOf, continuedWith}
 use Rattle.lexer.specs.Lexemes.{token, space, comment, lineComment, inside, closing, blockComment, nameLength, qualified, macro, word, digits, hexadecimal, binary, decimal, marks, mark, noLexeme, lexeme, Token, tokens, lexemes}
@@ -37,7 +37,7 @@ place-is Plain i = false
 
 -- each is found at its place
 places-pass : T (every (λ i w. place-is (wordOf RULE_WORDS w) i) 0 RULE_WORDS)
-unfolding wordOf find same FUNCTION_RESERVED MACROS RULE_NAMES BOOLEANS RULE_WORDS ascii asciiFrom
+unfolding wordOf find same FUNCTION_RESERVED MACROS RULE_NAMES BOOLEANS BOOL UINT_TYPES BUILTIN_ALIASES TYPE_NAMES RULE_WORDS ascii asciiFrom
 places-pass = tt
 
 found-at : (i : ℕ) → i < length RULE_WORDS → wordOf RULE_WORDS (getD RULE_WORDS i []) ≡ Word i
@@ -76,9 +76,9 @@ sample-tests c s =
     (not (leb t.words c) || same (getD RULE_WORDS (c - t.words) []) (ascii (s .text))) ∷ []
 
 -- computed over all classes
-samples-pass : T (every {A = ℕ} (λ c x. not (given c) || all (sample-tests c (sampleOf c))) 0 (replicate (t.true + 1) 0))
+samples-pass : T (every {A = ℕ} (λ c x. not (given c) || all (sample-tests c (sampleOf c))) 0 (replicate (t.last + 1) 0))
 unfolding sameLexeme samples sampleIn given neverGiven classOf wordOf find same FUNCTION_RESERVED KEYWORDS MACROS MODULE_RESERVED RULE_NAMES BOOLEANS
-    RULE_WORDS ascii asciiFrom among whitespace lineEnds plainBytes binaryDigits decimalDigits hexDigits underscore nameStarts nameBytes run begins
+    BOOL UINT_TYPES BUILTIN_ALIASES TYPE_NAMES RULE_WORDS ascii asciiFrom among whitespace lineEnds plainBytes binaryDigits decimalDigits hexDigits underscore nameStarts nameBytes run begins
     space comment lineComment inside closing blockComment nameLength qualified macro word digits hexadecimal binary decimal marks mark noLexeme lexeme
     has
 samples-pass = tt
@@ -91,9 +91,9 @@ module _ (c : ℕ) (g : T (given c)) where
   passes : (i : ℕ) → T (getD (sample-tests c (sampleOf c)) i true)
   unfolding given
   passes =
-      let l = leb→le c t.true (second-of (leb t.Pub c) (leb c t.true) (first-of (leb t.Pub c && leb c t.true) _ g)) in
+      let l = leb→le c t.last (second-of (leb t.Pub c) (leb c t.last) (first-of (leb t.Pub c && leb c t.last) _ g)) in
       each (sample-tests c (sampleOf c))
-      (implied (given c) _ (at {A = ℕ} (λ c x. not (given c) || all (sample-tests c (sampleOf c))) (replicate (t.true + 1) 0) 0 samples-pass c (omega arith)) g)
+      (implied (given c) _ (at {A = ℕ} (λ c x. not (given c) || all (sample-tests c (sampleOf c))) (replicate (t.last + 1) 0) 0 samples-pass c (omega arith)) g)
 
   -- A class's sample is one token, and has that class.
   pub sample-token : OneToken (sampleOf c .kind) v
@@ -196,4 +196,4 @@ module _ (draft : List ℕ) (front rest : List Token) (e : lexemes draft ≡ tok
 pub class-law : {k : ℕ} {w : List ℕ} {c : ℕ} → c ≡ classOf k w → OneToken k w → ClassLaw k w c
 class-law {k} {w} e o =
     subst (ClassLaw k w) (sym e)
-    (record { identifier = identifier-class o; function-name = function-name-class o; word = λ d g h. named-class d g h o })
+    (record { identifier = identifier-class o; function-name = function-name-class o; alias-name = alias-name-class o; word = λ d g h. named-class d g h o })

@@ -2,7 +2,7 @@
 -- text each word of the rules is. Every law is computed over the tables of words once.
 -- Assumes nothing.
 use mathlib.Core.Bool.{Bool, true, false, cond, _&&_, _||_, not}
-use mathlib.Core.List.{List, [], _∷_, List·Memᴰ, List·Memᴰ·head, List·Memᴰ·tail, Memᴰ·append-left, Memᴰ·append-right}
+use mathlib.Core.List.{List, [], _∷_, List·Memᴰ, List·Memᴰ·head, List·Memᴰ·tail}
 use mathlib.Core.Logic.{_↔_}
 use mathlib.Core.Path.{_≡_, refl, sym, subst}
 use Prim.Native.Nat.{ℕ, _+_, _<_}
@@ -11,11 +11,11 @@ use borrow.Author.Tests.{eq-eqb, eqb-true}
 use lib.Dec.{T, eqb, ltb, leb, ltb→lt, T-not}
 use lib.ListN.{length, replicate}
 use Rattle.text.specs.Ascii.{ascii, asciiFrom}
-use Rattle.text.specs.Lists.{has}
+use Rattle.text.specs.Lists.{has, all}
 use Rattle.text.specs.Same.{same}
 use Rattle.text.specs.Table.{every, at, first-of, second-of, implied}
 use Rattle.words.specs.Members.{found-in, plain-out, found-passes}
-use Rattle.words.specs.Words.{FUNCTION_RESERVED, KEYWORDS, MACROS, RULE_NAMES, BOOLEANS, RULE_WORDS, find, wordOf}
+use Rattle.words.specs.Words.{FUNCTION_RESERVED, KEYWORDS, MACROS, RULE_NAMES, BOOLEANS, BOOL, UINT_TYPES, BUILTIN_ALIASES, TYPE_NAMES, RULE_WORDS, ALIAS_RESERVED, find, wordOf}
 use Rattle.words.specs.declared.Found.{Found}
 use Rattle.words.specs.declared.Found.the-variants.{Word, Plain}
 use Rattle.lexer.specs.Chars.{among, decimalDigits, underscore, nameStarts, nameBytes, run}
@@ -49,84 +49,105 @@ member-test {n = n} (List·Memᴰ·tail {x = x} {xs = l} m) = go (eqb x n) (memb
 unlisted : (l : List ℕ) (n : ℕ) → T (not (has l n)) → ¬ List·Memᴰ n l
 unlisted l n h m = T-not (has l n) h (member-test m)
 
+-- a list within another
+within : (k : List ℕ) {l : List ℕ} {c : ℕ} → T (all (has k) l) → List·Memᴰ c l → List·Memᴰ c k
+unfolding all
+within k {c = c} t (List·Memᴰ·head {x = x} {xs = l} e) = listed k c (subst (λ n. T (has k n)) (sym e) (first-of (has k x) (all (has k) l) t))
+within k t (List·Memᴰ·tail {x = x} {xs = l} m) = within k (second-of (has k x) (all (has k) l) t) m
+
 abbrev isWord : Found → Bool
 isWord (Word i) = true
 isWord Plain = false
 
 -- ---- the tables
 
--- a word of the rules that is a name token's text: its class is given, and it is sorted by FUNCTION_RESERVED
-abbrev sorted : Bool → ℕ → Bool
-sorted true c = has t.reserved c && not (has t.functionNames c)
-sorted false c = has t.functionNames c && not (has t.reserved c)
+-- names that a list of words reserves: those of the classes r are in the list, those of the classes f are free
+abbrev sorted : List ℕ → List ℕ → Bool → ℕ → Bool
+sorted f r true c = has r c && not (has f c)
+sorted f r false c = has f c && not (has r c)
 
-abbrev name-test : ℕ → List ℕ → Bool
-name-test i w = isWord (wordOf KEYWORDS w) || (not (eqb (nameLength w) (length w)) || (given (t.words + i) && sorted (isWord (wordOf FUNCTION_RESERVED w)) (t.words + i)))
+-- a word of the rules that is a name token's text: its class is given, and sorted so
+abbrev name-test : List (List ℕ) → List ℕ → List ℕ → ℕ → List ℕ → Bool
+name-test ws f r i w = isWord (wordOf KEYWORDS w) || (not (eqb (nameLength w) (length w)) || (given (t.words + i) && sorted f r (isWord (wordOf ws w)) (t.words + i)))
 
-names-pass : T (every name-test 0 RULE_WORDS)
-unfolding wordOf find same FUNCTION_RESERVED KEYWORDS MACROS RULE_NAMES BOOLEANS RULE_WORDS ascii asciiFrom nameLength run among nameBytes nameStarts underscore decimalDigits given neverGiven classOf has
-names-pass = tt
+-- What is computed of a list of reserved words and the classes of names: the words of the rules are sorted, the list has no other words, any other
+-- name is free, and the classes are names'.
+record Reserves (ws : List (List ℕ)) (f r : List ℕ) : Type 0 where
+  words : T (every (name-test ws f r) 0 RULE_WORDS)
+  known : T (every (λ i w. isWord (wordOf RULE_WORDS w)) 0 ws)
+  plain : T (sorted f r false t.Ident)
+  names : T (all (has t.identifiers) f && all (has t.identifiers) r)
+
+functions : Reserves FUNCTION_RESERVED t.functionNames t.reserved
+unfolding wordOf find same FUNCTION_RESERVED KEYWORDS MACROS RULE_NAMES BOOLEANS BOOL UINT_TYPES BUILTIN_ALIASES TYPE_NAMES RULE_WORDS ascii asciiFrom nameLength run among nameBytes nameStarts underscore decimalDigits given neverGiven classOf has all
+functions = record { words = tt; known = tt; plain = tt; names = tt }
+
+aliases : Reserves ALIAS_RESERVED t.aliasNames t.aliasReserved
+unfolding ALIAS_RESERVED wordOf find same FUNCTION_RESERVED KEYWORDS MACROS RULE_NAMES BOOLEANS BOOL UINT_TYPES BUILTIN_ALIASES TYPE_NAMES RULE_WORDS ascii asciiFrom nameLength run among nameBytes nameStarts underscore decimalDigits given neverGiven classOf has all
+aliases = record { words = tt; known = tt; plain = tt; names = tt }
 
 -- a class is given, and no name's
 abbrev nameless : ℕ → Bool
 nameless c = given c && not (has t.identifiers c)
 
 booleans-pass : T (every (λ i w. not (ltb t.Simc (t.Pub + i)) || nameless (classOf t.Bool w)) 0 KEYWORDS)
-unfolding wordOf find same FUNCTION_RESERVED KEYWORDS MACROS RULE_NAMES BOOLEANS RULE_WORDS ascii asciiFrom given neverGiven classOf has
+unfolding wordOf find same FUNCTION_RESERVED KEYWORDS MACROS RULE_NAMES BOOLEANS BOOL UINT_TYPES BUILTIN_ALIASES TYPE_NAMES RULE_WORDS ascii asciiFrom given neverGiven classOf has
 booleans-pass = tt
 
 macros-pass : T (every (λ i w. nameless (classOf t.Macro w)) 0 MACROS)
-unfolding wordOf find same FUNCTION_RESERVED MACROS RULE_NAMES BOOLEANS RULE_WORDS ascii asciiFrom given neverGiven classOf has
+unfolding wordOf find same FUNCTION_RESERVED MACROS RULE_NAMES BOOLEANS BOOL UINT_TYPES BUILTIN_ALIASES TYPE_NAMES RULE_WORDS ascii asciiFrom given neverGiven classOf has
 macros-pass = tt
 
 -- the kinds that are classes themselves
 others-pass : T (every {A = ℕ} (λ k x. not (otherKind k) || (not (eqb k t.Bool || eqb k t.Ident || eqb k t.Macro) && nameless k)) 0 (replicate t.words 0))
-unfolding wordOf find same FUNCTION_RESERVED MACROS RULE_NAMES BOOLEANS RULE_WORDS ascii asciiFrom given neverGiven classOf has
+unfolding wordOf find same FUNCTION_RESERVED MACROS RULE_NAMES BOOLEANS BOOL UINT_TYPES BUILTIN_ALIASES TYPE_NAMES RULE_WORDS ascii asciiFrom given neverGiven classOf has
 others-pass = tt
 
 -- ---- names
 
 -- how a name token's text and class go together
-data Sorted (w : List ℕ) (c : ℕ) : Type 0 where
-  free : ¬ List·Memᴰ w FUNCTION_RESERVED → List·Memᴰ c t.functionNames → ¬ List·Memᴰ c t.reserved → Sorted w c
-  taken : List·Memᴰ w FUNCTION_RESERVED → List·Memᴰ c t.reserved → ¬ List·Memᴰ c t.functionNames → Sorted w c
-
--- the reserved names are words of the rules
-reserved-word : {w : List ℕ} → List·Memᴰ w FUNCTION_RESERVED → List·Memᴰ w RULE_WORDS
-unfolding RULE_WORDS
-reserved-word m = Memᴰ·append-left BOOLEANS (Memᴰ·append-left MACROS (Memᴰ·append-right RULE_NAMES m))
-
-by-test : (w : List ℕ) (f : Found) → wordOf FUNCTION_RESERVED w ≡ f → (c : ℕ) → T (sorted (isWord f) c) → Sorted w c
-by-test w (Word i) q c h =
-    taken (found-in FUNCTION_RESERVED w i q) (listed t.reserved c (first-of (has t.reserved c) _ h)) (unlisted t.functionNames c (second-of (has t.reserved c) _ h))
-by-test w Plain q c h =
-    free (plain-out FUNCTION_RESERVED w q) (listed t.functionNames c (first-of (has t.functionNames c) _ h)) (unlisted t.reserved c (second-of (has t.functionNames c) _ h))
+data Sorted (ws : List (List ℕ)) (f r : List ℕ) (w : List ℕ) (c : ℕ) : Type 0 where
+  free : ¬ List·Memᴰ w ws → List·Memᴰ c f → ¬ List·Memᴰ c r → Sorted ws f r w c
+  taken : List·Memᴰ w ws → List·Memᴰ c r → ¬ List·Memᴰ c f → Sorted ws f r w c
 
 -- of a name that is no keyword
-name-passes : (w : List ℕ) → nameLength w ≡ length w → wordOf KEYWORDS w ≡ Plain → (i : ℕ) → wordOf RULE_WORDS w ≡ Word i
-    → T (given (t.words + i) && sorted (isWord (wordOf FUNCTION_RESERVED w)) (t.words + i))
-name-passes w l q i e =
-    let h = found-passes name-test RULE_WORDS names-pass w i e in
+name-passes : {ws : List (List ℕ)} {f r : List ℕ} → Reserves ws f r → (w : List ℕ) → nameLength w ≡ length w → wordOf KEYWORDS w ≡ Plain → (i : ℕ) → wordOf RULE_WORDS w ≡ Word i
+    → T (given (t.words + i) && sorted f r (isWord (wordOf ws w)) (t.words + i))
+name-passes {ws} {f} {r} s w l q i e =
+    let h = found-passes (name-test ws f r) RULE_WORDS (s .words) w i e in
     rw (q, eq-eqb (nameLength w) (length w) l) at h
 
-plain-name : (w : List ℕ) → wordOf RULE_WORDS w ≡ Plain → Sorted w t.Ident
-unfolding has
-plain-name w e = free (λ m. plain-out RULE_WORDS w e (reserved-word m)) (listed t.functionNames t.Ident tt) (unlisted t.reserved t.Ident tt)
+module _ {ws : List (List ℕ)} {f r : List ℕ} (s : Reserves ws f r) where
+  by-test : (w : List ℕ) (x : Found) → wordOf ws w ≡ x → (c : ℕ) → T (sorted f r (isWord x) c) → Sorted ws f r w c
+  by-test w (Word i) q c h = taken (found-in ws w i q) (listed r c (first-of (has r c) _ h)) (unlisted f c (second-of (has r c) _ h))
+  by-test w Plain q c h = free (plain-out ws w q) (listed f c (first-of (has f c) _ h)) (unlisted r c (second-of (has f c) _ h))
 
-name-sorted : (w : List ℕ) → nameLength w ≡ length w → wordOf KEYWORDS w ≡ Plain → Sorted w (classOf t.Ident w)
-unfolding classOf
-name-sorted w l q = go (wordOf RULE_WORDS w) refl
-  where
-    go : (f : Found) → wordOf RULE_WORDS w ≡ f → Sorted w (wordClass f t.Ident)
-    go (Word i) e = by-test w (wordOf FUNCTION_RESERVED w) refl (t.words + i) (second-of (given (t.words + i)) _ (name-passes w l q i e))
-    go Plain e = plain-name w e
+  -- a name that is no word of the rules is no reserved one
+  unreserved : (w : List ℕ) → wordOf RULE_WORDS w ≡ Plain → wordOf ws w ≡ Plain
+  unreserved w e = go (wordOf ws w) refl
+    where
+      go : (x : Found) → wordOf ws w ≡ x → x ≡ Plain
+      go (Word i) q = absurd (subst (λ x. T (isWord x)) e (found-passes (λ i w. isWord (wordOf RULE_WORDS w)) ws (s .known) w i q))
+      go Plain q = refl
+
+  name-sorted : (w : List ℕ) → nameLength w ≡ length w → wordOf KEYWORDS w ≡ Plain → Sorted ws f r w (classOf t.Ident w)
+  unfolding classOf
+  name-sorted w l q = go (wordOf RULE_WORDS w) refl
+    where
+      go : (x : Found) → wordOf RULE_WORDS w ≡ x → Sorted ws f r w (wordClass x t.Ident)
+      go (Word i) e = by-test w (wordOf ws w) refl (t.words + i) (second-of (given (t.words + i)) _ (name-passes s w l q i e))
+      go Plain e = by-test w Plain (unreserved w e) t.Ident (s .plain)
+
+  sorted-identifier : {w : List ℕ} {c : ℕ} → Sorted ws f r w c → List·Memᴰ c t.identifiers
+  sorted-identifier (free a b d) = within t.identifiers (first-of (all (has t.identifiers) f) _ (s .names)) b
+  sorted-identifier (taken a b d) = within t.identifiers (second-of (all (has t.identifiers) f) _ (s .names)) b
 
 name-given : (w : List ℕ) → nameLength w ≡ length w → wordOf KEYWORDS w ≡ Plain → T (given (classOf t.Ident w))
-unfolding classOf given neverGiven wordOf find same FUNCTION_RESERVED MACROS RULE_NAMES BOOLEANS RULE_WORDS ascii asciiFrom has
+unfolding classOf given neverGiven wordOf find same FUNCTION_RESERVED MACROS RULE_NAMES BOOLEANS BOOL UINT_TYPES BUILTIN_ALIASES TYPE_NAMES RULE_WORDS ascii asciiFrom has
 name-given w l q = go (wordOf RULE_WORDS w) refl
   where
-    go : (f : Found) → wordOf RULE_WORDS w ≡ f → T (given (wordClass f t.Ident))
-    go (Word i) e = first-of (given (t.words + i)) _ (name-passes w l q i e)
+    go : (x : Found) → wordOf RULE_WORDS w ≡ x → T (given (wordClass x t.Ident))
+    go (Word i) e = first-of (given (t.words + i)) _ (name-passes functions w l q i e)
     go Plain e = tt
 
 -- ---- the other tokens
@@ -147,7 +168,7 @@ other-class k w h = go (eqb k t.Bool || eqb k t.Ident || eqb k t.Macro) (first-o
     go false h = refl
 
 data Sort (k : ℕ) (w : List ℕ) : Type 0 where
-  named : k ≡ t.Ident → Sorted w (classOf k w) → T (given (classOf k w)) → Sort k w
+  named : k ≡ t.Ident → nameLength w ≡ length w → wordOf KEYWORDS w ≡ Plain → Sort k w
   unnamed : ¬ (k ≡ t.Ident) → T (nameless (classOf k w)) → Sort k w
 
 sort-of : {k : ℕ} {w : List ℕ} → OneToken k w → Sort k w
@@ -155,7 +176,7 @@ unfolding has
 sort-of {k} {w} o = go (kind-of w k o)
   where
     go : Kind w k → Sort k w
-    go (a-name e l q) = named e (subst (λ j. Sorted w (classOf j w)) (sym e) (name-sorted w l q)) (subst (λ j. T (given (classOf j w))) (sym e) (name-given w l q))
+    go (a-name e l q) = named e l q
     go (a-boolean i e q b) =
         unnamed (λ f. omega arith)
         (subst (λ j. T (nameless (classOf j w))) (sym e)
@@ -166,10 +187,6 @@ sort-of {k} {w} o = go (kind-of w k o)
         unnamed (λ f. subst (λ j. T (otherKind j)) f h)
         (subst (λ c. T (nameless c)) (sym (other-class k w h)) (second-of (not (eqb k t.Bool || eqb k t.Ident || eqb k t.Macro)) (nameless k) (other-passes k h)))
 
-sorted-identifier : {w : List ℕ} {c : ℕ} → Sorted w c → List·Memᴰ c t.identifiers
-sorted-identifier (free a b d) = Memᴰ·append-left t.reserved b
-sorted-identifier (taken a b d) = Memᴰ·append-right t.functionNames b
-
 -- ---- the laws
 
 -- "An identifier is any name token."
@@ -177,31 +194,35 @@ pub identifier-class : {k : ℕ} {w : List ℕ} → OneToken k w → List·Mem�
 identifier-class {k} {w} o = go (sort-of o)
   where
     go : Sort k w → List·Memᴰ (classOf k w) t.identifiers ↔ (k ≡ t.Ident)
-    go (named e s g) = (λ m. e, λ q. sorted-identifier s)
+    go (named e l q) =
+        (λ m. e, λ z. sorted-identifier functions (subst (λ j. Sorted FUNCTION_RESERVED t.functionNames t.reserved w (classOf j w)) (sym e) (name-sorted functions w l q)))
     go (unnamed n h) = (λ m. absurd (unlisted t.identifiers (classOf k w) (second-of (given (classOf k w)) _ h) m), λ q. absurd (n q))
+
+-- The free names are those that are not reserved.
+module _ {ws : List (List ℕ)} {f r : List ℕ} (s : Reserves ws f r) {k : ℕ} {w : List ℕ} (o : OneToken k w) where
+  free-class : List·Memᴰ (classOf k w) f ↔ ((k ≡ t.Ident) × ¬ List·Memᴰ w ws)
+  free-class = go (sort-of o)
+    where
+      by-name : k ≡ t.Ident → Sorted ws f r w (classOf k w) → List·Memᴰ (classOf k w) f ↔ ((k ≡ t.Ident) × ¬ List·Memᴰ w ws)
+      by-name e (free a b d) = (λ m. (e, a), λ q. b)
+      by-name e (taken a b d) = (λ m. absurd (d m), λ q. absurd (q .1 a))
+
+      go : Sort k w → List·Memᴰ (classOf k w) f ↔ ((k ≡ t.Ident) × ¬ List·Memᴰ w ws)
+      go (named e l q) = by-name e (subst (λ j. Sorted ws f r w (classOf j w)) (sym e) (name-sorted s w l q))
+      go (unnamed n h) = (λ m. absurd (n (identifier-class o .0 (within t.identifiers (first-of (all (has t.identifiers) f) _ (s .names)) m))), λ q. absurd (n (q .0)))
 
 -- "A function name is any not in `FUNCTION_RESERVED`": any such name token. (`match` is in it, and never a name token, so it needs no word here.)
 pub function-name-class : {k : ℕ} {w : List ℕ} → OneToken k w → List·Memᴰ (classOf k w) t.functionNames ↔ ((k ≡ t.Ident) × ¬ List·Memᴰ w FUNCTION_RESERVED)
-function-name-class {k} {w} o = go (sort-of o)
-  where
-    go : Sort k w → List·Memᴰ (classOf k w) t.functionNames ↔ ((k ≡ t.Ident) × ¬ List·Memᴰ w FUNCTION_RESERVED)
-    go (named e (free a b d) g) = (λ m. (e, a), λ q. b)
-    go (named e (taken a b d) g) = (λ m. absurd (d m), λ q. absurd (q .1 a))
-    go (unnamed n h) = (λ m. absurd (n (identifier-class o .0 (Memᴰ·append-left t.reserved m))), λ q. absurd (n (q .0)))
+function-name-class = free-class functions
 
--- The others are reserved.
-pub reserved-class : {k : ℕ} {w : List ℕ} → OneToken k w → List·Memᴰ (classOf k w) t.reserved ↔ ((k ≡ t.Ident) × List·Memᴰ w FUNCTION_RESERVED)
-reserved-class {k} {w} o = go (sort-of o)
-  where
-    go : Sort k w → List·Memᴰ (classOf k w) t.reserved ↔ ((k ≡ t.Ident) × List·Memᴰ w FUNCTION_RESERVED)
-    go (named e (free a b d) g) = (λ m. absurd (d m), λ q. absurd (a (q .1)))
-    go (named e (taken a b d) g) = (λ m. (e, a), λ q. b)
-    go (unnamed n h) = (λ m. absurd (n (identifier-class o .0 (Memᴰ·append-right t.functionNames m))), λ q. absurd (n (q .0)))
+-- "A type's own name may not be in `ALIAS_RESERVED`": any name token that is not.
+pub alias-name-class : {k : ℕ} {w : List ℕ} → OneToken k w → List·Memᴰ (classOf k w) t.aliasNames ↔ ((k ≡ t.Ident) × ¬ List·Memᴰ w ALIAS_RESERVED)
+alias-name-class = free-class aliases
 
 -- Each token's class is one of those that are given.
 pub class-given : {k : ℕ} {w : List ℕ} → OneToken k w → T (given (classOf k w))
 class-given {k} {w} o = go (sort-of o)
   where
     go : Sort k w → T (given (classOf k w))
-    go (named e s g) = g
+    go (named e l q) = subst (λ j. T (given (classOf j w))) (sym e) (name-given w l q)
     go (unnamed n h) = first-of (given (classOf k w)) _ h

@@ -94,6 +94,40 @@ samples =
     ∷ macro t.list! "list!"
     ∷ boolean t.false "false"
     ∷ boolean t.true "true"
+    ∷ name t.bool "bool"
+    ∷ name t.u1 "u1"
+    ∷ name t.u2 "u2"
+    ∷ name t.u4 "u4"
+    ∷ name t.u8 "u8"
+    ∷ name t.u16 "u16"
+    ∷ name t.u32 "u32"
+    ∷ name t.u64 "u64"
+    ∷ name t.u128 "u128"
+    ∷ name t.u256 "u256"
+    ∷ name t.Ctx8 "Ctx8"
+    ∷ name t.Pubkey "Pubkey"
+    ∷ name t.Message "Message"
+    ∷ name t.Message64 "Message64"
+    ∷ name t.Signature "Signature"
+    ∷ name t.Scalar "Scalar"
+    ∷ name t.Fe "Fe"
+    ∷ name t.Ge "Ge"
+    ∷ name t.Gej "Gej"
+    ∷ name t.Point "Point"
+    ∷ name t.Height "Height"
+    ∷ name t.Time "Time"
+    ∷ name t.Distance "Distance"
+    ∷ name t.Duration "Duration"
+    ∷ name t.Lock "Lock"
+    ∷ name t.Outpoint "Outpoint"
+    ∷ name t.Confidential1 "Confidential1"
+    ∷ name t.ExplicitAsset "ExplicitAsset"
+    ∷ name t.Asset1 "Asset1"
+    ∷ name t.ExplicitAmount "ExplicitAmount"
+    ∷ name t.Amount1 "Amount1"
+    ∷ name t.ExplicitNonce "ExplicitNonce"
+    ∷ name t.Nonce "Nonce"
+    ∷ name t.TokenAmount1 "TokenAmount1"
     ∷ []
 
 -- The kinds whose words have classes of their own.
@@ -107,7 +141,7 @@ neverGiven = t.Simc ∷ t.Bool ∷ t.Macro ∷ classOf t.Ident (ascii "match") �
 
 -- The classes of tokens.
 unfoldable pub given : ℕ → Bool
-given c = leb t.Pub c && leb c t.true && not (has neverGiven c)
+given c = leb t.Pub c && leb c t.last && not (has neverGiven c)
 
 -- each of them is one
 abbrev pub AllGiven : List ℕ → Type 0

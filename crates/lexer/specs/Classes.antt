@@ -205,9 +205,127 @@ false = 61
 abbrev pub true : ℕ
 true = 62
 
+-- ---- the names of types: `bool`, the unsigned types, the built-in aliases
+
+abbrev pub bool : ℕ
+bool = 63
+
+abbrev pub u1 : ℕ
+u1 = 64
+
+abbrev pub u2 : ℕ
+u2 = 65
+
+abbrev pub u4 : ℕ
+u4 = 66
+
+abbrev pub u8 : ℕ
+u8 = 67
+
+abbrev pub u16 : ℕ
+u16 = 68
+
+abbrev pub u32 : ℕ
+u32 = 69
+
+abbrev pub u64 : ℕ
+u64 = 70
+
+abbrev pub u128 : ℕ
+u128 = 71
+
+abbrev pub u256 : ℕ
+u256 = 72
+
+abbrev pub Ctx8 : ℕ
+Ctx8 = 73
+
+abbrev pub Pubkey : ℕ
+Pubkey = 74
+
+abbrev pub Message : ℕ
+Message = 75
+
+abbrev pub Message64 : ℕ
+Message64 = 76
+
+abbrev pub Signature : ℕ
+Signature = 77
+
+abbrev pub Scalar : ℕ
+Scalar = 78
+
+abbrev pub Fe : ℕ
+Fe = 79
+
+abbrev pub Ge : ℕ
+Ge = 80
+
+abbrev pub Gej : ℕ
+Gej = 81
+
+abbrev pub Point : ℕ
+Point = 82
+
+abbrev pub Height : ℕ
+Height = 83
+
+abbrev pub Time : ℕ
+Time = 84
+
+abbrev pub Distance : ℕ
+Distance = 85
+
+abbrev pub Duration : ℕ
+Duration = 86
+
+abbrev pub Lock : ℕ
+Lock = 87
+
+abbrev pub Outpoint : ℕ
+Outpoint = 88
+
+abbrev pub Confidential1 : ℕ
+Confidential1 = 89
+
+abbrev pub ExplicitAsset : ℕ
+ExplicitAsset = 90
+
+abbrev pub Asset1 : ℕ
+Asset1 = 91
+
+abbrev pub ExplicitAmount : ℕ
+ExplicitAmount = 92
+
+abbrev pub Amount1 : ℕ
+Amount1 = 93
+
+abbrev pub ExplicitNonce : ℕ
+ExplicitNonce = 94
+
+abbrev pub Nonce : ℕ
+Nonce = 95
+
+abbrev pub TokenAmount1 : ℕ
+TokenAmount1 = 96
+
+-- "`u1` to `u256`" and the built-in aliases, each in their order
+abbrev pub unsignedTypes : list.List ℕ
+unsignedTypes = u1 ∷ u2 ∷ u4 ∷ u8 ∷ u16 ∷ u32 ∷ u64 ∷ u128 ∷ u256 ∷ []
+
+abbrev pub builtinTypes : list.List ℕ
+builtinTypes = Ctx8 ∷ Pubkey ∷ Message ∷ Message64 ∷ Signature ∷ Scalar ∷ Fe ∷ Ge ∷ Gej ∷ Point ∷ Height ∷ Time ∷ Distance ∷ Duration ∷ Lock ∷ Outpoint ∷ Confidential1 ∷ ExplicitAsset ∷ Asset1 ∷ ExplicitAmount ∷ Amount1 ∷ ExplicitNonce ∷ Nonce ∷ TokenAmount1 ∷ []
+
+abbrev pub typeNames : list.List ℕ
+typeNames = bool ∷ unsignedTypes ++ builtinTypes
+
+-- the last class
+abbrev pub last : ℕ
+last = TokenAmount1
+
 -- "A function name is any not in `FUNCTION_RESERVED`": the classes of names that are not,
 abbrev pub functionNames : list.List ℕ
-functionNames = Ident ∷ Left ∷ Right ∷ Some ∷ None ∷ Either ∷ Option ∷ List ∷ []
+functionNames = Ident ∷ Left ∷ Right ∷ Some ∷ None ∷ Either ∷ Option ∷ List ∷ typeNames
 
 -- and those of names that are.
 abbrev pub reserved : list.List ℕ
@@ -216,3 +334,11 @@ reserved = unwrap-left ∷ unwrap-right ∷ array-fold ∷ for-while ∷ is-none
 -- "An identifier is any name token".
 abbrev pub identifiers : list.List ℕ
 identifiers = functionNames ++ reserved
+
+-- "A type's own name may not be in `ALIAS_RESERVED`" (document 02, order 3): the classes of names that are not.
+abbrev pub aliasNames : list.List ℕ
+aliasNames = Ident ∷ Left ∷ Right ∷ Some ∷ None ∷ reserved
+
+-- and those of names that are.
+abbrev pub aliasReserved : list.List ℕ
+aliasReserved = Either ∷ Option ∷ List ∷ typeNames

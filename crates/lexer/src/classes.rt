@@ -130,3 +130,13 @@ pub const LIST_MACRO: u32 = 60;
 pub const FALSE: u32 = 61;
 
 pub const TRUE: u32 = 62;
+
+// The names of types: `bool`, the unsigned types from `u1` on, the built-in aliases from `Ctx8` on.
+pub const BOOL_TYPE: u32 = 63;
+
+pub const UNSIGNED_TYPES: u32 = 64;
+
+pub const BUILTIN_TYPES: u32 = 73;
+
+// The last class.
+pub const LAST: u32 = 96;

@@ -6,6 +6,7 @@ use mathlib.Core.Path.{_≡_, refl, sym, _∙_, ap, subst}
 use Prim.Native.Nat.{ℕ, _+_, _*_, _%_, _≤_, _<_}
 use native.Mathlib.Nat.{mul-le-mul-left}
 use native.Mathlib.Omega.{arith}
+use borrow.Author.Tests.{lt-ltb, le-ltb}
 use lib.Dec.{T, eqb, leb, eqb→eq, leb→le}
 use lib.ListN.{length, getD, take, drop, length-drop}
 use lib.Seq.{getD-take, getD-drop, length-take-le}
@@ -14,11 +15,11 @@ use Rattle.text.specs.Same.{same}
 use Rattle.text.specs.Table.{every, at, table-at, all, each, is-true}
 use Rattle.text.specs.SameLaws.{same-true}
 use Rattle.words.specs.Words.{FUNCTION_RESERVED, KEYWORDS, MACROS, MODULE_RESERVED, RULE_NAMES, BOOLEANS, RULE_WORDS, UINT_TYPES, BUILTIN_ALIASES, BOOL, TYPE_NAMES}
-use Rattle.words.specs.Layout.{tables, entries, letters, slotOf, Hash, hashes}
+use Rattle.words.specs.Layout.{tables, entries, letters, slotOf, Hash, hashes, hashFor}
 use Rattle.words.specs.Lies.{Lies, Only}
 use Rattle.words.specs.Right.{Says}
 use Rattle.words.specs.declared.Found.the-variants.{Plain}
-use Rattle.words.proofs.Constants.{starts, sizes, bases, counts, slots, function-reserved-slots, keywords-slots, macros-slots, module-reserved-slots, rule-words-slots, type-names-slots}
+use Rattle.words.proofs.Constants.{starts, sizes, bases, counts, slots, function-reserved-slots, keywords-slots, macros-slots, module-reserved-slots, capital-words-slots, small-words-slots}
 
 -- ---- one test for each word of each table
 
@@ -29,16 +30,20 @@ everyWord f = every (λ t ws. every (f t) 0 ws) 0 tables
 word-at : (f : ℕ → ℕ → List ℕ → Bool) → T (everyWord f) → (t k : ℕ) → t < length tables → k < length (getD tables t []) → T (f t k (getD (getD tables t []) k []))
 word-at f test t k h l = at (f t) (getD tables t []) [] (at (λ t ws. every (f t) 0 ws) tables [] test t h) k l
 
-table-count : length tables ≡ 6
+table-count : length tables ≡ 5
 unfolding tables
 table-count = refl
 
 abbrev none : Hash
-none = record { size = 1; second = 0; last = 0 }
+none = record { size = 1; second = 0; before = 0; last = 0 }
 
--- what stands in the slot of p in table t
+-- what stands in the slot of p that is number h among the slots of all tables
+abbrev pub in-slots : ℕ → List ℕ → ℕ
+in-slots h p = getD (getD slots h []) (slotOf (getD hashes h none .second) (getD hashes h none .before) (getD hashes h none .last) p % getD hashes h none .size) 0
+
+-- and in that of p in table t
 abbrev pub at-slot : ℕ → List ℕ → ℕ
-at-slot t p = getD (getD slots t []) (slotOf (getD hashes t none .second) (getD hashes t none .last) p % getD hashes t none .size) 0
+at-slot t p = in-slots (hashFor t p) p
 
 -- what is tested of word k of table t, whose bytes are w: it has from 2 to 14 bytes, its slot holds its number, its entry is the word
 abbrev tests : ℕ → ℕ → List ℕ → List Bool
@@ -50,10 +55,10 @@ tests t k w =
     same (getD entries (getD bases t 0 + k) []) w ∷ []
 
 words-pass : T (everyWord (λ t k w. all (tests t k w)))
-unfolding same tables entries slotOf hashes slots function-reserved-slots keywords-slots macros-slots module-reserved-slots rule-words-slots type-names-slots bases FUNCTION_RESERVED KEYWORDS MACROS MODULE_RESERVED RULE_NAMES BOOLEANS RULE_WORDS UINT_TYPES BUILTIN_ALIASES BOOL TYPE_NAMES ascii asciiFrom
+unfolding same tables entries slotOf hashes hashFor slots function-reserved-slots keywords-slots macros-slots module-reserved-slots capital-words-slots small-words-slots bases FUNCTION_RESERVED KEYWORDS MACROS MODULE_RESERVED RULE_NAMES BOOLEANS RULE_WORDS UINT_TYPES BUILTIN_ALIASES BOOL TYPE_NAMES ascii asciiFrom
 words-pass = tt
 
-module _ (t k : ℕ) (h : t < 6) (l : k < length (getD tables t [])) where
+module _ (t k : ℕ) (h : t < 5) (l : k < length (getD tables t [])) where
   pass : (i : ℕ) → T (getD (tests t k (getD (getD tables t []) k [])) i true)
   pass = each (tests t k (getD (getD tables t []) k [])) (word-at (λ t k w. all (tests t k w)) words-pass t k (omega (arith, table-count)) l)
 
@@ -73,7 +78,7 @@ module _ (t k : ℕ) (h : t < 6) (l : k < length (getD tables t [])) where
   entry-is = same-true _ _ (is-true _ (pass 4))
 
 -- bytes of another length are no word
-module _ (t : ℕ) (h : t < 6) (p : List ℕ) where
+module _ (t : ℕ) (h : t < 5) (p : List ℕ) where
   pub too-short : length p < 2 → Says (getD tables t []) p Plain
   too-short s k l e = omega (arith, word-long t k h l, ap length e)
 
@@ -81,12 +86,25 @@ module _ (t : ℕ) (h : t < 6) (p : List ℕ) where
   too-long s k l e = omega (arith, word-short t k h l, ap length e)
 
 -- p can be no other word of table t than the one that its slot holds
-pub only-at : (t : ℕ) → t < 6 → (p : List ℕ) → Only (getD tables t []) p (at-slot t p)
+pub only-at : (t : ℕ) → t < 5 → (p : List ℕ) → Only (getD tables t []) p (at-slot t p)
 only-at t h p = record { is = λ k l e. ap (at-slot t) (sym e) ∙ slot-holds t k h l }
 
-pub count-at : (t : ℕ) → t < 6 → getD counts t 0 ≡ length (getD tables t [])
+-- the rules' words have two parts, by the first byte
+module _ (p : List ℕ) where
+  by-part : (h : ℕ) → hashFor 4 p ≡ h → Only (getD tables 4 []) p (in-slots h p)
+  by-part h e = subst (λ k. Only (getD tables 4 []) p (in-slots k p)) e (only-at 4 (omega arith) p)
+
+  pub only-capital : getD p 0 0 < 97 → Only (getD tables 4 []) p (in-slots 4 p)
+  unfolding hashFor
+  only-capital h = by-part 4 (simp (lt-ltb (getD p 0 0) 97 h))
+
+  pub only-small : 97 ≤ getD p 0 0 → Only (getD tables 4 []) p (in-slots 5 p)
+  unfolding hashFor
+  only-small h = by-part 5 (simp (le-ltb (getD p 0 0) 97 h))
+
+pub count-at : (t : ℕ) → t < 5 → getD counts t 0 ≡ length (getD tables t [])
 unfolding counts tables FUNCTION_RESERVED KEYWORDS MACROS MODULE_RESERVED RULE_NAMES BOOLEANS RULE_WORDS UINT_TYPES BUILTIN_ALIASES BOOL TYPE_NAMES
-count-at = table-at (λ t. length (getD tables t [])) counts 6 refl tt
+count-at = table-at (λ t. length (getD tables t [])) counts 5 refl tt
 
 -- ---- one test for each entry
 

@@ -8,7 +8,7 @@ use Rattle.text.specs.Same.{same}
 use Rattle.words.specs.declared.Found.{Found}
 use Rattle.words.specs.declared.Found.the-variants.{Word, Plain}
 use Rattle.words.specs.declared.Table.{Table}
-use Rattle.words.specs.declared.Table.the-variants.{FunctionReserved, Keywords, Macros, ModuleReserved, RuleWords, TypeNames}
+use Rattle.words.specs.declared.Table.the-variants.{FunctionReserved, Keywords, Macros, ModuleReserved, RuleWords}
 
 -- src/str.rs, `FUNCTION_RESERVED`
 unfoldable pub FUNCTION_RESERVED : List (List ℕ)
@@ -36,9 +36,6 @@ RULE_NAMES = map ascii ("Left" ∷ "Right" ∷ "Some" ∷ "None" ∷ "Either" �
 unfoldable pub BOOLEANS : List (List ℕ)
 BOOLEANS = map ascii ("false" ∷ "true" ∷ [])
 
-unfoldable pub RULE_WORDS : List (List ℕ)
-RULE_WORDS = RULE_NAMES ++ FUNCTION_RESERVED ++ MACROS ++ BOOLEANS
-
 -- src/types/inner.rs, `UIntType`
 unfoldable pub UINT_TYPES : List (List ℕ)
 UINT_TYPES = map ascii ("u1" ∷ "u2" ∷ "u4" ∷ "u8" ∷ "u16" ∷ "u32" ∷ "u64" ∷ "u128" ∷ "u256" ∷ [])
@@ -56,6 +53,16 @@ BOOL = map ascii ("bool" ∷ [])
 unfoldable pub TYPE_NAMES : List (List ℕ)
 TYPE_NAMES = BOOL ++ UINT_TYPES ++ BUILTIN_ALIASES
 
+-- every name, macro and boolean that a rule tells from others
+unfoldable pub RULE_WORDS : List (List ℕ)
+RULE_WORDS = RULE_NAMES ++ FUNCTION_RESERVED ++ MACROS ++ BOOLEANS ++ TYPE_NAMES
+
+-- src/str.rs, `ALIAS_RESERVED`: what no type item is named
+unfoldable pub ALIAS_RESERVED : List (List ℕ)
+ALIAS_RESERVED =
+    map ascii
+    ("Either" ∷ "Option" ∷ "bool" ∷ "List" ∷ "u128" ∷ "u256" ∷ "u16" ∷ "u32" ∷ "u64" ∷ "u1" ∷ "u2" ∷ "u4" ∷ "u8" ∷ "Ctx8" ∷ "Pubkey" ∷ "Message64" ∷ "Message" ∷ "Signature" ∷ "Scalar" ∷ "Fe" ∷ "Gej" ∷ "Ge" ∷ "Point" ∷ "Height" ∷ "Time" ∷ "Distance" ∷ "Duration" ∷ "Lock" ∷ "Outpoint" ∷ "Confidential1" ∷ "ExplicitAsset" ∷ "Asset1" ∷ "ExplicitAmount" ∷ "Amount1" ∷ "ExplicitNonce" ∷ "Nonce" ∷ "TokenAmount1" ∷ [])
+
 -- the words of each table
 unfoldable pub wordsOf : Table → List (List ℕ)
 wordsOf FunctionReserved = FUNCTION_RESERVED
@@ -63,7 +70,6 @@ wordsOf Keywords = KEYWORDS
 wordsOf Macros = MACROS
 wordsOf ModuleReserved = MODULE_RESERVED
 wordsOf RuleWords = RULE_WORDS
-wordsOf TypeNames = TYPE_NAMES
 
 -- the first word of the list that p is, counted from k, and Plain if it is none; counted from 0
 unfoldable pub find : List ℕ → ℕ → List (List ℕ) → Found

@@ -18,7 +18,6 @@ pub enum Table {
     Macros,
     ModuleReserved,
     RuleWords,
-    TypeNames,
 }
 
 // Which word of a table a part of a draft is: its place in the table, or none of them.
@@ -49,7 +48,7 @@ fn size(e: usize) -> usize
 }
 
 fn count(t: usize) -> usize
-    requires { ⌜ t < 6 ⌝ }
+    requires { ⌜ t < 5 ⌝ }
     ensures { λ r. ⌜ r ≡ length (getD tables t []) ⌝ }
 {
     wide(layout::COUNTS[t])
@@ -57,35 +56,46 @@ fn count(t: usize) -> usize
 
 // The entry of word k of table t.
 fn entry(t: usize, k: usize) -> usize
-    requires { ⌜ (t < 6) × (k < length (getD tables t [])) ⌝ }
+    requires { ⌜ (t < 5) × (k < length (getD tables t [])) ⌝ }
     ensures { λ r. ⌜ (r < 77) × (getD entries r [] ≡ getD (getD tables t []) k []) ⌝ }
 {
     wide(layout::BASES[t]) + k
 }
 
-// The slot that p's length and three of its bytes lead to, by the multipliers of its second and last byte.
-fn slot(p: &[u8], second: usize, last: usize) -> usize
-    requires { ⌜ (2 ≤ length (now p)) × (length (now p) ≤ 14) × (second < 256) × (last < 256) ⌝ }
-    ensures { λ r. ⌜ r ≡ slotOf second last (now (p .entry)) ⌝ }
+// The slot that p's length and four of its bytes lead to, by the multipliers of its second, last but one and last byte.
+fn slot(p: &[u8], second: usize, before: usize, last: usize) -> usize
+    requires { ⌜ (2 ≤ length (now p)) × (length (now p) ≤ 14) × (second < 256) × (before < 256) × (last < 256) ⌝ }
+    ensures { λ r. ⌜ r ≡ slotOf second before last (now (p .entry)) ⌝ }
 {
     let n = p.len();
     let b = wide(p[1]);
-    let c = wide(p[n - 1]);
-    n + wide(p[0]) + second * b + last * c
+    let c = wide(p[n - 2]);
+    let d = wide(p[n - 1]);
+    n + wide(p[0]) + second * b + before * c + last * d
+}
+
+// The only word of the rules that p can be. Those that begin with a capital have slots of their own.
+fn rule_word(p: &[u8]) -> usize
+    requires { ⌜ (2 ≤ length (now p)) × (length (now p) ≤ 14) ⌝ }
+    ensures { λ r. ⌜ Only (getD tables 4 []) (now (p .entry)) r ⌝ }
+{
+    if p[0] < b'a' {
+        return wide(layout::CAPITAL_WORDS_SLOTS[slot(p, 39, 10, 27) % 64]);
+    }
+    wide(layout::SMALL_WORDS_SLOTS[slot(p, 6, 0, 13) % 64])
 }
 
 // The only word of table t that p can be; past the table's words where there is none.
 fn candidate(t: usize, p: &[u8]) -> usize
-    requires { ⌜ (t < 6) × (2 ≤ length (now p)) × (length (now p) ≤ 14) ⌝ }
+    requires { ⌜ (t < 5) × (2 ≤ length (now p)) × (length (now p) ≤ 14) ⌝ }
     ensures { λ r. ⌜ Only (getD tables t []) (now (p .entry)) r ⌝ }
 {
     match t {
-        0 => wide(layout::FUNCTION_RESERVED_SLOTS[slot(p, 1, 5) % 32]),
-        1 => wide(layout::KEYWORDS_SLOTS[slot(p, 1, 15) % 32]),
-        2 => wide(layout::MACROS_SLOTS[slot(p, 2, 1) % 8]),
-        3 => wide(layout::MODULE_RESERVED_SLOTS[slot(p, 1, 2) % 4]),
-        4 => wide(layout::RULE_WORDS_SLOTS[slot(p, 7, 4) % 64]),
-        _ => wide(layout::TYPE_NAMES_SLOTS[slot(p, 1, 53) % 128]),
+        0 => wide(layout::FUNCTION_RESERVED_SLOTS[slot(p, 14, 6, 9) % 16]),
+        1 => wide(layout::KEYWORDS_SLOTS[slot(p, 1, 0, 15) % 32]),
+        2 => wide(layout::MACROS_SLOTS[slot(p, 1, 2, 1) % 4]),
+        3 => wide(layout::MODULE_RESERVED_SLOTS[slot(p, 1, 0, 2) % 4]),
+        _ => rule_word(p),
     }
 }
 
@@ -118,7 +128,7 @@ fn is_word(p: &[u8], e: usize) -> bool
 }
 
 fn word_in(t: usize, p: &[u8]) -> Found
-    requires { ⌜ t < 6 ⌝ }
+    requires { ⌜ t < 5 ⌝ }
     ensures { λ r. ⌜ r ≡ wordOf (getD tables t []) (now (p .entry)) ⌝ }
 {
     // Every word has from 2 to 14 bytes.
@@ -141,7 +151,7 @@ fn word_in(t: usize, p: &[u8]) -> Found
 }
 
 fn number(table: Table) -> usize
-    ensures { λ r. ⌜ (r < 6) × (getD tables r [] ≡ wordsOf table) ⌝ }
+    ensures { λ r. ⌜ (r < 5) × (getD tables r [] ≡ wordsOf table) ⌝ }
 {
     match table {
         Table::FunctionReserved => 0,
@@ -149,7 +159,6 @@ fn number(table: Table) -> usize
         Table::Macros => 2,
         Table::ModuleReserved => 3,
         Table::RuleWords => 4,
-        Table::TypeNames => 5,
     }
 }
 

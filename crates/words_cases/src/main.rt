@@ -27,7 +27,6 @@ fn write_case(draft: &[u8], start: usize, end: usize) {
     write_found(words::word(Table::Macros, draft, start, end));
     write_found(words::word(Table::ModuleReserved, draft, start, end));
     write_found(words::word(Table::RuleWords, draft, start, end));
-    write_found(words::word(Table::TypeNames, draft, start, end));
     io::write_all(STDOUT_FILENO, b"\n");
 }
 

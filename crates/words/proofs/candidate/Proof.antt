@@ -2,8 +2,8 @@
 -- Assumes nothing.
 use native.Mathlib.Omega.{arith}
 use mathlib.Core.Path.{_≡_}
-use Rattle.words.specs.Layout.{hashes}
-use Rattle.words.proofs.Constants.{slots, function-reserved-slots, keywords-slots, macros-slots, module-reserved-slots, rule-words-slots, type-names-slots}
+use Rattle.words.specs.Layout.{hashes, hashFor}
+use Rattle.words.proofs.Constants.{slots, function-reserved-slots, keywords-slots, macros-slots, module-reserved-slots}
 use Rattle.words.proofs.Laws.{only-at}
 use borrow.Author.Needs.{needs}
 use Rattle.words.proofs.candidate.Statement.{statement}
@@ -45,49 +45,29 @@ array-read-wide-4 c = search needs
 wide-requires-4 : tie.Need-wide-requires-4
 wide-requires-4 c κs = search needs
 
-slot-requires-5 : tie.Need-slot-requires-5
-slot-requires-5 c κs = search needs
-
-array-read-wide-5 : tie.Need-array-read-wide-5
-array-read-wide-5 c = search needs
-
-wide-requires-5 : tie.Need-wide-requires-5
-wide-requires-5 c κs = search needs
-
-slot-requires-6 : tie.Need-slot-requires-6
-slot-requires-6 c κs = search needs
-
-array-read-wide-6 : tie.Need-array-read-wide-6
-array-read-wide-6 c = search needs
-
-wide-requires-6 : tie.Need-wide-requires-6
-wide-requires-6 c κs = search needs
+rule-word-requires : tie.Need-rule-word-requires
+rule-word-requires c κs = search needs
 
 returns : tie.Need-returns
-unfolding slots hashes function-reserved-slots keywords-slots macros-slots module-reserved-slots rule-words-slots type-names-slots
+unfolding slots hashes hashFor function-reserved-slots keywords-slots macros-slots module-reserved-slots
 returns c = rw (c .wide .ensures, c .before .slot .ensures, c .before .before .match .keys1) (only-at 0 (omega arith) _)
 
 returns-2 : tie.Need-returns-2
-unfolding slots hashes function-reserved-slots keywords-slots macros-slots module-reserved-slots rule-words-slots type-names-slots
+unfolding slots hashes hashFor function-reserved-slots keywords-slots macros-slots module-reserved-slots
 returns-2 c = rw (c .wide2 .ensures, c .before .slot2 .ensures, c .before .before .match .keys2) (only-at 1 (omega arith) _)
 
 returns-3 : tie.Need-returns-3
-unfolding slots hashes function-reserved-slots keywords-slots macros-slots module-reserved-slots rule-words-slots type-names-slots
+unfolding slots hashes hashFor function-reserved-slots keywords-slots macros-slots module-reserved-slots
 returns-3 c = rw (c .wide3 .ensures, c .before .slot3 .ensures, c .before .before .match .keys3) (only-at 2 (omega arith) _)
 
 returns-4 : tie.Need-returns-4
-unfolding slots hashes function-reserved-slots keywords-slots macros-slots module-reserved-slots rule-words-slots type-names-slots
+unfolding slots hashes hashFor function-reserved-slots keywords-slots macros-slots module-reserved-slots
 returns-4 c = rw (c .wide4 .ensures, c .before .slot4 .ensures, c .before .before .match .keys4) (only-at 3 (omega arith) _)
 
 returns-5 : tie.Need-returns-5
-unfolding slots hashes function-reserved-slots keywords-slots macros-slots module-reserved-slots rule-words-slots type-names-slots
-returns-5 c = rw (c .wide5 .ensures, c .before .slot5 .ensures, c .before .before .match .keys5) (only-at 4 (omega arith) _)
-
-returns-6 : tie.Need-returns-6
-unfolding slots hashes function-reserved-slots keywords-slots macros-slots module-reserved-slots rule-words-slots type-names-slots
-returns-6 c =
-    let z : c .before .before .before .before .args .t ≡ 5 = omega (arith, c .before .before .match .rest, c .before .before .before .before .pre .0) in
-    rw (c .wide6 .ensures, c .before .slot6 .ensures, z) (only-at 5 (omega arith) _)
+returns-5 c =
+    let z : c .before .before .before .args .t ≡ 4 = omega (arith, c .before .match .rest, c .before .before .before .pre .0) in
+    rw (z) (c .rule-word .ensures)
 
 pub candidate-spec : {M : Type 1} → statement M
 candidate-spec =
@@ -105,15 +85,9 @@ candidate-spec =
     slot-requires-4
     array-read-wide-4
     wide-requires-4
-    slot-requires-5
-    array-read-wide-5
-    wide-requires-5
-    slot-requires-6
-    array-read-wide-6
-    wide-requires-6
+    rule-word-requires
     returns
     returns-2
     returns-3
     returns-4
-    returns-5
-    returns-6)
+    returns-5)

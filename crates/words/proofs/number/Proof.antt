@@ -23,9 +23,6 @@ enum-told-4 c = search needs
 enum-told-5 : tie.Need-enum-told-5
 enum-told-5 c = search needs
 
-enum-told-6 : tie.Need-enum-told-6
-enum-told-6 c = search needs
-
 returns : tie.Need-returns
 unfolding wordsOf tables
 returns c = (omega arith, ap wordsOf (sym (c .enum-told .given .1)))
@@ -46,10 +43,6 @@ returns-5 : tie.Need-returns-5
 unfolding wordsOf tables
 returns-5 c = (omega arith, ap wordsOf (sym (c .enum-told5 .given .1)))
 
-returns-6 : tie.Need-returns-6
-unfolding wordsOf tables
-returns-6 c = (omega arith, ap wordsOf (sym (c .enum-told6 .given .1)))
-
 pub number-spec : {M : Type 1} → statement M
 number-spec =
     tie.close
@@ -59,10 +52,8 @@ number-spec =
     enum-told-3
     enum-told-4
     enum-told-5
-    enum-told-6
     returns
     returns-2
     returns-3
     returns-4
-    returns-5
-    returns-6)
+    returns-5)
