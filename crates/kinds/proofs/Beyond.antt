@@ -13,14 +13,13 @@ use Rattle.text.specs.ListLaws.{all-keep}
 use Rattle.own.specs.Kinds as kind
 use Rattle.lexer.specs.Classes as t
 use Rattle.kinds.specs.Shape.{Shape}
-use Rattle.kinds.specs.Rules.{Form, forms}
-use Rattle.kinds.specs.Spelled.{formsOf}
-use Rattle.kinds.specs.Decide.{kindsOf, gather, classesIn, kindsIn, inForms, mayOwn, mayHold}
+use Rattle.kinds.specs.Rules.{Form, forms, allForms}
+use Rattle.kinds.specs.Decide.{kindsOf, gather, classesIn, kindsIn, inForms, formsFor, mayOwn, mayHold}
 use Rattle.kinds.specs.Groups.{groups, categories, bits, groupSet, markSet, categorySet, partSet}
 
 -- The number after the last class, and that after the last kind.
 abbrev classesEnd : ℕ
-classesEnd = suc t.true
+classesEnd = suc t.last
 
 abbrev kindsEnd : ℕ
 kindsEnd = suc kind.Last
@@ -49,27 +48,27 @@ forms-under f n (x ∷ l) t =
     under-append n (f (x .shape)) (inForms f l) (first-of (under n (f (x .shape))) (all (λ y. under n (f (y .shape))) l) t)
     (forms-under f n l (second-of (under n (f (x .shape))) (all (λ y. under n (f (y .shape))) l) t))
 
-kind-under : (f : Shape → List ℕ) (n kind : ℕ) → T (all (λ x. under n (f (x .shape))) forms) → T (under n (inForms f (formsOf kind)))
-unfolding formsOf
-kind-under f n kind t = forms-under f n (formsOf kind) (all-keep (λ x. under n (f (x .shape))) (λ x. eqb (x .kind) kind) forms t)
+kind-under : (f : Shape → List ℕ) (n kind : ℕ) → T (all (λ x. under n (f (x .shape))) allForms) → T (under n (inForms f (formsFor kind)))
+unfolding formsFor
+kind-under f n kind t = forms-under f n (formsFor kind) (all-keep (λ x. under n (f (x .shape))) (λ x. eqb (x .kind) kind) allForms t)
 
-classes-under : T (all (λ x. under classesEnd (classesIn (x .shape))) forms)
-unfolding all gather forms
+classes-under : T (all (λ x. under classesEnd (classesIn (x .shape))) allForms)
+unfolding all gather forms allForms
 classes-under = tt
 
-kinds-under : T (all (λ x. under kindsEnd (kindsIn (x .shape))) forms)
-unfolding all gather kindsOf forms count span
+kinds-under : T (all (λ x. under kindsEnd (kindsIn (x .shape))) allForms)
+unfolding all gather kindsOf forms allForms count span
 kinds-under = tt
 
 -- No kind owns a class past the last.
 pub no-class : (kind class : ℕ) → classesEnd ≤ class → mayOwn kind class ≡ false
 unfolding mayOwn
-no-class kind class h = has-none (inForms classesIn (formsOf kind)) classesEnd class (kind-under classesIn classesEnd kind classes-under) h
+no-class kind class h = has-none (inForms classesIn (formsFor kind)) classesEnd class (kind-under classesIn classesEnd kind classes-under) h
 
 -- No kind holds a kind past the last.
 pub no-child : (kind kid : ℕ) → kindsEnd ≤ kid → mayHold kind kid ≡ false
 unfolding mayHold
-no-child kind kid h = has-none (inForms kindsIn (formsOf kind)) kindsEnd kid (kind-under kindsIn kindsEnd kind kinds-under) h
+no-child kind kid h = has-none (inForms kindsIn (formsFor kind)) kindsEnd kid (kind-under kindsIn kindsEnd kind kinds-under) h
 
 -- no form is of a kind past the last
 keep-none : (l : List Form) (kind : ℕ) → T (all (λ x. ltb (x .kind) kindsEnd) l) → kindsEnd ≤ kind → keep (λ x. eqb (x .kind) kind) l ≡ []
@@ -79,13 +78,13 @@ keep-none (x ∷ l) kind t h =
     let lt = ltb→lt (x .kind) kindsEnd (first-of (ltb (x .kind) kindsEnd) (all (λ y. ltb (y .kind) kindsEnd) l) t) in
     rw (ne-eqb (x .kind) kind (λ e. omega arith)) (keep-none l kind (second-of (ltb (x .kind) kindsEnd) (all (λ y. ltb (y .kind) kindsEnd) l) t) h)
 
-kinds-listed : T (all (λ x. ltb (x .kind) kindsEnd) forms)
-unfolding all forms
+kinds-listed : T (all (λ x. ltb (x .kind) kindsEnd) allForms)
+unfolding all forms allForms
 kinds-listed = tt
 
-no-forms : (kind : ℕ) → kindsEnd ≤ kind → formsOf kind ≡ []
-unfolding formsOf
-no-forms kind h = keep-none forms kind kinds-listed h
+no-forms : (kind : ℕ) → kindsEnd ≤ kind → formsFor kind ≡ []
+unfolding formsFor
+no-forms kind h = keep-none allForms kind kinds-listed h
 
 -- A kind past the last owns nothing.
 pub no-owner : (kind class : ℕ) → kindsEnd ≤ kind → mayOwn kind class ≡ false

@@ -1,12 +1,12 @@
 -- What a record of a kind may own and hold, computed from the rules: a mark or a child that some form of the kind has.
 -- Assumes nothing.
-use mathlib.Core.Bool.{Bool}
+use mathlib.Core.Bool.{Bool, true, false, cond}
 use mathlib.Core.List.{List, [], _∷_, _++_}
 use Prim.Native.Nat.{ℕ, _<_}
 use lib.Dec.{T, eqb, eqb→eq, ltb}
 use lib.ListN.{length, getD}
 use Rattle.text.specs.Table.{first-of}
-use Rattle.text.specs.Lists.{Some, here, there, has}
+use Rattle.text.specs.Lists.{keep, Some, here, there, has}
 use Rattle.text.specs.ListLaws.{has-left, has-right}
 use Rattle.num.specs.Bound.{isBound}
 use Rattle.own.specs.Tree.{Node, tokens, records}
@@ -15,7 +15,8 @@ use Rattle.own.specs.Law.{Sort, word, child, made}
 use Rattle.own.specs.Lists.{All, nil, _&_, all-map, all-append}
 use Rattle.own.specs.Kinds as kind
 use Rattle.kinds.specs.Shape.{Part, of, name, arm, bound, size, number, fits, Shape, nothing, never, mark, part, _▸_, _¦_, many, Spells, empty, one-mark, one-part, seq, left, right, stop, more}
-use Rattle.kinds.specs.Rules.{Form}
+use Rattle.kinds.specs.Fields.{plain}
+use Rattle.kinds.specs.Rules.{Form, form, allForms, program}
 use Rattle.kinds.specs.Spelled.{formsOf, Written, Spelled}
 use Rattle.kinds.specs.Ownership.{Right, law-3}
 
@@ -50,13 +51,17 @@ unfoldable pub inForms : (Shape → List ℕ) → List Form → List ℕ
 inForms f [] = []
 inForms f (x ∷ l) = f (x .shape) ++ inForms f l
 
+-- All forms of a kind.
+unfoldable pub formsFor : ℕ → List Form
+formsFor kind = keep (λ f. eqb (f .kind) kind) allForms
+
 -- Some form of the kind, for some low and high, has a mark of that class.
 unfoldable pub mayOwn : ℕ → ℕ → Bool
-mayOwn kind class = has (inForms classesIn (formsOf kind)) class
+mayOwn kind class = has (inForms classesIn (formsFor kind)) class
 
 -- Some form of the kind, for some low and high, has a child of that kind.
 unfoldable pub mayHold : ℕ → ℕ → Bool
-mayHold kind kid = has (inForms kindsIn (formsOf kind)) kid
+mayHold kind kid = has (inForms kindsIn (formsFor kind)) kid
 
 -- A piece whose class, or whose kind, is listed.
 abbrev pub listed : List ℕ → List ℕ → Sort → Bool
@@ -112,14 +117,24 @@ forms-listed (here {a = f} {l = l} x) = more-left (classesIn (f .shape)) (inForm
     (spells-listed (x .shape))
 forms-listed (there {a = f} {l = l} s) = more-right (classesIn (f .shape)) (inForms classesIn l) (kindsIn (f .shape)) (inForms kindsIn l) (forms-listed s)
 
+-- the program's form before others
+abbrev headed : Bool → List Form → List Form
+headed b l = cond b (form kind.Program plain program ∷ l) l
+
+more-forms : (b : Bool) (l : List Form) {w : List Sort} → All (λ s. T (listed (inForms classesIn l) (inForms kindsIn l) s)) w
+    → All (λ s. T (listed (inForms classesIn (headed b l)) (inForms kindsIn (headed b l)) s)) w
+unfolding inForms
+more-forms true l a = more-right (classesIn program) (inForms classesIn l) (kindsIn program) (inForms kindsIn l) a
+more-forms false l a = a
+
 -- What spells the rule of a kind is made of marks that the kind may own and children that it may hold.
 pub spelled-may : (kind low high : ℕ) {w : List Sort} → Spelled kind low high w → All (λ s. T (may kind s)) w
-unfolding mayOwn mayHold
-spelled-may kind low high s = all-map go (forms-listed s)
+unfolding mayOwn mayHold formsFor formsOf allForms
+spelled-may k low high s = all-map go (more-forms (eqb kind.Program k) (formsOf k) (forms-listed s))
   where
-    go : (x : Sort) → T (listed (inForms classesIn (formsOf kind)) (inForms kindsIn (formsOf kind)) x) → T (may kind x)
+    go : (x : Sort) → T (listed (inForms classesIn (headed (eqb kind.Program k) (formsOf k))) (inForms kindsIn (headed (eqb kind.Program k) (formsOf k))) x) → T (may k x)
     go (word c) t = t
-    go (child k l h c) t = t
+    go (child k′ l h c) t = t
 
 -- So by law 3 each record owns only what its kind may own, and holds only what its kind may hold.
 pub law-3-may : (ns : List Node) → Right ns → (j : ℕ) → j < length (records ns)

@@ -58,11 +58,11 @@ good =
     ∷ case kind.Name 0 0 (word t.fold ∷ [])
     ∷ case kind.Name 0 0 (word t.Jet ∷ [])
     ∷ case kind.Parameter 0 0 (named t.fold ∷ word t.Colon ∷ kid kind.Alias ∷ [])
-    -- List   Nonce   bool   u256   Either<A, B>   Option<A>   (A,)   [A; 0]   List<A, 4>   List<A, 2^63>
+    -- List   TokenAmount1   bool   u256   Either<A, B>   Option<A>   (A,)   [A; 0]   List<A, 4>   List<A, 2^63>
     ∷ case kind.Alias 0 0 (word t.List ∷ [])
-    ∷ case kind.Builtin 23 0 (word t.Ident ∷ [])
-    ∷ case kind.BoolType 0 0 (word t.Ident ∷ [])
-    ∷ case kind.Unsigned 256 0 (word t.Ident ∷ [])
+    ∷ case kind.Builtin 23 0 (word t.TokenAmount1 ∷ [])
+    ∷ case kind.BoolType 0 0 (word t.bool ∷ [])
+    ∷ case kind.Unsigned 256 0 (word t.u256 ∷ [])
     ∷ case kind.EitherType 0 0 (word t.Either ∷ word t.LAngle ∷ kid kind.Alias ∷ word t.Comma ∷ kid kind.EitherType ∷ word t.RAngle ∷ [])
     ∷ case kind.OptionType 0 0 (word t.Option ∷ word t.LAngle ∷ kid kind.ListType ∷ word t.RAngle ∷ [])
     ∷ case kind.TupleType 0 0 (word t.LParen ∷ kid kind.Alias ∷ word t.Comma ∷ word t.RParen ∷ [])
@@ -134,6 +134,9 @@ good =
     ∷ case kind.Call call.ForWhile 0 (turbofish t.for-while (named t.Ident ∷ []))
     ∷ case kind.Call call.RawHash 0 (turbofish t.raw-hash (kid kind.Unsigned ∷ []))
     ∷ case kind.Number 2 0 (word t.DecLiteral ∷ [])
+    -- type A = T;   type fold = T;
+    ∷ case kind.TypeItem 0 0 (word t.«Type» ∷ named t.Ident ∷ word t.Eq ∷ kid kind.Alias ∷ word t.Semi ∷ [])
+    ∷ case kind.TypeItem 0 0 (word t.«Type» ∷ named t.fold ∷ word t.Eq ∷ kid kind.TupleType ∷ word t.Semi ∷ [])
     ∷ []
 
 abbrev bad : List Case
@@ -175,14 +178,23 @@ bad =
     ∷ case kind.ListType 3 0 (word t.List ∷ word t.LAngle ∷ kid kind.Alias ∷ word t.Comma ∷ word t.DecLiteral ∷ word t.RAngle ∷ [])
     ∷ case kind.ListType 1 0 (word t.List ∷ word t.LAngle ∷ kid kind.Alias ∷ word t.Comma ∷ word t.DecLiteral ∷ word t.RAngle ∷ [])
     ∷ case kind.Call call.ArrayFold 0 (turbofish t.array-fold (named t.Ident ∷ word t.Comma ∷ child kind.Number 0 0 t.DecLiteral ∷ []))
-    ∷ case kind.Unsigned 3 0 (word t.Ident ∷ [])
-    ∷ case kind.Builtin 24 0 (word t.Ident ∷ [])
+    ∷ case kind.Unsigned 3 0 (word t.u2 ∷ [])
+    ∷ case kind.Builtin 24 0 (word t.TokenAmount1 ∷ [])
     ∷ case kind.Boolean 0 0 (word t.true ∷ [])
     -- arms that are no partners, one arm, a match with both sorts of arm
     ∷ case kind.Match 0 0 (word t.Match ∷ kid kind.Variable ∷ word t.LBrace ∷ armed arm.None ∷ armed arm.True ∷ word t.RBrace ∷ [])
     ∷ case kind.Match 0 0 (word t.Match ∷ kid kind.Variable ∷ word t.LBrace ∷ armed arm.True ∷ word t.RBrace ∷ [])
     ∷ case kind.EnumMatch 0 0 (word t.Match ∷ kid kind.Variable ∷ word t.LBrace ∷ kid kind.EnumArm ∷ armed arm.False ∷ word t.RBrace ∷ [])
     ∷ case kind.EnumMatch 0 0 (word t.Match ∷ kid kind.Variable ∷ word t.LBrace ∷ word t.RBrace ∷ [])
+    -- a built-in type and an alias by another name
+    ∷ case kind.Builtin 0 0 (word t.Ident ∷ [])
+    ∷ case kind.Alias 0 0 (word t.Nonce ∷ [])
+    -- a type item with a reserved name, with `:` for `=`, without `;`; a program is no form of these
+    ∷ case kind.TypeItem 0 0 (word t.«Type» ∷ named t.u8 ∷ word t.Eq ∷ kid kind.Alias ∷ word t.Semi ∷ [])
+    ∷ case kind.TypeItem 0 0 (word t.«Type» ∷ named t.List ∷ word t.Eq ∷ kid kind.Alias ∷ word t.Semi ∷ [])
+    ∷ case kind.TypeItem 0 0 (word t.«Type» ∷ named t.Ident ∷ word t.Colon ∷ kid kind.Alias ∷ word t.Semi ∷ [])
+    ∷ case kind.TypeItem 0 0 (word t.«Type» ∷ named t.Ident ∷ word t.Eq ∷ kid kind.Alias ∷ [])
+    ∷ case kind.Program 0 0 (kid kind.Function ∷ [])
     -- no such kind
     ∷ case 0 0 0 []
     ∷ case (suc kind.Last) 0 0 []

@@ -28,6 +28,10 @@ elements = kind.Let ∷ expressions
 abbrev pub arms : List ℕ
 arms = kind.BuiltinArm ∷ kind.EnumArm ∷ []
 
+-- Items of a file.
+abbrev pub items : List ℕ
+items = kind.Function ∷ kind.TypeItem ∷ []
+
 -- Kinds in which every name is a child of its own (`kind.Name`).
 abbrev pub namesKept : List ℕ
-namesKept = kind.Function ∷ kind.Parameter ∷ kind.EnumConstruction ∷ kind.EnumArm ∷ []
+namesKept = kind.Function ∷ kind.Parameter ∷ kind.EnumConstruction ∷ kind.EnumArm ∷ kind.TypeItem ∷ []

@@ -13,7 +13,7 @@ use Rattle.kinds.specs.Decide.{mayOwn, mayHold}
 unfoldable pub groups : List (List ℕ)
 groups =
     (t.Pub ∷ t.Fn ∷ t.Arrow ∷ [])
-    ∷ (t.Let ∷ t.Eq ∷ [])
+    ∷ (t.Let ∷ [])
     ∷ (t.Match ∷ [])
     ∷ (t.DoubleColon ∷ [])
     ∷ (t.Colon ∷ [])
@@ -43,6 +43,11 @@ groups =
     ∷ (t.assert! ∷ t.panic! ∷ t.dbg! ∷ [])
     ∷ (t.list! ∷ [])
     ∷ (t.false ∷ t.true ∷ [])
+    ∷ (t.Eq ∷ [])
+    ∷ (t.«Type» ∷ [])
+    ∷ (t.bool ∷ [])
+    ∷ t.unsignedTypes
+    ∷ t.builtinTypes
     ∷ []
 
 -- The groups of child kinds.
@@ -58,6 +63,8 @@ categories =
     ∷ (kind.BuiltinArm ∷ [])
     ∷ (kind.EnumArm ∷ [])
     ∷ (kind.Number ∷ [])
+    ∷ (kind.Function ∷ [])
+    ∷ (kind.TypeItem ∷ [])
     ∷ []
 
 -- The set of the groups that pass a test.

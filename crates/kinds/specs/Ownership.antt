@@ -5,15 +5,18 @@ use mathlib.Core.Bool.{Bool, true, false, _&&_, _||_}
 use mathlib.Core.List.{List, [], _∷_, _++_, map}
 use mathlib.Core.Logic.{_⊎_, inl, inr}
 use mathlib.Core.Path.{_≡_, refl, sym, ap, _∙_, subst}
-use Prim.Native.Nat.{ℕ, suc, _+_, _<_}
+use Prim.Native.Nat.{ℕ, suc, _+_, _<_, _≤_}
 use native.Mathlib.Omega.{arith}
 use lib.Dec.{T, eqb, eqb→eq}
-use lib.ListN.{length}
+use lib.ListN.{length, getD, drop}
 use Rattle.text.specs.Table.{first-of, second-of, or-left, or-right, or-cases}
 use Rattle.text.specs.Lists.{some, all, count, span}
 use Rattle.text.specs.ListLaws.{all-keep, all-some, from-some, only-one}
-use Rattle.own.specs.Tree.{Items, none, mark, sub, Node, node, roots, marks, kids, Each, InOrder, Owning, Paired, partner, canonical, paired, tokens, records, Fine}
-use Rattle.own.specs.Law.{Sort, word, child, Ownership, sorts, Keeps}
+use Rattle.own.specs.Tree.{Tok, Rec, Items, none, mark, sub, Node, node, roots, marks, kids, Each, InOrder, end, Owning, Paired, partner, canonical, paired, tokens, records, Fine}
+use Rattle.own.specs.Flat.{blank}
+use Rattle.own.specs.Law.{Sort, word, child, made, Ownership, sorts, Keeps}
+use Rattle.own.specs.File.{filed, FileOwnership}
+use Rattle.own.specs.FileLaws.{file-ownership}
 use Rattle.own.specs.Rules.{each-map, ownership}
 use Rattle.own.specs.Words.{toks, recs}
 use Rattle.own.specs.Kinds as kind
@@ -22,8 +25,9 @@ use Rattle.own.specs.WordLaws.{handed}
 use Rattle.kinds.specs.Shape.{arm, fits, Shape, nothing, never, part, _▸_, _¦_, many, Spells, empty, one-mark, one-part, seq, left, right, stop, more}
 use Rattle.kinds.specs.Shape as shape
 use Rattle.lexer.specs.Classes as t
-use Rattle.kinds.specs.Rules.{forms, the, expression, braces, arms, partners}
-use Rattle.kinds.specs.Spelled.{formsOf, Spelled}
+use Rattle.kinds.specs.Rules.{forms, allForms, the, expression, braces, arms, partners}
+use Rattle.kinds.specs.Spelled.{formsOf, Spelled, Program}
+use Rattle.kinds.specs.SpelledTest.{spelled, spelled-complete}
 use Rattle.kinds.specs.Class.{classOf}
 
 -- Whether every sequence of a shape has a mark.
@@ -42,8 +46,8 @@ unfolding all marked forms
 each-marked = tt
 
 -- Each kind has a form, by one computation.
-pub each-kind : T (all (λ k. some (λ f. true) (formsOf k)) (span kind.Function kind.Last))
-unfolding all some formsOf forms count span
+pub each-kind : T (all (λ k. some (λ f. eqb (f .kind) k) allForms) (span kind.Function kind.Last))
+unfolding all some allForms forms count span
 each-kind = tt
 
 -- How many marks a sequence has.
@@ -192,3 +196,17 @@ pub law-3-handed : (draft : List ℕ) (ns : List Node) (nt : ℕ) (tw : List ℕ
 law-3-handed draft ns nt tw nr rw r e f =
     handed Spelled {c = classOf draft} {ns = ns} {nt = nt} {nr = nr} {tw = tw} {rw = rw} (r .spelled)
     (record { fine = fine ns r; tokens-are = e; records-are = f })
+
+-- Law 3 of a file: of right trees that are items, none of whose tokens ends past it.
+pub law-3-file : (ns : List Node) (len : ℕ) → Right ns → end 0 (tokens ns) ≤ len → Program (sorts (roots ns)) → FileOwnership Spelled Program len (tokens ns) (filed len (records ns))
+law-3-file ns len r h p = file-ownership Spelled Program ns (fine ns r) (r .spelled) len h p
+
+no-program : (low high : ℕ) (w : List Sort) → Spelled kind.Program low high w → ⊥
+unfolding spelled formsOf forms some
+no-program low high w s = spelled-complete kind.Program low high w s
+
+-- No record but the first is a program's, so that "all records but 41" are the others.
+pub only-top : {len : ℕ} {ts : List Tok} {rs : List Rec} → FileOwnership Spelled Program len ts rs → (j : ℕ) → j < length (drop 1 rs) → getD (drop 1 rs) j blank .kind ≡ kind.Program → ⊥
+only-top {ts = ts} {rs = rs} o j h e =
+    let r = getD (drop 1 rs) j blank in
+    no-program (r .low) (r .high) (made ts (drop 1 rs) j) (subst (λ (k : ℕ). Spelled k (r .low) (r .high) (made ts (drop 1 rs) j)) e (o .others .spelled j h))

@@ -1,7 +1,7 @@
--- The kinds table of document 01 as data: for each kind the forms that a record of it may have, with what low and high hold.
--- Written from "Well-shaped drafts" and "Records and the marks they own"; the row of the table stands above each form.
+-- The kinds table of document 01 as data, with the kinds of document 02, order 3: for each kind the forms that a record of it may have, with what low
+-- and high hold. Written from "Well-shaped drafts" and "Records and the marks they own"; the row of the table stands above each form.
 -- Assumes nothing.
-use mathlib.Core.List.{List, [], _∷_, foldr, map}
+use mathlib.Core.List.{List, [], _∷_, _++_, foldr, map}
 use Prim.Native.Nat.{ℕ, _^_}
 use Rattle.text.specs.Lists.{span}
 use Rattle.own.specs.Kinds as kind
@@ -53,6 +53,13 @@ identifier = part (name t.identifiers)
 
 abbrev pub functionName : Shape
 functionName = part (name t.functionNames)
+
+abbrev pub aliasName : Shape
+aliasName = part (name t.aliasNames)
+
+-- An item of a file: a function or a type item.
+abbrev pub item : Shape
+item = part (of family.items)
 
 -- At least one, with commas between; the list may end in a comma.
 abbrev pub some : Shape → Shape
@@ -136,10 +143,10 @@ forms =
     -- 3 parameter: name, type; `:`
     ∷ form kind.Parameter plain (identifier ▸ the t.Colon ▸ type)
     -- 4 alias; 5 builtin (low 0-23 in `BuiltinAlias` order); 6 bool; 7 unsigned (`u1` to `u256`, powers of two only; low bits): token
-    ∷ form kind.Alias plain (mark t.identifiers)
-    ∷ form kind.Builtin (among (span 0 23)) (the t.Ident)
-    ∷ form kind.BoolType plain (the t.Ident)
-    ∷ form kind.Unsigned (among (map (λ i. 2 ^ i) (span 0 8))) (the t.Ident)
+    ∷ form kind.Alias plain (mark (t.Either ∷ t.Option ∷ t.List ∷ t.aliasNames))
+    ∷ form kind.Builtin (among (span 0 23)) (mark t.builtinTypes)
+    ∷ form kind.BoolType plain (the t.bool)
+    ∷ form kind.Unsigned (among (map (λ i. 2 ^ i) (span 0 8))) (mark t.unsignedTypes)
     -- 8 Either, 9 Option: types; all other tokens
     ∷ form kind.EitherType plain (the t.Either ▸ angles (type ▸ the t.Comma ▸ type))
     ∷ form kind.OptionType plain (the t.Option ▸ angles type)
@@ -172,7 +179,7 @@ forms =
     ∷ form kind.Binary plain (the t.BinLiteral)
     ∷ form kind.Witness plain (the t.Witness)
     ∷ form kind.ParameterValue plain (the t.Param)
-    ∷ form kind.Variable plain (mark (t.Ident ∷ t.Left ∷ t.Right ∷ t.Some ∷ t.Either ∷ t.Option ∷ t.List ∷ t.reserved))
+    ∷ form kind.Variable plain (mark (t.Ident ∷ t.Left ∷ t.Right ∷ t.Some ∷ t.Either ∷ t.Option ∷ t.List ∷ t.typeNames ++ t.reserved))
     -- 30 parenthesised, 31 tuple, 32 array, 33 list: expressions; brackets, `list!`
     ∷ form kind.Parenthesised plain (parens expression)
     ∷ form kind.Tuple plain (parens (commaList expression))
@@ -203,7 +210,7 @@ forms =
     ∷ callOf call.Debug (the t.dbg!)
     ∷ callOf call.TypeCast (angles type ▸ the t.DoubleColon ▸ the t.into)
     -- a function name, called with any list; a wrapper's, with any that is not one expression without a comma; `None` is not called
-    ∷ callOf call.Custom (part (name (t.Ident ∷ t.Either ∷ t.Option ∷ t.List ∷ [])))
+    ∷ callOf call.Custom (part (name (t.Ident ∷ t.Either ∷ t.Option ∷ t.List ∷ t.typeNames)))
     ∷ form kind.Call (low call.Custom) (part (name wrappers) ▸ parens (commaList expression))
     ∷ callOf call.Fold (generic t.fold (functionName ▸ the t.Comma ▸ part bound))
     ∷ callOf call.ArrayFold (generic t.array-fold (functionName ▸ the t.Comma ▸ part size))
@@ -211,4 +218,14 @@ forms =
     ∷ callOf call.RawHash (generic t.raw-hash type)
     -- 40 number: number; token
     ∷ form kind.Number wide (the t.DecLiteral)
+    -- 42 type item: "a name and a type, owning `type = ;`"
+    ∷ form kind.TypeItem plain (the t.«Type» ▸ aliasName ▸ the t.Eq ▸ type ▸ the t.Semi)
     ∷ []
+
+-- 41 program: "the items as children; it owns nothing".
+abbrev pub program : Shape
+program = many item
+
+-- The forms of every kind. That of a program is none of those above, since it has no mark of its own.
+unfoldable pub allForms : List Form
+allForms = form kind.Program plain program ∷ forms

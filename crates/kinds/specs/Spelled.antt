@@ -7,7 +7,7 @@ use Rattle.text.specs.Lists.{keep, Some}
 use Rattle.own.specs.Law.{Sort, Rule}
 use Rattle.kinds.specs.Shape.{Spells}
 use Rattle.kinds.specs.Fields.{holds}
-use Rattle.kinds.specs.Rules.{Form, forms}
+use Rattle.kinds.specs.Rules.{Form, forms, program}
 
 unfoldable pub formsOf : ℕ → List Form
 formsOf kind = keep (λ f. eqb (f .kind) kind) forms
@@ -20,3 +20,7 @@ pub record Written (low high : ℕ) (w : List Sort) (f : Form) : Type 0 where
 -- The rule: what a record of this kind, low and high is made of is of one of the forms of its kind.
 abbrev pub Spelled : Rule
 Spelled kind low high w = Some (Written low high w) (formsOf kind)
+
+-- What a program is made of: any number of items.
+abbrev pub Program : List Sort → Type 0
+Program = Spells program

@@ -10,17 +10,19 @@ mod mark;
 pub mod part;
 
 // The group of a token class.
-fn group(class: u32) -> u32
+fn group(class: u32) -> u64
     ensures { λ r. ⌜ r ≡ groupSet class ⌝ }
 {
     match class {
         class::PUB | class::FN | class::ARROW => mark::FUNCTION,
-        class::LET | class::EQ => mark::LET,
+        class::LET => mark::LET,
+        class::TYPE => mark::TYPE_WORD,
         class::MATCH => mark::MATCH,
         class::DOUBLE_COLON => mark::PATH,
         class::COLON => mark::COLON,
         class::SEMI => mark::SEMI,
         class::COMMA => mark::COMMA,
+        class::EQ => mark::EQUALS,
         class::FAT_ARROW => mark::FAT_ARROW,
         class::LPAREN..=class::RPAREN => mark::PARENS,
         class::LBRACKET..=class::RBRACKET => mark::BRACKETS,
@@ -46,27 +48,34 @@ fn group(class: u32) -> u32
         class::ASSERT_MACRO..=class::DBG_MACRO => mark::MACRO,
         class::LIST_MACRO => mark::LIST_MACRO,
         class::FALSE..=class::TRUE => mark::BOOLEAN,
+        class::BOOL_TYPE => mark::BOOL_TYPE,
+        class::U1..=class::U256 => mark::UNSIGNED,
+        class::CTX8..=class::LAST => mark::BUILTIN,
         _ => 0,
     }
 }
 
 // The groups of the marks of a record kind.
-fn marks(kind: u32) -> u32
+fn marks(kind: u32) -> u64
     ensures { λ r. ⌜ r ≡ markSet kind ⌝ }
 {
     match kind {
         kind::FUNCTION => mark::FUNCTION | mark::PARENS | mark::COMMA,
         kind::NAME => mark::NAMES | mark::JET,
         kind::PARAMETER => mark::COLON,
-        kind::ALIAS | kind::IDENTIFIER_PATTERN => mark::NAMES,
-        kind::BUILTIN..=kind::UNSIGNED | kind::IGNORE_PATTERN => mark::IDENT,
+        kind::ALIAS => mark::ALIASES,
+        kind::BUILTIN => mark::BUILTIN,
+        kind::BOOL_TYPE => mark::BOOL_TYPE,
+        kind::UNSIGNED => mark::UNSIGNED,
         kind::EITHER_TYPE => mark::EITHER | mark::ANGLES | mark::COMMA,
         kind::OPTION_TYPE => mark::OPTION | mark::ANGLES,
         kind::TUPLE_TYPE | kind::TUPLE_PATTERN | kind::TUPLE => mark::PARENS | mark::COMMA,
         kind::ARRAY_TYPE => mark::BRACKETS | mark::SEMI | mark::DECIMAL,
         kind::LIST_TYPE => mark::LIST | mark::ANGLES | mark::COMMA | mark::DECIMAL,
+        kind::IDENTIFIER_PATTERN => mark::NAMES,
+        kind::IGNORE_PATTERN => mark::IDENT,
         kind::ARRAY_PATTERN | kind::ARRAY => mark::BRACKETS | mark::COMMA,
-        kind::LET => mark::LET | mark::COLON,
+        kind::LET => mark::LET | mark::COLON | mark::EQUALS,
         kind::BLOCK => mark::BRACES | mark::SEMI,
         kind::LEFT => mark::LEFT | mark::PARENS,
         kind::RIGHT => mark::RIGHT | mark::PARENS,
@@ -99,6 +108,7 @@ fn marks(kind: u32) -> u32
             | mark::ANGLES
             | mark::PARENS
             | mark::COMMA,
+        kind::TYPE_ITEM => mark::TYPE_WORD | mark::EQUALS | mark::SEMI,
         _ => 0,
     }
 }
@@ -108,6 +118,7 @@ pub fn category(child: u32) -> u32
     ensures { λ r. ⌜ r ≡ categorySet child ⌝ }
 {
     match child {
+        kind::FUNCTION => part::FUNCTION_ITEM,
         kind::NAME => part::NAME,
         kind::PARAMETER => part::PARAMETER,
         kind::ALIAS..=kind::LIST_TYPE => part::TYPE,
@@ -118,6 +129,7 @@ pub fn category(child: u32) -> u32
         kind::BUILTIN_ARM => part::BUILTIN_ARM,
         kind::ENUM_ARM => part::ENUM_ARM,
         kind::NUMBER => part::NUMBER,
+        kind::TYPE_ITEM => part::TYPE_ITEM,
         _ => 0,
     }
 }
@@ -139,6 +151,8 @@ fn parts(kind: u32) -> u32
         kind::ENUM_MATCH => part::EXPRESSION | part::ENUM_ARM,
         kind::ENUM_ARM => part::NAME | part::PATTERN | part::TYPE | part::EXPRESSION,
         kind::CALL => part::NAME | part::TYPE | part::NUMBER | part::EXPRESSION,
+        kind::PROGRAM => part::FUNCTION_ITEM | part::TYPE_ITEM,
+        kind::TYPE_ITEM => part::NAME | part::TYPE,
         _ => 0,
     }
 }

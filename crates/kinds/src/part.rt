@@ -19,4 +19,8 @@ pub const ENUM_ARM: u32 = 1 << 8;
 
 pub const NUMBER: u32 = 1 << 9;
 
+pub const FUNCTION_ITEM: u32 = 1 << 10;
+
+pub const TYPE_ITEM: u32 = 1 << 11;
+
 pub const EXPRESSION: u32 = BLOCK | SINGLE;

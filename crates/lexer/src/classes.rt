@@ -131,12 +131,14 @@ pub const FALSE: u32 = 61;
 
 pub const TRUE: u32 = 62;
 
-// The names of types: `bool`, the unsigned types from `u1` on, the built-in aliases from `Ctx8` on.
+// The names of types: `bool`; the unsigned types, `u1` to `u256`; the built-in aliases, `Ctx8` to the last.
 pub const BOOL_TYPE: u32 = 63;
 
-pub const UNSIGNED_TYPES: u32 = 64;
+pub const U1: u32 = 64;
 
-pub const BUILTIN_TYPES: u32 = 73;
+pub const U256: u32 = 72;
+
+pub const CTX8: u32 = 73;
 
 // The last class.
 pub const LAST: u32 = 96;

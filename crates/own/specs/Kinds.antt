@@ -1,4 +1,4 @@
--- The kinds of records by name: document 01, "Records and the marks they own", in the order of its table. Types are those from Alias on,
+-- The kinds of records by name: document 01, "Records and the marks they own", in the order of its table, with those of document 02. Types are those from Alias on,
 -- patterns those from IdentifierPattern on (IgnorePattern is `_`); Number is the number in a call.
 -- Assumes nothing.
 use Prim.Native.Nat.{ℕ}
@@ -123,6 +123,13 @@ Call = 39
 abbrev pub Number : ℕ
 Number = 40
 
+-- A whole file, and a type item (document 02, order 3).
+abbrev pub Program : ℕ
+Program = 41
+
+abbrev pub TypeItem : ℕ
+TypeItem = 42
+
 -- The kinds are 1 to this.
 abbrev pub Last : ℕ
-Last = Number
+Last = TypeItem

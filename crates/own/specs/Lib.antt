@@ -10,6 +10,8 @@ pub mod Count
 pub mod Owners
 pub mod Partners
 pub mod Rules
+pub mod File
+pub mod FileLaws
 pub mod Words
 pub mod WordLaws
 pub mod Laid

@@ -40,7 +40,8 @@ class-at at (x ∷ a) y b h o =
     let later : x .stop ≤ begin y = omega (arith, order-le (x .stop) a (order-left (x .stop) a (y ++ b) (o .2)), begin-le (end (x .stop) a) y h oy) in
     rw (ne-eqb (x .start) (begin y) (λ e. omega arith)) (class-at (x .stop) a y b h (o .2))
 
-sorts-pieces : (ts : List Tok) → InOrder 0 ts → (is : Items) (a b : List Tok) → ts ≡ a ++ (yield is ++ b) → Marked is → map (sortOf ts) (pieces is) ≡ sorts is
+-- The pieces of a part of the tokens, as a rule sees them.
+pub sorts-pieces : (ts : List Tok) → InOrder 0 ts → (is : Items) (a b : List Tok) → ts ≡ a ++ (yield is ++ b) → Marked is → map (sortOf ts) (pieces is) ≡ sorts is
 sorts-pieces ts o none a b e m = refl
 sorts-pieces ts o (mark t r) a b e m =
     ap (λ l. word (t .class) ∷ l) (sorts-pieces ts o r (a ++ (t ∷ [])) b (e ∙ sym (append-assoc a (t ∷ []) (yield r ++ b))) m)

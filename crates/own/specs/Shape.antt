@@ -98,15 +98,16 @@ head-children n rest = ap (row size) (ap (take (size - 1)) (map-append recordOf 
     enough : length (below n) ≤ size
     enough = omega (arith, few (below n), ap length is-below)
 
-kids-roots : (ns : List Node) → kids (roots ns) ≡ ns
+-- The nodes right beneath are the trees.
+pub kids-roots : (ns : List Node) → kids (roots ns) ≡ ns
 kids-roots [] = refl
 kids-roots (n ∷ ns) = ap (λ m. n ∷ m) (kids-roots ns)
 
 -- the records of the trees themselves, through the sizes from the first on
-pub tops : (ns : List Node) → row (length (records ns)) (records ns) ≡ map recordOf ns
-tops ns =
-    ap (λ m. row (length (records ns)) (map recordOf (concat m))) e
-    ∙ row-nodes ns (length (records ns)) (omega (arith, few ns, length-map (all ns) recordOf, ap (λ m. length (concat m)) e))
+pub tops : (ns : List Node) (f : ℕ) → length (records ns) ≤ f → row f (records ns) ≡ map recordOf ns
+tops ns f h =
+    ap (λ m. row f (map recordOf (concat m))) e
+    ∙ row-nodes ns f (omega (arith, h, few ns, length-map (all ns) recordOf, ap (λ m. length (concat m)) e))
   where
     e : groups (roots ns) ≡ map nodes ns
     e = groups-kids (roots ns) ∙ ap (map nodes) (kids-roots ns)

@@ -85,5 +85,10 @@ pub const CALL: u32 = 39;
 
 pub const NUMBER: u32 = 40;
 
+// A whole file, and a type item.
+pub const PROGRAM: u32 = 41;
+
+pub const TYPE_ITEM: u32 = 42;
+
 // The kinds are 1 to this.
-pub const LAST: u32 = NUMBER;
+pub const LAST: u32 = TYPE_ITEM;
