@@ -49,9 +49,10 @@ def choices(shapes, e):
     return branches(e)
 
 
-def productions(shapes, start):
-    """means[A] is the expression of the nonterminal A; rules[A] its alternatives: a class, or ('n', B)."""
-    means, rules = [start], []
+def productions(shapes, starts):
+    """means[A] is the expression of the nonterminal A; rules[A] its alternatives: a class, or ('n', B). What the first start leads to comes before the
+    next start, so that numbers stay as they are when a start is added."""
+    means, rules = [], []
 
     def symbol(e):
         if e[0] == "mark":
@@ -60,8 +61,10 @@ def productions(shapes, start):
             means.append(e)
         return ("n", means.index(e))
 
-    while len(rules) < len(means):
-        rules.append([[symbol(x) for x in alternative] for alternative in choices(shapes, means[len(rules)])])
+    for start in starts:
+        symbol(start)
+        while len(rules) < len(means):
+            rules.append([[symbol(x) for x in alternative] for alternative in choices(shapes, means[len(rules)])])
     return means, rules
 
 
@@ -85,10 +88,11 @@ def fixpoint(step):
 
 
 class Table:
-    def __init__(self, means, rules):
+    def __init__(self, means, rules, starts):
         self.means, self.rules, n = means, rules, len(rules)
         self.null, self.first, self.follow = [False] * n, [set() for _ in rules], [set() for _ in rules]
-        self.follow[0].add(0)
+        for start in starts:
+            self.follow[means.index(start)].add(0)
         fixpoint(self.more_first)
         fixpoint(self.more_follow)
         self.table, self.conflicts = [{} for _ in rules], []
@@ -176,7 +180,7 @@ class Printer:
     def __init__(self, grammar, shapes):
         self.grammar, self.names, self.classes = grammar, {}, {}
         for n in grammar.sources["Classes"]:
-            if isinstance(grammar.value(n), int):
+            if isinstance(grammar.value(n), int) and n not in ("t.words", "t.last"):
                 self.classes[grammar.value(n)] = n
         for n in grammar.sources["Categories"]:
             if isinstance(grammar.value(n), int):
@@ -319,10 +323,11 @@ def written(grammar, shapes, table, printer):
 def load():
     grammar = Values(SOURCES)
     rows = grammar.value("rows")
-    kinds = [[k for k, row in enumerate(rows) if row["category"] == C] for C in range(1 + grammar.value("arm"))]
+    kinds = [[k for k, row in enumerate(rows) if row["category"] == C] for C in range(1 + grammar.value("typeItem"))]
     shapes = {"kinds": kinds, "bodies": [row["body"] for row in rows], "parts": grammar.value("parts")}
-    means, rules = productions(shapes, ("child", grammar.value("function")))
-    return grammar, shapes, Table(means, rules)
+    starts = [("child", grammar.value("function")), grammar.value("file")]
+    means, rules = productions(shapes, starts)
+    return grammar, shapes, Table(means, rules, starts)
 
 
 def keep(files, script):

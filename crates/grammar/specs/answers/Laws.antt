@@ -1,6 +1,6 @@
 -- The laws of the reader's answer, each with its sentence of the papers. `answer` and the two buffers are those of Answer.antt.
 -- Assumes nothing.
-use mathlib.Core.List.{List, _++_}
+use mathlib.Core.List.{List, [], _∷_, _++_}
 use mathlib.Core.Option.{none}
 use mathlib.Core.Logic.{_↔_}
 use mathlib.Core.Path.{_≡_, refl, sym, ap, ap₂, _∙_, subst}
@@ -16,35 +16,41 @@ use Rattle.lexer.specs.Limits.{Limits, tokenWords, tokensOf, bufferOf}
 use Rattle.lexer.specs.Limits as lexer
 use Rattle.lexer.specs.RowLaws as rows
 use Rattle.lexer.specs.Tokens.{lexeme-refused}
-use Rattle.own.specs.Tree.{Tok, Node, Rec, tokens, classesOf}
+use Rattle.own.specs.Tree.{Tok, Node, Rec, roots, end, tokens, classesOf}
+use Rattle.own.specs.Law.{sorts}
 use Rattle.text.specs.Widths.{tokWide, recWide}
 use Rattle.text.specs.Answers.{Answer, accepted, refused}
 use Rattle.text.specs.Refusals as refusal
 use Rattle.text.specs.Lists.{has}
 use Rattle.own.specs.Words.{toks, recs, recWords}
 use Rattle.own.specs.WordLaws.{recs-words}
+use Rattle.kinds.specs.Shape.{Spells}
 use Rattle.kinds.specs.Ownership.{Right}
 use Rattle.kinds.specs.Ownership as kinds
 use Rattle.kinds.specs.Class.{classOf}
-use Rattle.grammar.specs.Entry.{Entry, oneFunction, recordsOf, Owned, over}
+use Rattle.grammar.specs.Entry.{Entry, oneFunction, wholeFile, startEx, recordsOf, Owned, over}
 use Rattle.grammar.specs.shapes.WellShaped.{shapeOf}
 use Rattle.grammar.specs.shapes.WellShapedLaws.{shape-exactly, one-shape}
 use Rattle.grammar.specs.spelled.TreeTokens.{keeps-tokens}
 use Rattle.grammar.specs.records.Faults.{faultOf}
 use Rattle.grammar.specs.records.FaultNumbers.{fault-numbers}
-use Rattle.grammar.specs.spelled.RecordLaws.{is-right}
+use Rattle.grammar.specs.spelled.RecordLaws.{is-right, tops-spelled, file-spelled}
+use Rattle.grammar.specs.spelled.Rules.{row}
 use Rattle.grammar.specs.answers.Answer.{toksOf, treesOf, recordsFor, read, reading, answer, content, tokensRead, recordsIn, tokenBuffer, recordsRead, treeBuffer}
 use Rattle.grammar.specs.answers.Outcome.{Shaped, Misshapen, Refusal, too-long, bad-bytes, too-many, too-deep, misshapen, faulted, no-room, Accepted, Written}
 use Rattle.grammar.specs.answers.OutcomeLaws.{refused-exactly, accepted-exactly, lexed-within, read-faultless}
 use Rattle.grammar.specs.answers.Promised.{Promised}
-use Rattle.grammar.specs.answers.TokensInOrder.{tokens-in-order, toks-length, token-words-length, record-words-length, tokens-read-back}
+use Rattle.grammar.specs.answers.TokensInOrder.{tokens-in-order, tokens-inside, toks-length, token-words-length, record-words-length, tokens-read-back}
 
--- Right trees are owned as each entry promises, and then there are no more records than it says.
-owned-at : (en : Entry) (len : ℕ) (ns : List Node) → Right ns → Owned en len (tokens ns) (recordsOf en len ns)
-owned-at oneFunction len ns r = kinds.law-3 ns r
+-- Right trees that are what an entry reads, none of whose tokens ends past the draft, are owned as it promises; and then there are no more records
+-- than it says.
+owned-at : (en : Entry) (len : ℕ) (ns : List Node) → Right ns → end 0 (tokens ns) ≤ len → Spells (row (startEx en ∷ [])) (sorts (roots ns)) → Owned en len (tokens ns) (recordsOf en len ns)
+owned-at oneFunction len ns r h p = kinds.law-3 ns r
+owned-at wholeFile len ns r h p = kinds.law-3-file ns len r h (file-spelled p)
 
 few-owned : (en : Entry) (len : ℕ) (ts : List Tok) (rs : List Rec) → Owned en len ts rs → length rs ≤ over en + length ts
 few-owned oneFunction len ts rs o = omega (arith, o .few)
+few-owned wholeFile len ts rs o = omega (arith, o .few)
 
 module _ (en : Entry) (l : Limits) (draft : List ℕ) (tw rw : ℕ) where
   -- Law 1. "An accepted draft, to which no row below applies": accepted exactly when the draft lexes, is within the limits, some shape
@@ -180,7 +186,9 @@ module _ (en : Entry) (l : Limits) (draft : List ℕ) (tw rw : ℕ) where
     pub tree-owned : Owned en (length draft) (toksOf draft ts) (recordsFor en draft ts r)
     tree-owned =
         subst (λ u. Owned en (length draft) u (recordsFor en draft ts r)) tree-tokens
-        (owned-at en (length draft) (treesOf draft ts r) tree-right)
+        (owned-at en (length draft) (treesOf draft ts r) tree-right
+        (subst (λ u. end 0 u ≤ length draft) (sym tree-tokens) (tokens-inside draft ts (s .within .lexes)))
+        (tops-spelled en draft (toksOf draft ts) r its-shape clear))
 
     -- There are no more records than tokens, but for those that the entry may have over.
     pub few-records : length (recordsFor en draft ts r) ≤ over en + length ts

@@ -2,13 +2,13 @@
 -- Assumes nothing.
 use mathlib.Core.List.{List, [], _∷_, _++_}
 use mathlib.Core.Path.{_≡_, refl, ap, _∙_}
-use Prim.Native.Nat.{ℕ, _*_}
+use Prim.Native.Nat.{ℕ, _*_, _≤_}
 use native.Mathlib.Omega.{arith}
 use lib.ListN.{length}
 use Rattle.lexer.specs.Lexemes.{Token, tokens, lexemes}
 use Rattle.lexer.specs.Limits.{tokenWords}
 use Rattle.lexer.specs.Tokens.{Between, tokens-between}
-use Rattle.own.specs.Tree.{InOrder, Rec, classesOf}
+use Rattle.own.specs.Tree.{InOrder, end, Rec, classesOf}
 use Rattle.text.specs.Widths.{tokWide, recWide}
 use Rattle.own.specs.Words.{toks, recWords}
 use Rattle.kinds.specs.Class.{classOf}
@@ -23,6 +23,15 @@ between-order draft at m (t ∷ ts) b = (b .0, b .1, between-order draft (t .end
 -- The tokens of every draft are in order from its start on, and none is empty.
 pub tokens-in-order : (draft : List ℕ) (ts : List Token) → lexemes draft ≡ tokens ts → InOrder 0 (toksOf draft ts)
 tokens-in-order draft ts e = between-order draft 0 (length draft) ts (tokens-between draft ts e)
+
+between-end : (draft : List ℕ) (at m : ℕ) (ts : List Token) → at ≤ m → Between at m ts → end at (toksOf draft ts) ≤ m
+unfolding toksOf
+between-end draft at m [] h b = h
+between-end draft at m (t ∷ ts) h b = between-end draft (t .end) m ts (b .2) (b .3)
+
+-- None ends past the draft.
+pub tokens-inside : (draft : List ℕ) (ts : List Token) → lexemes draft ≡ tokens ts → end 0 (toksOf draft ts) ≤ length draft
+tokens-inside draft ts e = between-end draft 0 (length draft) ts (omega arith) (tokens-between draft ts e)
 
 -- As many as the lexer's, and so many classes.
 pub toks-length : (draft : List ℕ) (ts : List Token) → length (toksOf draft ts) ≡ length ts

@@ -1,7 +1,7 @@
 -- Drafts with what the papers say of each, and what the definitions say of them in the same form, opened so that it computes.
 -- Assumes nothing.
 use mathlib.Core.List.{List, _++_}
-use Prim.Native.Nat.{ℕ, _*_}
+use Prim.Native.Nat.{ℕ, suc, _*_}
 use Prim.Native.String.{String}
 use lib.ListN.{length, getD}
 use Rattle.own.specs.Flat.{blank}
@@ -11,7 +11,7 @@ use Rattle.text.specs.Ascii.{ascii, asciiFrom}
 use Rattle.text.specs.Part.{partOf}
 use Rattle.text.specs.Same.{same}
 use Rattle.text.specs.Lists.{has, count, span}
-use Rattle.words.specs.Words.{FUNCTION_RESERVED, KEYWORDS, MACROS, MODULE_RESERVED, RULE_NAMES, BOOLEANS, RULE_WORDS, BOOL, UINT_TYPES, BUILTIN_ALIASES, find, wordOf}
+use Rattle.words.specs.Words.{FUNCTION_RESERVED, KEYWORDS, MACROS, MODULE_RESERVED, RULE_NAMES, BOOLEANS, RULE_WORDS, BOOL, UINT_TYPES, BUILTIN_ALIASES, TYPE_NAMES, find, wordOf}
 use Rattle.num.specs.Digits as digits
 use Rattle.num.specs.Value.{decimalFrom, decimalOf, fitted}
 use Rattle.num.specs.Bound.{boundOk, sizeOk, lengthOk, isBound}
@@ -30,9 +30,9 @@ use Rattle.kinds.specs.Fields.{counted}
 use Rattle.kinds.specs.Class.{classOf}
 use Rattle.grammar.specs.shapes.Shapes.{shapes}
 use Rattle.grammar.specs.shapes.Tables.{table, means}
-use Rattle.grammar.specs.Entry.{Entry, oneFunction}
+use Rattle.grammar.specs.Entry.{Entry, oneFunction, wholeFile}
 use Rattle.grammar.specs.shapes.WellShaped.{shapeOf}
-use Rattle.grammar.specs.records.Records.{lowHalf, highHalf, sees, opening, nameCount, partCount, lone, unended, placeIn, builtinType, unsignedType, boolType, typeName, patternName}
+use Rattle.grammar.specs.records.Records.{lowHalf, highHalf, sees, opening, nameCount, partCount, lone, unended, placeIn, typeName, patternName}
 use Rattle.grammar.specs.records.Records.{literalHead, functionHead, callHead, wrapperHead, calledHead, aloneHead, nameHead, armHead, headOf, formOf, roleOf, placed, arranged}
 use Rattle.grammar.specs.records.Records.{textOf, firstTok, firstOf, decimal, headFor, recorded, recordItems, recordTrees}
 use Rattle.grammar.specs.records.Faults.{unless, armLows, mates, armsFault, faultsAt, faults, earlier, earliest, faultOf}
@@ -78,9 +78,9 @@ unfolding ascii asciiFrom partOf same FUNCTION_RESERVED KEYWORDS MACROS MODULE_R
     lexeme.lineComment lexeme.inside lexeme.closing lexeme.blockComment lexeme.nameLength lexeme.qualified lexeme.macro lexeme.word lexeme.digits
     lexeme.hexadecimal lexeme.binary lexeme.decimal lexeme.marks lexeme.mark lexeme.noLexeme lexeme.lexeme lexeme.lexemesFrom lexeme.lexemes
     class.classOf depthAfter rowAfter tooDeep room lexedOf look row alt pick choose kindsOf sortOf ex thenWord thenRest thenSub exec saves need
-    judge parse BOOL UINT_TYPES BUILTIN_ALIASES digits.plain decimalFrom decimalOf fitted isBound boundOk sizeOk lengthOk yield partner canonical turned has
-    count span counted classOf shapes table means shapeOf lowHalf highHalf sees opening nameCount partCount lone unended placeIn builtinType
-    unsignedType boolType typeName patternName literalHead functionHead callHead wrapperHead calledHead aloneHead nameHead armHead headOf
+    judge parse TYPE_NAMES BOOL UINT_TYPES BUILTIN_ALIASES digits.plain decimalFrom decimalOf fitted isBound boundOk sizeOk lengthOk yield partner canonical turned has
+    count span counted classOf shapes table means shapeOf lowHalf highHalf sees opening nameCount partCount lone unended placeIn
+    typeName patternName literalHead functionHead callHead wrapperHead calledHead aloneHead nameHead armHead headOf
     formOf roleOf placed arranged textOf firstTok firstOf decimal headFor recorded recordItems recordTrees unless armLows mates armsFault
     faultsAt faults earlier earliest faultOf classesOf toksOf startOf reading answer recordsRead upperHex hex lineOf refusalRec linesOf listing
     tokenWords tokenBuffer treeBuffer
@@ -96,6 +96,10 @@ defined k =
 -- no more than tokens.
 abbrev pub roomy : List ℕ → Result → Case
 roomy draft r = record { entry = oneFunction; limits = draftLimits; tokenSpace = tokWide * draftTokens; treeSpace = recWide * draftTokens; draft = draft; result = r }
+
+-- A file, with room for one record more.
+abbrev pub asFile : String → Result → Case
+asFile s r = record { entry = wholeFile; limits = draftLimits; tokenSpace = tokWide * draftTokens; treeSpace = recWide * suc draftTokens; draft = ascii s; result = r }
 
 -- A whole draft.
 abbrev pub whole : String → Result → Case

@@ -10,9 +10,6 @@ use Rattle.text.specs.Ascii.{ascii}
 use Rattle.text.specs.Part.{partOf}
 use Rattle.text.specs.Same.{same}
 use Rattle.text.specs.Lists.{has}
-use Rattle.words.specs.Words.{BOOL, UINT_TYPES, BUILTIN_ALIASES, wordOf}
-use Rattle.words.specs.declared.Found.{Found}
-use Rattle.words.specs.declared.Found.the-variants.{Word, Plain}
 use Rattle.num.specs.Value.{decimalOf}
 use Rattle.theory.specs.Ebnf as shape
 use Rattle.own.specs.Tree.{Tok, Items, none, mark, sub, Node, kids, marks}
@@ -91,22 +88,12 @@ unfoldable pub placeIn : ℕ → ℕ → List ℕ → ℕ → ℕ
 placeIn d n [] c = d
 placeIn d n (a ∷ l) c = cond (eqb c a) n (placeIn d (suc n) l c)
 
--- "4–7 alias, builtin (low 0–23 in `BuiltinAlias` order), bool, unsigned (`u1` to `u256`, powers of two only; low bits)": by the text of a plain name
-unfoldable pub builtinType : Found → Head
-builtinType (Word i) = head kind.Builtin i 0
-builtinType Plain = plain kind.Alias
-
-unfoldable pub unsignedType : Found → Head → Head
-unsignedType (Word i) other = head kind.Unsigned (2 ^ i) 0
-unsignedType Plain other = other
-
-unfoldable pub boolType : Found → Head → Head
-boolType (Word i) other = plain kind.BoolType
-boolType Plain other = other
-
-unfoldable pub typeName : List ℕ → ℕ → Head
-typeName text c =
-    cond (eqb c t.Ident) (boolType (wordOf BOOL text) (unsignedType (wordOf UINT_TYPES text) (builtinType (wordOf BUILTIN_ALIASES text)))) (plain kind.Alias)
+-- "4–7 alias, builtin (low 0–23 in `BuiltinAlias` order), bool, unsigned (`u1` to `u256`, powers of two only; low bits)"
+unfoldable pub typeName : ℕ → Head
+typeName c =
+    cond (eqb c t.bool) (plain kind.BoolType)
+    (cond (has t.unsignedTypes c) (head kind.Unsigned (2 ^ placeIn 0 0 t.unsignedTypes c) 0)
+    (cond (has t.builtinTypes c) (head kind.Builtin (placeIn 0 0 t.builtinTypes c) 0) (plain kind.Alias)))
 
 -- "13 identifier pattern, 14 `_`"
 unfoldable pub patternName : List ℕ → ℕ → Head
@@ -164,7 +151,7 @@ headOf (numbered k) text n w = wide k n
 headOf (angled k) text n w = cond (sees t.LAngle w) (wide k n) (plain kind.Alias)
 headOf (lonely k j) text n w = cond (lone w) (plain k) (plain j)
 headOf aFunction text n w = functionHead w
-headOf aTypeName text n w = typeName text (opening w)
+headOf aTypeName text n w = typeName (opening w)
 headOf aPatternName text n w = patternName text (opening w)
 headOf aLiteral text n w = literalHead (opening w)
 headOf aName text n w = nameHead w
@@ -181,7 +168,7 @@ pub data Role : Type 0 where
   aMark asName asNumber : Role
 
 -- "In a call a jet's token or a function name is a kind 2 child", and its decimal a kind 40; in a function, a parameter, an enum
--- construction and an enum arm every name is a kind 2 child; in any other record no token is a child. By kind and the token's class.
+-- construction, an enum arm and a type item every name is a kind 2 child; in any other record no token is a child. By kind and the token's class.
 unfoldable pub roleOf : ℕ → ℕ → Role
 roleOf k c =
     cond (has family.namesKept k) (cond (has t.identifiers c) asName aMark)

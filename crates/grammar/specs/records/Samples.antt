@@ -14,7 +14,7 @@ use Rattle.text.specs.Ascii.{ascii, asciiFrom}
 use Rattle.text.specs.Part.{partOf}
 use Rattle.text.specs.Same.{same}
 use Rattle.text.specs.Lists.{has, count, span}
-use Rattle.words.specs.Words.{KEYWORDS, MACROS, MODULE_RESERVED, RULE_WORDS, RULE_NAMES, FUNCTION_RESERVED, BOOLEANS, BOOL, UINT_TYPES, BUILTIN_ALIASES, find, wordOf}
+use Rattle.words.specs.Words.{KEYWORDS, MACROS, MODULE_RESERVED, RULE_WORDS, RULE_NAMES, FUNCTION_RESERVED, BOOLEANS, BOOL, UINT_TYPES, BUILTIN_ALIASES, TYPE_NAMES, find, wordOf}
 use Rattle.num.specs.Digits as digits
 use Rattle.num.specs.Value.{decimalFrom, decimalOf, fitted}
 use Rattle.num.specs.Bound.{boundOk, sizeOk, lengthOk, isBound}
@@ -38,7 +38,7 @@ use Rattle.grammar.specs.shapes.Shapes.{shapes}
 use Rattle.grammar.specs.shapes.Tables.{table, means}
 use Rattle.grammar.specs.Entry.{oneFunction}
 use Rattle.grammar.specs.shapes.WellShaped.{shapeOf}
-use Rattle.grammar.specs.records.Records.{lowHalf, highHalf, sees, opening, nameCount, partCount, lone, unended, placeIn, builtinType, unsignedType, boolType, typeName, patternName}
+use Rattle.grammar.specs.records.Records.{lowHalf, highHalf, sees, opening, nameCount, partCount, lone, unended, placeIn, typeName, patternName}
 use Rattle.grammar.specs.records.Records.{literalHead, functionHead, callHead, wrapperHead, calledHead, aloneHead, nameHead, armHead, headOf, formOf, roleOf, placed, arranged}
 use Rattle.grammar.specs.records.Records.{textOf, firstTok, firstOf, decimal, headFor, recorded, recordItems, recordTrees}
 use Rattle.grammar.specs.records.Faults.{Fault, unless, armLows, mates, armsFault, faultsAt, faults, earlier, earliest, faultOf}
@@ -62,12 +62,12 @@ handed show draft ts (stuck p) = []
 -- The records of a draft; it opens all that it computes with.
 unfoldable pub recordsOf : (Rec → List ℕ) → String → List (List ℕ)
 unfolding toksOf classesOf kinds.classOf judged handed ascii asciiFrom partOf same KEYWORDS MACROS MODULE_RESERVED RULE_WORDS RULE_NAMES FUNCTION_RESERVED
-    BOOLEANS BOOL UINT_TYPES BUILTIN_ALIASES find wordOf digits.plain decimalFrom decimalOf fitted isBound boundOk sizeOk lengthOk among whitespace lineEnds
+    BOOLEANS TYPE_NAMES BOOL UINT_TYPES BUILTIN_ALIASES find wordOf digits.plain decimalFrom decimalOf fitted isBound boundOk sizeOk lengthOk among whitespace lineEnds
     plainBytes binaryDigits decimalDigits hexDigits underscore nameStarts nameBytes run begins lex.space lex.comment lex.lineComment lex.inside
     lex.closing lex.blockComment lex.nameLength lex.qualified lex.macro lex.word lex.digits lex.hexadecimal lex.binary lex.decimal lex.marks
     lex.mark lex.noLexeme lex.lexeme lex.lexemesFrom lexemes classOf look row alt pick choose shape.kindsOf shape.sortOf shape.yield ex thenWord
     thenRest thenSub exec saves need judge parse partner canonical turned has count span counted shapes table means shapeOf lowHalf highHalf
-    sees opening nameCount partCount lone unended placeIn builtinType unsignedType boolType typeName patternName literalHead functionHead callHead
+    sees opening nameCount partCount lone unended placeIn typeName patternName literalHead functionHead callHead
     wrapperHead calledHead aloneHead nameHead armHead headOf formOf roleOf placed arranged textOf firstTok firstOf decimal headFor recorded
     recordItems recordTrees unless armLows mates armsFault faultsAt faults earlier earliest faultOf
 recordsOf show text =

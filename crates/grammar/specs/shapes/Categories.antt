@@ -3,7 +3,7 @@
 use Prim.Native.Nat.{ℕ}
 use Rattle.theory.specs.Ebnf.{Ex, part}
 
--- The categories: a function, a parameter, a type, a pattern, a block, a `let`, any other expression, an arm.
+-- The categories: a function, a parameter, a type, a pattern, a block, a `let`, any other expression, an arm, a type item.
 abbrev pub function : ℕ
 function = 0
 
@@ -28,7 +28,10 @@ single = 6
 abbrev pub arm : ℕ
 arm = 7
 
--- The named parts: what the braces of a block hold; an argument list; a path from behind its first `::`, in an arm's head from that on; a pattern with its type.
+abbrev pub typeItem : ℕ
+typeItem = 8
+
+-- The named parts: what the braces of a block hold; an argument list; a path from behind its first `::`, in an arm's head from that on; a pattern with its type; the items of a file.
 abbrev pub elements : Ex
 elements = part 0
 
@@ -43,3 +46,6 @@ headPath = part 3
 
 abbrev pub pair : Ex
 pair = part 4
+
+abbrev pub file : Ex
+file = part 5

@@ -9,14 +9,14 @@ use Rattle.theory.specs.Grammar.{look, row, pick}
 use Rattle.theory.specs.Machine.{choose}
 use Rattle.theory.specs.Ebnf.{kindsOf}
 use Rattle.lexer.specs.Classes as t
-use Rattle.grammar.specs.shapes.Categories.{function, parameter, type, pattern, block, assignment, single, arm}
+use Rattle.grammar.specs.shapes.Categories.{function, parameter, type, pattern, block, assignment, single, arm, typeItem}
 use Rattle.grammar.specs.shapes.Shapes.{shapes}
 use Rattle.grammar.specs.shapes.Tables.{table}
-use Rattle.grammar.specs.shapes.TablesIndex.{n-function, n-parameter, n-type, n-pattern, n-block, n-assignment, n-single, n-arm}
+use Rattle.grammar.specs.shapes.TablesIndex.{n-function, n-parameter, n-type, n-pattern, n-block, n-assignment, n-single, n-arm, n-typeItem}
 use Rattle.grammar.specs.shapes.ShapeKind.{FunctionShape, ParameterShape, EitherTypeShape, OptionTypeShape, ListTypeShape, NamedTypeShape}
 use Rattle.grammar.specs.shapes.ShapeKind.{TupleTypeShape, ArrayTypeShape, NamePatternShape, TuplePatternShape, ArrayPatternShape, BlockShape}
 use Rattle.grammar.specs.shapes.ShapeKind.{AssignmentShape, LiteralShape, ParensShape, ArrayShape, ListShape, MatchShape, SimpleCallShape}
-use Rattle.grammar.specs.shapes.ShapeKind.{CastCallShape, NamedShape, BareShape, TypedShape, FoldingShape, ForWhileShape, ArmShape}
+use Rattle.grammar.specs.shapes.ShapeKind.{CastCallShape, NamedShape, BareShape, TypedShape, FoldingShape, ForWhileShape, ArmShape, TypeItemShape}
 
 -- The kind that the table chooses for a category, of which the nonterminal A stands, at a token of the class c.
 abbrev kindAt : ℕ → ℕ → ℕ → Option ℕ
@@ -42,7 +42,7 @@ unfolding kindsOf shapes table row look pick choose
 names-named = refl
 
 -- the categories of one shape
-others-named : (kindAt function n-function t.Fn ∷ kindAt parameter n-parameter t.Ident ∷ kindAt block n-block t.LBrace ∷ kindAt assignment n-assignment t.Let ∷ kindAt arm n-arm t.true ∷ [])
-    ≡ map some (FunctionShape ∷ ParameterShape ∷ BlockShape ∷ AssignmentShape ∷ ArmShape ∷ [])
+others-named : (kindAt function n-function t.Fn ∷ kindAt parameter n-parameter t.Ident ∷ kindAt block n-block t.LBrace ∷ kindAt assignment n-assignment t.Let ∷ kindAt arm n-arm t.true ∷ kindAt typeItem n-typeItem t.«Type» ∷ [])
+    ≡ map some (FunctionShape ∷ ParameterShape ∷ BlockShape ∷ AssignmentShape ∷ ArmShape ∷ TypeItemShape ∷ [])
 unfolding kindsOf shapes table row look pick choose
 others-named = refl

@@ -79,3 +79,6 @@ ForWhileShape = 24
 
 abbrev pub ArmShape : ℕ
 ArmShape = 25
+
+abbrev pub TypeItemShape : ℕ
+TypeItemShape = 26

@@ -1,4 +1,4 @@
--- The shapes of a draft, one row a shape: document 01, "Well-shaped drafts", as a grammar of expressions over the classes of tokens.
+-- The shapes of a draft, one row a shape: document 01, "Well-shaped drafts", and document 02, order 3, as a grammar of expressions over the classes of tokens.
 -- Each row stands under its sentence. Where a kind of record is decided late the shape is coarse: one for all that begins with a
 -- name, one for all in parentheses, one for a match.
 -- Assumes nothing.
@@ -10,7 +10,7 @@ use Rattle.theory.specs.Ebnf.{Ex, eps, mark, child, many, Ebnf}
 use Rattle.own.specs.Kinds as kind
 use Rattle.text.specs.Lists.{has}
 use Rattle.lexer.specs.Classes as t
-use Rattle.grammar.specs.shapes.Categories.{function, parameter, type, pattern, block, assignment, single, arm, elements, arguments, path, headPath, pair}
+use Rattle.grammar.specs.shapes.Categories.{function, parameter, type, pattern, block, assignment, single, arm, typeItem, elements, arguments, path, headPath, pair, file}
 use Rattle.grammar.specs.shapes.Notation.{_⨾_, _¦_, optional, oneOf, _but_, commas, commas1, round, square, curly, angle}
 use Rattle.grammar.specs.shapes.Row.{Row, shape, always, numbered, angled, lonely, aFunction, aTypeName, aPatternName, aBlock, aLiteral, aMatch, aName, anArm, never, byBound, byLength, byFold, byArms}
 
@@ -21,6 +21,10 @@ identifier = oneOf t.identifiers
 -- "a function name is any not in `FUNCTION_RESERVED`"
 abbrev pub functionName : Ex
 functionName = oneOf t.functionNames
+
+-- "A type's own name may not be in `ALIAS_RESERVED`."
+abbrev pub aliasName : Ex
+aliasName = oneOf t.aliasNames
 
 -- the names of types: any that no rule of types speaks of
 abbrev pub namedType : Ex
@@ -97,6 +101,8 @@ rows =
     ∷ shape single aName never (mark t.for-while ⨾ optional (mark t.DoubleColon ⨾ (angle functionName ⨾ arguments ¦ path)))
     -- Arms: "Then the fat arrow [..], an expression, and a comma; only after a block may the comma be missing."
     ∷ shape arm anArm never (head ⨾ mark t.FatArrow ⨾ (child block ⨾ optional (mark t.Comma) ¦ child single ⨾ mark t.Comma))
+    -- "`type`, a name, `=`, a type, `;`"
+    ∷ shape typeItem (always kind.TypeItem) never (mark t.«Type» ⨾ aliasName ⨾ mark t.Eq ⨾ child type ⨾ mark t.Semi)
     ∷ []
 
 -- The named parts, in the order of their names.
@@ -112,6 +118,8 @@ parts =
     ∷ (mark t.DoubleColon ⨾ identifier ⨾ many (mark t.DoubleColon ⨾ identifier) ⨾ optional (round (commas1 pair)))
     -- "`p: T`"
     ∷ (child pattern ⨾ mark t.Colon ⨾ child type)
+    -- "any number of functions and of `type` items": none; one of them, and further items
+    ∷ (eps ¦ child typeItem ⨾ file ¦ child function ⨾ file)
     ∷ []
 
 -- The numbers of the rows of a category, where the first row has the number n.
@@ -123,7 +131,7 @@ kindsFrom n (r ∷ l) C = cond (eqb (r .category) C) (n ∷ []) [] ++ kindsFrom 
 unfoldable pub shapes : Ebnf
 unfolding has
 shapes = record {
-  kinds = map (kindsFrom 0 rows) (function ∷ parameter ∷ type ∷ pattern ∷ block ∷ assignment ∷ single ∷ arm ∷ []);
+  kinds = map (kindsFrom 0 rows) (function ∷ parameter ∷ type ∷ pattern ∷ block ∷ assignment ∷ single ∷ arm ∷ typeItem ∷ []);
   bodies = map (λ r. r .body) rows;
   parts = parts;
 }

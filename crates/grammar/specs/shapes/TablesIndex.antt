@@ -115,7 +115,7 @@ n-simpleCall-word = 26
 abbrev pub n-arguments : ℕ
 n-arguments = 27
 
--- unwrap | Ident | Left | Right | Some | Either | Option | List
+-- unwrap | Ident | Left | Right | Some | Either | Option | List | bool | u1 | u2 | u4 | u8 | u16 | u32 | u64 | u128 | u256 | Ctx8 | Pubkey | Message | Message64 | Signature | Scalar | Fe | Ge | Gej | Point | Height | Time | Distance | Duration | Lock | Outpoint | Confidential1 | ExplicitAsset | Asset1 | ExplicitAmount | Amount1 | ExplicitNonce | Nonce | TokenAmount1
 abbrev pub n-named-word : ℕ
 n-named-word = 28
 
@@ -234,3 +234,15 @@ n-tail-pair = 56
 -- list of pair
 abbrev pub n-list-pair : ℕ
 n-list-pair = 57
+
+-- file
+abbrev pub n-file : ℕ
+n-file = 58
+
+-- typeItem
+abbrev pub n-typeItem : ℕ
+n-typeItem = 59
+
+-- aliasName
+abbrev pub n-aliasName : ℕ
+n-aliasName = 60

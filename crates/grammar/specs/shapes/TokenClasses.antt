@@ -12,13 +12,13 @@ use Rattle.text.specs.Lists.{all}
 use Rattle.text.specs.Ascii.{ascii, asciiFrom}
 use Rattle.text.specs.Same.{same}
 use Rattle.text.specs.Table.{first-of, second-of}
-use Rattle.words.specs.Words.{FUNCTION_RESERVED, MACROS, RULE_NAMES, BOOLEANS, RULE_WORDS, find, wordOf}
+use Rattle.words.specs.Words.{FUNCTION_RESERVED, MACROS, RULE_NAMES, BOOLEANS, BOOL, UINT_TYPES, BUILTIN_ALIASES, TYPE_NAMES, RULE_WORDS, find, wordOf}
 use Rattle.lexer.specs.ClassTexts.{neverGiven, given, AllGiven}
 use Rattle.lexer.specs.Class.{classOf}
 use Rattle.own.specs.Lists.{All, nil, _&_, all-append}
 use Rattle.theory.specs.Ebnf.{Ex, eps, mark, child, part, seq, or, many, list, tail, items, branches, choices, bodyOf, Items, yield, Match, m-end, m-word, m-sub, m-choice}
 use Rattle.grammar.specs.shapes.Shapes.{shapes}
-use Rattle.grammar.specs.Entry.{Entry, oneFunction}
+use Rattle.grammar.specs.Entry.{Entry, oneFunction, wholeFile}
 use Rattle.grammar.specs.shapes.WellShaped.{WellShaped}
 
 -- The tokens that an expression names are of such classes,
@@ -78,7 +78,7 @@ all-fine (e ∷ l) h = first-of (marksGiven e) (all marksGiven l) h & all-fine l
 
 -- computed over the shapes and the parts
 shapes-pass : T (all marksGiven (shapes .bodies)) × T (all marksGiven (shapes .parts))
-unfolding shapes all marksGiven given neverGiven classOf wordOf find same FUNCTION_RESERVED MACROS RULE_NAMES BOOLEANS RULE_WORDS ascii asciiFrom
+unfolding shapes all marksGiven given neverGiven classOf wordOf find same FUNCTION_RESERVED MACROS RULE_NAMES BOOLEANS BOOL UINT_TYPES BUILTIN_ALIASES TYPE_NAMES RULE_WORDS ascii asciiFrom
 shapes-pass = (tt, tt)
 
 bodies-fine : All Fine (shapes .bodies)
@@ -123,3 +123,4 @@ each (p & a) c (List·Memᴰ·tail m) = each a c m
 pub well-shaped-given : (en : Entry) (cs : List ℕ) → WellShaped en cs → AllGiven cs
 unfolding marksGiven
 well-shaped-given oneFunction cs w = subst AllGiven (w .2) (each (yield-given (w .1) (tt & nil)))
+well-shaped-given wholeFile cs w = subst AllGiven (w .2) (each (yield-given (w .1) (tt & nil)))

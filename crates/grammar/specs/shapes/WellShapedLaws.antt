@@ -2,31 +2,32 @@
 -- What is computed of the grammar's tables stands here too.
 -- Assumes nothing.
 use mathlib.Core.Path.{_≡_, refl, sym, ap, _∙_, subst}
-use mathlib.Core.Bool.{decide}
+use mathlib.Core.Bool.{Bool, true, false, decide}
 use mathlib.Core.List.{List, [], _∷_, _++_}
 use mathlib.Core.Logic.{_↔_}
 use mathlib.Core.Option.{some}
 use Prim.Native.Nat.{ℕ, zero, suc, _≤_, _<_}
 use native.Mathlib.Decide.{ℕ-discrete}
 use native.Mathlib.Omega.{arith}
-use lib.Dec.{T}
+use lib.Dec.{T, eqb, eqb→eq}
 use lib.ListN.{length, take, getElem?}
 use Rattle.text.specs.Lists.{has, all}
+use Rattle.text.specs.Table.{first-of, second-of, pair}
 use Rattle.theory.specs.Grammar.{nt, look, row, alt, pick, blank}
 use Rattle.theory.specs.Machine.{choose}
 use Rattle.theory.specs.Check.{numbered, scan, follows, short, goodAlt, goodRow, good}
-use Rattle.theory.specs.Ebnf.{kindsOf, bodyOf, items, branches, choices, sortOf, Items, nil, sub, yield, Match, FirstWrong}
+use Rattle.theory.specs.Ebnf.{Ex, eps, mark, child, part, seq, or, many, list, tail, kindsOf, bodyOf, items, branches, choices, sortOf, Items, nil, sub, yield, Match, m-end, m-word, m-sub, m-choice, FirstWrong}
 use Rattle.theory.specs.Trees.{one-node}
 use Rattle.theory.specs.Same.{ex, ofSort, alternatives, eqList, eqEx, sameRow, sames}
 use Rattle.theory.specs.Walk.{Reads, Sticks}
 use Rattle.theory.specs.Fuel.{saves, need, paidRow, paid}
 use Rattle.theory.specs.Parse.{found, stuck, Checked}
 use Rattle.theory.specs.Theorems.{found-exactly, unique, stuck-exactly, no-tree, reads-found, reads-stuck, sticks-stuck}
-use Rattle.grammar.specs.shapes.Categories.{function}
+use Rattle.grammar.specs.shapes.Categories.{function, typeItem, file}
 use Rattle.grammar.specs.shapes.ShapeKind.{FunctionShape}
 use Rattle.grammar.specs.shapes.Shapes.{shapes}
 use Rattle.grammar.specs.shapes.Tables.{table, means}
-use Rattle.grammar.specs.Entry.{Entry, oneFunction, startEx, startNt}
+use Rattle.grammar.specs.Entry.{Entry, oneFunction, wholeFile, startEx, startNt}
 use Rattle.grammar.specs.shapes.WellShaped.{Shape, WellShaped, shapeOf}
 
 -- Items that are nodes alone, with no token beside them.
@@ -47,9 +48,61 @@ shape-function m =
     let e = only-kind (n .place) (n .kind) (n .listed) in
     (n .within, n .whole ∙ ap (λ (k : ℕ). sub k (n .within) nil) e, subst (λ (k : ℕ). Match shapes (bodyOf shapes k) (n .within)) e (n .body))
 
+-- a node, or the items of a file; `file` is the part of this number
+abbrev theFile : ℕ
+theFile = 5
+
+isTop : Ex → Bool
+isTop eps = false
+isTop (mark c) = false
+isTop (child C) = true
+isTop (part P) = eqb P theFile
+isTop (seq e f) = false
+isTop (or e f) = false
+isTop (many e) = false
+isTop (list e c) = false
+isTop (tail e c) = false
+
+no-choice : {A : Type 0} {α : List Ex} (i : ℕ) → getElem? {A = List Ex} [] i ≡ some α → A
+no-choice i h = let z : _≡_ {A = ℕ} 0 1 = cc in absurd (omega arith)
+
+file-choice : (i : ℕ) (α : List Ex) → getElem? (choices shapes file) i ≡ some α → T (all isTop α)
+unfolding choices shapes branches items all isTop
+file-choice zero α h = let q : [] ≡ α = cc in subst (λ (l : List Ex). T (all isTop l)) q tt
+file-choice (suc zero) α h = let q : child typeItem ∷ file ∷ [] ≡ α = cc in subst (λ (l : List Ex). T (all isTop l)) q tt
+file-choice (suc (suc zero)) α h = let q : child function ∷ file ∷ [] ≡ α = cc in subst (λ (l : List Ex). T (all isTop l)) q tt
+file-choice (suc (suc (suc i))) α h = no-choice i h
+
+top-choice : (e : Ex) (i : ℕ) (α : List Ex) → T (isTop e) → getElem? (choices shapes e) i ≡ some α → T (all isTop α)
+unfolding choices isTop
+top-choice eps i α t h = absurd t
+top-choice (mark c) i α t h = absurd t
+top-choice (child C) i α t h = no-choice i h
+top-choice (part P) i α t h = file-choice i α (subst (λ (Q : ℕ). getElem? (choices shapes (part Q)) i ≡ some α) (eqb→eq P theFile t) h)
+top-choice (seq e f) i α t h = absurd t
+top-choice (or e f) i α t h = absurd t
+top-choice (many e) i α t h = absurd t
+top-choice (list e c) i α t h = absurd t
+top-choice (tail e c) i α t h = absurd t
+
+tops-append : (α es : List Ex) → T (all isTop α) → T (all isTop es) → T (all isTop (α ++ es))
+unfolding all
+tops-append [] es s t = t
+tops-append (e ∷ α) es s t = pair (isTop e) (all isTop (α ++ es)) (first-of (isTop e) (all isTop α) s) (tops-append α es (second-of (isTop e) (all isTop α) s) t)
+
+nodes-only : {es : List Ex} {r : Items} → Match shapes es r → T (all isTop es) → Nodes r
+unfolding all isTop
+nodes-only m-end t = no-more
+nodes-only (m-word m) t = absurd t
+nodes-only (m-sub {k = k} {js = js} i h m m′) t = a-node k js (nodes-only m′ t)
+nodes-only (m-choice {e = e} {es = es} {α = α} i h m) t =
+    nodes-only m (tops-append α es (top-choice e i α (first-of (isTop e) (all isTop es) t) h) (second-of (isTop e) (all isTop es) t))
+
 -- A shape tree is nodes alone.
 pub shape-nodes : (en : Entry) {r : Items} → Shape en r → Nodes r
-shape-nodes oneFunction m = let f = shape-function m in subst Nodes (sym (f .1)) (a-node FunctionShape (f .0) no-more)
+unfolding all isTop
+shape-nodes oneFunction m = nodes-only m tt
+shape-nodes wholeFile m = nodes-only m tt
 
 -- The table is that of a predictive parser,
 good-table : T (good table)
@@ -70,6 +123,7 @@ paid-table = tt
 pub checked : (en : Entry) → Checked shapes means table (startNt en) (startEx en)
 unfolding table means row has ex
 checked oneFunction = record { right = good-table; same = same-tables; pays = paid-table; start = refl; ends = tt }
+checked wholeFile = record { right = good-table; same = same-tables; pays = paid-table; start = refl; ends = tt }
 
 module _ (en : Entry) where
   -- Law 1. "Well-shaped: some shape tree has these tokens as its yield": a shape tree is found exactly when it is one and has these

@@ -1,6 +1,6 @@
 -- Every record of a draft's record tree spells the rule of its kind: document 01, "what it owns, with its children in order of place,
 -- spells that rule with its row's marks and its list's commas, none over and none missing". With the draft's tokens in order it follows
--- that the tree is right, and law 3 holds of its tokens and records.
+-- that the trees are right, from which law 3 follows.
 -- Assumes nothing.
 use mathlib.Core.Bool.{Bool, true, false, _&&_, _||_, not, cond, or-true}
 use mathlib.Core.List.{List, [], _∷_, _++_, append-assoc, append-nil}
@@ -21,28 +21,29 @@ use Rattle.num.specs.Bound.{boundOk, sizeOk, lengthOk}
 use Rattle.theory.specs.Ebnf as shape
 use Rattle.theory.specs.Ebnf.{Ex, m-end, m-word, m-sub, m-choice}
 use Rattle.theory.specs.Parse.{found}
-use Rattle.own.specs.Tree.{Tok, Items, none, mark, sub, roots, yield, marks, Each, InOrder, tokens, records, classesOf}
+use Rattle.own.specs.Tree.{Tok, Items, none, mark, sub, roots, yield, marks, Each, InOrder, classesOf}
 use Rattle.own.specs.Flat.{no-token}
-use Rattle.own.specs.Law.{Sort, word, child, Ownership, firstClass, sorts, Keeps}
+use Rattle.own.specs.Law.{Sort, word, child, firstClass, sorts, Keeps}
 use Rattle.own.specs.Kinds as kind
 use Rattle.kinds.specs.Shape.{of, fits, _▸_, Spells, empty, one-mark, one-part, seq}
 use Rattle.kinds.specs.Fields.{counted, holds}
 use Rattle.kinds.specs.Rules.{the}
 use Rattle.kinds.specs.Rules as rules
 use Rattle.kinds.specs.Build.{the-mark}
-use Rattle.kinds.specs.Spelled.{Spelled, formsOf}
-use Rattle.kinds.specs.Ownership.{Right, law-3}
+use Rattle.kinds.specs.Spelled.{Spelled, Program, formsOf}
+use Rattle.kinds.specs.Ownership.{Right}
 use Rattle.kinds.specs.Families as family
 use Rattle.lexer.specs.Classes as class
 use Rattle.grammar.specs.shapes.ShapeKind.{ListTypeShape, ArrayTypeShape, MatchShape, FoldingShape}
 use Rattle.grammar.specs.shapes.Shapes.{shapes}
-use Rattle.grammar.specs.Entry.{Entry}
+use Rattle.grammar.specs.shapes.Categories.{file}
+use Rattle.grammar.specs.Entry.{Entry, startEx}
 use Rattle.grammar.specs.shapes.WellShaped.{shapeOf}
 use Rattle.grammar.specs.records.Records.{Role, aMark, asName, asNumber, roleOf, placed, arranged, lowHalf, highHalf, sees, opening, textOf, firstTok, firstOf, decimal, headOf, formOf, headFor, recorded, recordItems, recordTrees}
 use Rattle.grammar.specs.records.Faults.{unless, armLows, armsFault, faultsAt, faults, faultOf}
 use Rattle.grammar.specs.records.FaultLaws.{none-exactly}
 use Rattle.grammar.specs.spelled.TreeTokens.{whole-trees, is-shape, its-yield, keeps-tokens}
-use Rattle.grammar.specs.spelled.Rules.{kindsIn, seen, row, row-append, pair-in, items-in, choice-in, has-within}
+use Rattle.grammar.specs.spelled.Rules.{kindsIn, seen, partShapes, row, last-off, row-append, pair-in, items-in, choice-in, has-within}
 use Rattle.grammar.specs.spelled.Inclusion.{sorts-arranged}
 use Rattle.grammar.specs.spelled.FormTests.{SpelledAs, halves-of}
 use Rattle.grammar.specs.spelled.ShapeTests.{bodyShape}
@@ -247,17 +248,25 @@ module _ (en : Entry) (draft : List ℕ) (ts : List Tok) (r : shape.Items) (foun
   unfolding faultOf
   no-faults = none-exactly (faults draft r ts) .0 clear
 
-  -- Without refusals of the shapes, every record of the trees spells the rule of its kind, low and high.
-  pub all-spelled : Each (Keeps Spelled) (roots (recordTrees draft ts r))
-  all-spelled =
+  good-trees : Good (startEx en ∷ []) (roots (recordTrees draft ts r))
+  good-trees =
       let s = is-shape en draft ts r found-it in
       let e : shape.yield r ++ [] ≡ classesOf ts = append-nil (shape.yield r) ∙ its-yield en draft ts r found-it in
-      subst (Each (Keeps Spelled)) (sym (whole-trees en draft ts s)) (good-items draft s ts [] e no-faults .each)
+      subst (Good (startEx en ∷ [])) (sym (whole-trees en draft ts s)) (good-items draft s ts [] e no-faults)
 
-  -- If the tokens are in order too, the trees are right,
+  -- Without refusals of the shapes, every record of the trees spells the rule of its kind, low and high;
+  pub all-spelled : Each (Keeps Spelled) (roots (recordTrees draft ts r))
+  all-spelled = good-trees .each
+
+  -- and side by side they spell what the entry reads.
+  pub tops-spelled : Spells (row (startEx en ∷ [])) (sorts (roots (recordTrees draft ts r)))
+  tops-spelled = good-trees .made
+
+  -- If the tokens are in order too, the trees are right.
   pub is-right : InOrder 0 ts → Right (recordTrees draft ts r)
   is-right o = record { ordered = subst (InOrder 0) (sym (keeps-tokens en draft ts r found-it)) o; spelled = all-spelled }
 
-  -- and law 3, ownership, holds of their tokens and records.
-  pub owned : InOrder 0 ts → Ownership Spelled (tokens (recordTrees draft ts r)) (records (recordTrees draft ts r))
-  owned o = law-3 (recordTrees draft ts r) (is-right o)
+-- The trees of a file are items.
+pub file-spelled : {w : List Sort} → Spells (row (file ∷ [])) w → Program w
+unfolding row seen partShapes shapes
+file-spelled p = last-off p

@@ -8,7 +8,7 @@ use mathlib.Core.Path.{_≡_, refl, sym, ap, _∙_, subst}
 use Prim.Native.Nat.{ℕ, zero, suc}
 use native.Mathlib.Omega.{arith}
 use lib.Dec.{T, eqb, eqb→eq}
-use lib.ListN.{getD, getElem?, drop}
+use lib.ListN.{getD, getElem?, take, drop}
 use Rattle.theory.specs.Ebnf.{Ex, eps, part, seq, or, items, branches, choices}
 use Rattle.theory.specs.Ebnf as shape
 use Rattle.text.specs.Table.{first-of, second-of, or-cases}
@@ -18,14 +18,14 @@ use Rattle.own.specs.Law.{Sort}
 use Rattle.own.specs.Kinds as kind
 use Rattle.kinds.specs.Shape.{Shape, nothing, never, mark, of, _▸_, _¦_, many, Spells, empty, one-mark, one-part, left, right, stop, more, fits}
 use Rattle.kinds.specs.Shape as k
-use Rattle.kinds.specs.Rules.{the, optional, element, expression}
+use Rattle.kinds.specs.Rules.{the, optional, element, expression, item, program}
 use Rattle.kinds.specs.Families as family
 use Rattle.lexer.specs.Classes as t
 use Rattle.grammar.specs.shapes.Shapes.{shapes}
 
 -- The kinds of the records that the shapes of a category become.
 unfoldable pub kindsIn : ℕ → List ℕ
-kindsIn C = getD ((kind.Function ∷ []) ∷ (kind.Parameter ∷ []) ∷ family.types ∷ family.patterns ∷ family.blocks ∷ (kind.Let ∷ []) ∷ family.singles ∷ family.arms ∷ []) C []
+kindsIn C = getD ((kind.Function ∷ []) ∷ (kind.Parameter ∷ []) ∷ family.types ∷ family.patterns ∷ family.blocks ∷ (kind.Let ∷ []) ∷ family.singles ∷ family.arms ∷ (kind.TypeItem ∷ []) ∷ []) C []
 
 -- Either of two; marks are put together, and so are parts.
 unfoldable pub both : Shape → Shape → Shape
@@ -66,12 +66,12 @@ seen ps (shape.tail e c) = rest (seen ps e) c
 abbrev pub elementsShape : Shape
 elementsShape = many (element ▸ the t.Semi) ▸ optional expression
 
--- The named parts: the elements of a block are the first; each other names at most parts that name none.
-abbrev partsAfter : List Ex
-partsAfter = drop 1 (shapes .parts)
+-- The named parts: the elements of a block are the first, the items of a file the last; each between them names at most parts that name none.
+abbrev partsBetween : List Ex
+partsBetween = take 4 (drop 1 (shapes .parts))
 
 unfoldable pub partShapes : List Shape
-partShapes = elementsShape ∷ map (seen (elementsShape ∷ map (seen []) partsAfter)) partsAfter
+partShapes = elementsShape ∷ map (seen (elementsShape ∷ map (seen []) partsBetween)) partsBetween ++ (program ∷ [])
 
 abbrev pub spelt : Ex → Shape
 spelt e = seen partShapes e
@@ -243,22 +243,24 @@ elements-in (right (right (k.seq {v = s} p (left empty)))) =
     k.seq stop (right (subst (λ (l : List Sort). Spells expression l) (sym (append-nil s)) (expression-in family.expressions tt tt p)))
 elements-in (right (right (k.seq {v = s} p (right (k.seq {v = v} q r))))) = element-more s v (expression-in family.elements tt tt p) q r
 
--- the named parts but the first are their expressions,
-parts-are : map (seen partShapes) partsAfter ≡ drop 1 partShapes
-unfolding shapes seen partShapes both kindsIn
-parts-are = refl
+-- the items of a file
+file-in : {w : List Sort}
+    → Spells (nothing ¦ (k.part (of (kind.TypeItem ∷ [])) ▸ program ¦ k.part (of (kind.Function ∷ [])) ▸ program)) w → Spells program w
+unfolding all has
+file-in (left empty) = stop
+file-in (right (left (k.seq p q))) = more (part-within (kind.TypeItem ∷ []) family.items tt p) q
+file-in (right (right (k.seq p q))) = more (part-within (kind.Function ∷ []) family.items tt p) q
 
-nth-spelt : (l : List Ex) (P : ℕ) → spelt (getD l P eps) ≡ getD (map (seen partShapes) l) P nothing
-unfolding seen
-nth-spelt [] P = refl
-nth-spelt (e ∷ l) zero = refl
-nth-spelt (e ∷ l) (suc P) = nth-spelt l P
-
--- and all are spelled as their expressions
+-- the named parts are spelled as their expressions; but for the first and the last they are these
 part-in : (P : ℕ) {w : List Sort} → Spells (spelt (getD (shapes .parts) P eps)) w → Spells (getD partShapes P nothing) w
 unfolding shapes seen partShapes both kindsIn
 part-in zero p = elements-in p
-part-in (suc P) {w} p = subst (λ (x : Shape). Spells x w) (nth-spelt partsAfter P ∙ ap (λ (l : List Shape). getD l P nothing) parts-are) p
+part-in (suc zero) p = p
+part-in (suc (suc zero)) p = p
+part-in (suc (suc (suc zero))) p = p
+part-in (suc (suc (suc (suc zero)))) p = p
+part-in (suc (suc (suc (suc (suc zero))))) p = file-in p
+part-in (suc (suc (suc (suc (suc (suc P)))))) p = p
 
 -- what an expression is replaced by spells it
 pub choice-in : (e : Ex) (i : ℕ) (α : List Ex) → getElem? (choices shapes e) i ≡ some α → (w : List Sort) → Spells (row α) w → Spells (spelt e) w

@@ -14,9 +14,6 @@ use Rattle.text.specs.Ascii.{ascii}
 use Rattle.text.specs.Same.{same}
 use Rattle.text.specs.Table.{is-true, first-of, second-of, or-right}
 use Rattle.text.specs.Lists.{all, has, span, count}
-use Rattle.words.specs.Words.{BOOL, UINT_TYPES, BUILTIN_ALIASES, wordOf}
-use Rattle.words.specs.declared.Found.{Found}
-use Rattle.words.specs.declared.Found.the-variants.{Word, Plain}
 use Rattle.num.specs.Value.{largest, fitted}
 use Rattle.num.specs.Bound.{boundOk, sizeOk, lengthOk, isBound}
 use Rattle.theory.specs.Ebnf as shape
@@ -30,19 +27,19 @@ use Rattle.lexer.specs.Classes as class
 use Rattle.grammar.specs.shapes.ShapeKind.{FunctionShape, ParameterShape, EitherTypeShape, OptionTypeShape, ListTypeShape, NamedTypeShape}
 use Rattle.grammar.specs.shapes.ShapeKind.{TupleTypeShape, ArrayTypeShape, NamePatternShape, TuplePatternShape, ArrayPatternShape, BlockShape}
 use Rattle.grammar.specs.shapes.ShapeKind.{AssignmentShape, LiteralShape, ParensShape, ArrayShape, ListShape, MatchShape, SimpleCallShape}
-use Rattle.grammar.specs.shapes.ShapeKind.{CastCallShape, NamedShape, BareShape, TypedShape, FoldingShape, ForWhileShape, ArmShape}
+use Rattle.grammar.specs.shapes.ShapeKind.{CastCallShape, NamedShape, BareShape, TypedShape, FoldingShape, ForWhileShape, ArmShape, TypeItemShape}
 use Rattle.grammar.specs.shapes.Categories as category
 use Rattle.grammar.specs.shapes.Shapes.{rows, shapes}
 use Rattle.grammar.specs.spelled.Rules.{kindsIn, both, seen, partShapes, has-within, nth-none}
 use Rattle.grammar.specs.spelled.Decisions.{freeOf, free-sound}
 use Rattle.grammar.specs.spelled.FormTests.{SpelledAs, Numbers, noNumber, no-numbers, good-bound, good-size, good-length, number-of, allBelow, below-all}
-use Rattle.grammar.specs.spelled.HeadLaws.{exactIn, exact-sound, always-law, lonely-law, literal-law, type-law, pattern-law}
+use Rattle.grammar.specs.spelled.HeadLaws.{exactIn, exact-sound, always-law, lonely-law, class-law, pattern-law}
 use Rattle.grammar.specs.spelled.CountedLaws.{function-law, number-law, angled-law, bound-row, arm-law}
 use Rattle.grammar.specs.spelled.NameLaws.{name-law}
 use Rattle.grammar.specs.spelled.BlockLaws.{block-law}
 use Rattle.grammar.specs.spelled.MatchLaws.{match-law}
 use Rattle.grammar.specs.spelled.ShapeTests.{bodyShape, boundPart, sizePart, foldNumber, tests}
-use Rattle.grammar.specs.records.Records.{Head, head, wide, lowHalf, highHalf, sees, opening, lone, placeIn, typeName, boolType, unsignedType, builtinType, patternName, literalHead}
+use Rattle.grammar.specs.records.Records.{Head, head, wide, lowHalf, highHalf, sees, opening, lone, placeIn, typeName, patternName, literalHead}
 use Rattle.grammar.specs.shapes.Row.{Row, Form, always, numbered, angled, lonely, aFunction, aTypeName, aPatternName, aLiteral, aName, anArm, aBlock, aMatch}
 use Rattle.grammar.specs.records.Records.{functionHead, callHead, wrapperHead, calledHead, aloneHead, nameHead, armHead, headOf, formOf}
 use Rattle.grammar.specs.records.Records as rec
@@ -50,7 +47,7 @@ use Rattle.grammar.specs.records.Faults.{armLows, armsFault}
 
 -- How many categories and how many kinds of shapes there are.
 abbrev pub categoryCount : ℕ
-categoryCount = suc category.arm
+categoryCount = suc category.typeItem
 
 abbrev pub shapeCount : ℕ
 shapeCount = length rows
@@ -152,7 +149,7 @@ all-kept =
     & (λ text n w g p. kept-either text n w g p)
     & (λ text n w g p. kept-option text n w g p)
     & (λ text n w g p. kept-list text n w g p)
-    & (λ text n w g p. type-law n text (bodyShape NamedTypeShape) (tests n .type-name) p)
+    & (λ text n w g p. class-law n typeName (bodyShape NamedTypeShape) (tests n .type-name) p)
     & (λ text n w g p. always-law n kind.TupleType (bodyShape TupleTypeShape) (tests n .tuple-type) p)
     & (λ text n w g p. number-law n kind.ArrayType (bodyShape ArrayTypeShape) (good-length n (g .long refl)) (tests n .array-type) p)
     & (λ text n w g p. pattern-law n text (bodyShape NamePatternShape) (tests n .pattern-name) p)
@@ -160,7 +157,7 @@ all-kept =
     & (λ text n w g p. always-law n kind.ArrayPattern (bodyShape ArrayPatternShape) (tests n .array-pattern) p)
     & (λ text n w g p. kept-block text n w p)
     & (λ text n w g p. always-law n kind.Let (bodyShape AssignmentShape) (tests n .assignment) p)
-    & (λ text n w g p. literal-law n (bodyShape LiteralShape) (tests n .literal) p)
+    & (λ text n w g p. class-law n literalHead (bodyShape LiteralShape) (tests n .literal) p)
     & (λ text n w g p. lonely-law n kind.Parenthesised kind.Tuple (bodyShape ParensShape) (tests n .parens) p)
     & (λ text n w g p. always-law n kind.Array (bodyShape ArrayShape) (tests n .array) p)
     & (λ text n w g p. always-law n kind.List (bodyShape ListShape) (tests n .list) p)
@@ -173,6 +170,7 @@ all-kept =
     & (λ text n w g p. name-law n foldNumber (bodyShape FoldingShape) (fold-numbers n w g) (tests n .folding) p)
     & (λ text n w g p. name-law n (λ c. noNumber) (bodyShape ForWhileShape) (λ c e s. no-numbers n) (tests n .for-while) p)
     & (λ text n w g p. arm-law n (bodyShape ArmShape) (tests n .arm) p)
+    & (λ text n w g p. always-law n kind.TypeItem (bodyShape TypeItemShape) (tests n .type-item) p)
     & end
 
 -- The law of every kind of shapes.
@@ -209,16 +207,12 @@ next-has : (a k : ℕ) (l : List ℕ) → T (has l k) → T (has (a ∷ l) k)
 unfolding has
 next-has a k l t = or-right (eqb a k) (has l k) t
 
-type-kind : (text : List ℕ) (c : ℕ) → T (has (span kind.Alias kind.Unsigned) (typeName text c .kind))
-unfolding typeName has span count boolType unsignedType builtinType
-type-kind text c = go (eqb c class.Ident) (wordOf BOOL text) (wordOf UINT_TYPES text) (wordOf BUILTIN_ALIASES text)
-  where
-    go : (b : Bool) (x y z : Found) → T (has (span kind.Alias kind.Unsigned) (cond b (boolType x (unsignedType y (builtinType z))) (rec.plain kind.Alias) .kind))
-    go false x y z = tt
-    go true (Word i) y z = tt
-    go true Plain (Word i) z = tt
-    go true Plain Plain (Word i) = tt
-    go true Plain Plain Plain = tt
+type-kind : (c : ℕ) → T (has (span kind.Alias kind.Unsigned) (typeName c .kind))
+unfolding typeName has span count
+type-kind c =
+    let ks = span kind.Alias kind.Unsigned in
+    either-kind ks (eqb c class.bool) (rec.plain kind.BoolType) _ tt
+    (either-kind ks (has class.unsignedTypes c) (head kind.Unsigned _ 0) _ tt (either-kind ks (has class.builtinTypes c) (head kind.Builtin _ 0) (rec.plain kind.Alias) tt tt))
 
 wrapper-kinds : T (all (λ c. has (possible aName) (wrapperHead c .kind)) wrappers)
 unfolding all has possible wrapperHead placeIn
@@ -262,7 +256,7 @@ kind-possible (numbered k) text n w = self-has k []
 kind-possible (angled k) text n w = either-kind (k ∷ kind.Alias ∷ []) (sees class.LAngle w) (wide k n) (rec.plain kind.Alias) (self-has k (kind.Alias ∷ [])) (next-has k kind.Alias (kind.Alias ∷ []) tt)
 kind-possible (lonely k j) text n w = either-kind (k ∷ j ∷ []) (lone w) (rec.plain k) (rec.plain j) (self-has k (j ∷ [])) (next-has k j (j ∷ []) (self-has j []))
 kind-possible aFunction text n w = tt
-kind-possible aTypeName text n w = type-kind text (opening w)
+kind-possible aTypeName text n w = type-kind (opening w)
 kind-possible aPatternName text n w = either-kind (kind.IdentifierPattern ∷ kind.IgnorePattern ∷ []) (eqb (opening w) class.Ident && same text (ascii "_")) (rec.plain kind.IgnorePattern) (rec.plain kind.IdentifierPattern) tt tt
 kind-possible aLiteral text n w = literal-kind (opening w)
 kind-possible aName text n w = name-kind w

@@ -19,15 +19,15 @@ use Rattle.grammar.specs.spelled.Rows.{pairs, variants}
 use Rattle.grammar.specs.spelled.Inclusion.{rowIn, atomIn, manyIn, shapeIn, pieceIn, tokenIn, marksOf, isPart, kindsOf, onlyKinds}
 use Rattle.grammar.specs.spelled.Decisions.{free, freeOf, sure, isThe, lacks}
 use Rattle.grammar.specs.spelled.FormTests.{formIn, noNumber, fixed, counts, anyNumber, aBound, hasParts, loneRow, crowdedRow, unroll, judge, allBelow}
-use Rattle.grammar.specs.spelled.HeadLaws.{opened, exactIn, lonelyRow, literalRow, typeRow, patternRow}
+use Rattle.grammar.specs.spelled.HeadLaws.{opened, exactIn, lonelyRow, classRow, patternRow}
 use Rattle.grammar.specs.spelled.CountedLaws.{functionCase, functionRow, angledRow, armRow}
 use Rattle.grammar.specs.spelled.NameLaws.{wrapsRow, callsRow, genericRow, pathRow, parensRow, aloneRow, plainRow, nameRow, nameRows}
-use Rattle.grammar.specs.records.Records.{roleOf, placeIn, literalHead, callHead, wrapperHead, aloneHead}
+use Rattle.grammar.specs.records.Records.{roleOf, placeIn, typeName, literalHead, callHead, wrapperHead, aloneHead}
 use Rattle.grammar.specs.records.Records as rec
 use Rattle.grammar.specs.shapes.ShapeKind.{FunctionShape, ParameterShape, EitherTypeShape, OptionTypeShape, ListTypeShape, NamedTypeShape}
 use Rattle.grammar.specs.shapes.ShapeKind.{TupleTypeShape, ArrayTypeShape, NamePatternShape, TuplePatternShape, ArrayPatternShape, AssignmentShape}
 use Rattle.grammar.specs.shapes.ShapeKind.{LiteralShape, ParensShape, ArrayShape, ListShape, SimpleCallShape, CastCallShape, NamedShape, BareShape}
-use Rattle.grammar.specs.shapes.ShapeKind.{TypedShape, FoldingShape, ForWhileShape, ArmShape}
+use Rattle.grammar.specs.shapes.ShapeKind.{TypedShape, FoldingShape, ForWhileShape, ArmShape, TypeItemShape}
 
 -- The shape of a kind of shapes, as the rules see it.
 unfoldable pub bodyShape : ℕ → Shape
@@ -65,10 +65,10 @@ pub record Tests (n : ℕ) : Type 0 where
   pub either-type : T (all (angledRow n (exactIn n (rec.plain kind.EitherType))) (variants (bodyShape EitherTypeShape)))
   pub option-type : T (all (angledRow n (exactIn n (rec.plain kind.OptionType))) (variants (bodyShape OptionTypeShape)))
   pub list-type : T (all (angledRow n (formIn kind.ListType n noNumber (counts aBound))) (variants (bodyShape ListTypeShape)))
-  pub type-name : T (all (opened (typeRow n)) (variants (bodyShape NamedTypeShape)))
+  pub type-name : T (all (opened (classRow n typeName)) (variants (bodyShape NamedTypeShape)))
   pub array-type : T (all (formIn kind.ArrayType n noNumber (counts anyNumber)) (variants (bodyShape ArrayTypeShape)))
   pub pattern-name : T (all (opened (patternRow n)) (variants (bodyShape NamePatternShape)))
-  pub literal : T (all (opened (literalRow n)) (variants (bodyShape LiteralShape)))
+  pub literal : T (all (opened (classRow n literalHead)) (variants (bodyShape LiteralShape)))
   pub parens : T (all (judge (lonelyRow n kind.Parenthesised kind.Tuple)) (variants (bodyShape ParensShape)))
   pub simple-call : T (all (opened (nameRows n (λ c. noNumber))) (variants (bodyShape SimpleCallShape)))
   pub cast-call : T (all (opened (nameRows n (λ c. noNumber))) (variants (bodyShape CastCallShape)))
@@ -78,11 +78,12 @@ pub record Tests (n : ℕ) : Type 0 where
   pub for-while : T (all (opened (nameRows n (λ c. noNumber))) (variants (bodyShape ForWhileShape)))
   pub folding : T (all (opened (nameRows n foldNumber)) (variants (bodyShape FoldingShape)))
   pub arm : T (all (opened (armRow n)) (variants (bodyShape ArmShape)))
+  pub type-item : T (all (exactIn n (rec.plain kind.TypeItem)) (variants (bodyShape TypeItemShape)))
 
 -- They pass, by computation.
 pub tests : (n : ℕ) → Tests n
 unfolding shapes seen partShapes both kindsIn bodyShape exactIn formIn formsOf forms fixed counts some all variants pairs rowIn atomIn manyIn
     shapeIn pieceIn tokenIn marksOf isPart kindsOf onlyKinds roleOf has span count fits free freeOf sure isThe lacks hasParts loneRow
-    crowdedRow unroll judge opened lonelyRow literalRow typeRow patternRow allBelow functionCase functionRow angledRow armRow placeIn literalHead
+    crowdedRow unroll judge opened lonelyRow classRow patternRow allBelow functionCase functionRow angledRow armRow placeIn typeName literalHead
     callHead wrapperHead aloneHead wrapsRow callsRow genericRow pathRow parensRow aloneRow plainRow nameRow nameRows foldNumber
-tests n = record { parameter = tt; tuple-type = tt; tuple-pattern = tt; array-pattern = tt; assignment = tt; array = tt; list = tt; function = tt; either-type = tt; option-type = tt; list-type = tt; type-name = tt; array-type = tt; pattern-name = tt; literal = tt; parens = tt; simple-call = tt; cast-call = tt; named = tt; bare = tt; typed = tt; for-while = tt; folding = tt; arm = tt }
+tests n = record { parameter = tt; tuple-type = tt; tuple-pattern = tt; array-pattern = tt; assignment = tt; array = tt; list = tt; function = tt; either-type = tt; option-type = tt; list-type = tt; type-name = tt; array-type = tt; pattern-name = tt; literal = tt; parens = tt; simple-call = tt; cast-call = tt; named = tt; bare = tt; typed = tt; for-while = tt; folding = tt; arm = tt; type-item = tt }
