@@ -1,6 +1,6 @@
 -- Names and single tokens.
 pub mod LiteralHead
-pub mod TypeTable
+pub mod TypeHead
 pub mod Tests
 pub mod Chain
 pub mod Rows

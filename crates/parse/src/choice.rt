@@ -8,7 +8,7 @@ ghost use Rattle.parse.specs.Contract.{nameSort, headSort};
 
 // Written by tools/choice.py, to the second mark.
 // The classes are the numbers below this one.
-const CLASSES: u32 = 63;
+const CLASSES: u32 = 97;
 
 // At a class that begins none of the alternatives.
 pub(crate) const ABSENT: u32 = 0;
@@ -26,11 +26,14 @@ pub(crate) const TUPLE_TYPE: u32 = 5;
 
 pub(crate) const ARRAY_TYPE: u32 = 6;
 
-const TYPES: [u8; 63] = *b"\
+const TYPES: [u8; 97] = *b"\
     \0\0\0\0\0\0\0\0\0\0\0\0\0\0\0\0\
     \0\0\0\0\x05\0\x06\0\0\0\0\0\0\0\0\0\
     \x04\0\0\0\0\x04\x04\x04\x04\x01\x02\x03\x04\x04\x04\x04\
-    \x04\x04\x04\x04\0\x04\x04\x04\x04\0\0\0\0\0\0";
+    \x04\x04\x04\x04\0\x04\x04\x04\x04\0\0\0\0\0\0\x04\
+    \x04\x04\x04\x04\x04\x04\x04\x04\x04\x04\x04\x04\x04\x04\x04\x04\
+    \x04\x04\x04\x04\x04\x04\x04\x04\x04\x04\x04\x04\x04\x04\x04\x04\
+    \x04";
 
 // A pattern.
 pub(crate) const NAME_PATTERN: u32 = 1;
@@ -39,11 +42,14 @@ pub(crate) const TUPLE_PATTERN: u32 = 2;
 
 pub(crate) const ARRAY_PATTERN: u32 = 3;
 
-const PATTERNS: [u8; 63] = *b"\
+const PATTERNS: [u8; 97] = *b"\
     \0\0\0\0\0\0\0\0\0\0\0\0\0\0\0\0\
     \0\0\0\0\x02\0\x03\0\0\0\0\0\0\0\0\0\
     \x01\0\0\0\0\x01\x01\x01\x01\x01\x01\x01\x01\x01\x01\x01\
-    \x01\x01\x01\x01\0\x01\x01\x01\x01\0\0\0\0\0\0";
+    \x01\x01\x01\x01\0\x01\x01\x01\x01\0\0\0\0\0\0\x01\
+    \x01\x01\x01\x01\x01\x01\x01\x01\x01\x01\x01\x01\x01\x01\x01\x01\
+    \x01\x01\x01\x01\x01\x01\x01\x01\x01\x01\x01\x01\x01\x01\x01\x01\
+    \x01";
 
 // An expression that is no block.
 pub(crate) const LITERAL: u32 = 1;
@@ -70,22 +76,28 @@ pub(crate) const FOLDING: u32 = 11;
 
 pub(crate) const FOR_WHILE: u32 = 12;
 
-const SINGLES: [u8; 63] = *b"\
+const SINGLES: [u8; 97] = *b"\
     \0\0\0\0\0\0\0\0\0\x05\0\0\0\0\0\0\
     \0\0\0\0\x02\0\x03\0\0\0\x07\0\x01\x01\x01\0\
     \x08\x06\x01\x01\0\x08\x08\x08\x09\x08\x08\x08\x0a\x0a\x0b\x0c\
-    \x0a\x08\x09\x09\0\x09\x0b\x09\x0a\x06\x06\x06\x04\x01\x01";
+    \x0a\x08\x09\x09\0\x09\x0b\x09\x0a\x06\x06\x06\x04\x01\x01\x08\
+    \x08\x08\x08\x08\x08\x08\x08\x08\x08\x08\x08\x08\x08\x08\x08\x08\
+    \x08\x08\x08\x08\x08\x08\x08\x08\x08\x08\x08\x08\x08\x08\x08\x08\
+    \x08";
 
 // A name.
 pub(crate) const RESERVED_NAME: u32 = 1;
 
 pub(crate) const FUNCTION_NAME: u32 = 2;
 
-const NAMES: [u8; 63] = *b"\
+const NAMES: [u8; 97] = *b"\
     \0\0\0\0\0\0\0\0\0\0\0\0\0\0\0\0\
     \0\0\0\0\0\0\0\0\0\0\0\0\0\0\0\0\
     \x02\0\0\0\0\x02\x02\x02\x02\x02\x02\x02\x01\x01\x01\x01\
-    \x01\x01\x01\x01\0\x01\x01\x01\x01\0\0\0\0\0\0";
+    \x01\x01\x01\x01\0\x01\x01\x01\x01\0\0\0\0\0\0\x02\
+    \x02\x02\x02\x02\x02\x02\x02\x02\x02\x02\x02\x02\x02\x02\x02\x02\
+    \x02\x02\x02\x02\x02\x02\x02\x02\x02\x02\x02\x02\x02\x02\x02\x02\
+    \x02";
 
 // An arm's head, where an arm begins.
 pub(crate) const FALSE_HEAD: u32 = 1;
@@ -98,11 +110,14 @@ pub(crate) const WRAPPED_HEAD: u32 = 4;
 
 pub(crate) const NAMED_HEAD: u32 = 5;
 
-const HEADS: [u8; 63] = *b"\
+const HEADS: [u8; 97] = *b"\
     \0\0\0\0\0\0\0\0\0\0\0\0\0\0\0\0\
     \0\0\0\0\0\0\0\0\0\0\0\0\0\0\0\0\
     \x05\0\0\0\0\x04\x04\x04\x03\x05\x05\x05\x05\x05\x05\x05\
-    \x05\x05\x05\x05\0\x05\x05\x05\x05\0\0\0\0\x01\x02";
+    \x05\x05\x05\x05\0\x05\x05\x05\x05\0\0\0\0\x01\x02\x05\
+    \x05\x05\x05\x05\x05\x05\x05\x05\x05\x05\x05\x05\x05\x05\x05\x05\
+    \x05\x05\x05\x05\x05\x05\x05\x05\x05\x05\x05\x05\x05\x05\x05\x05\
+    \x05";
 
 // The second mark: what follows is written by hand.
 pub(crate) fn types(class: u32) -> u32

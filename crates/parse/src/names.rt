@@ -18,15 +18,6 @@ use crate::token;
 use crate::tree;
 use lexer::classes as class;
 use own::kind;
-use words::Found;
-use words::Table;
-
-// The words of `TypeNames`: `bool`, then the unsigned types, and the built-in aliases behind them.
-const BOOL: usize = 0;
-
-const UNSIGNED: usize = 1;
-
-const BUILTIN: usize = 10;
 
 // An identifier, as a record.
 pub(crate) fn identifier(
@@ -95,38 +86,37 @@ pub(crate) struct Head {
     pub(crate) low: u32,
 }
 
-// What a name is as a type: an alias, a built-in alias, `bool` or an unsigned type.
-pub(crate) fn type_name(draft: &[u8], st: State) -> Head
-    ensures { λ r. ⌜ head (r .kind) (r .low) 0 ≡ typeName (partOf (now (draft .entry)) (st .start) (st .stop)) (st .class) ⌝ }
+// What a name is as a type: an alias, `bool`, an unsigned type or a built-in alias.
+pub(crate) fn type_name(class: u32) -> Head
+    ensures { λ r. ⌜ head (r .kind) (r .low) 0 ≡ typeName class ⌝ }
 {
-    if st.class != class::IDENT {
+    if class < class::BOOL_TYPE {
         return Head {
             kind: kind::ALIAS,
             low: 0,
         };
     }
-    let f = words::word(Table::TypeNames, draft, st.start as usize, st.stop as usize);
-    let Found::Word(k) = f else {
-        return Head {
-            kind: kind::ALIAS,
-            low: 0,
-        };
-    };
-    if k == BOOL {
+    if class == class::BOOL_TYPE {
         return Head {
             kind: kind::BOOL_TYPE,
             low: 0,
         };
     }
-    if k < BUILTIN {
+    if class < class::CTX8 {
         return Head {
             kind: kind::UNSIGNED,
-            low: 1 << (k - UNSIGNED),
+            low: 1 << (class - class::U1),
+        };
+    }
+    if class <= class::LAST {
+        return Head {
+            kind: kind::BUILTIN,
+            low: class - class::CTX8,
         };
     }
     Head {
-        kind: kind::BUILTIN,
-        low: (k - BUILTIN) as u32,
+        kind: kind::ALIAS,
+        low: 0,
     }
 }
 

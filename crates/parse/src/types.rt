@@ -37,7 +37,7 @@ fn named(draft: &[u8], tokens: &[u32], count: usize, tree: &mut [u32], st: State
     ensures { λ r. ⌜ Parses n-type (Node TypeKind) (now (draft .entry)) (now (tokens .entry)) count st (now (tree .entry)) (now (tree .exit)) r ⌝ }
 {
     let a = token::advance(draft, tokens, count, tree::reserve(st));
-    let h = names::type_name(draft, st);
+    let h = names::type_name(st.class);
     tree::close(tree, st, a, h.kind, h.low, 0);
     Step::Next(a, 0, 0)
 }

@@ -62,7 +62,7 @@ use Rattle.parse.proofs.rule.Amid.{Amid}
 use Rattle.parse.specs.Contract.{Text, classes, Read, fault, boundFault, sizeFault, ExprKind, Only, callees}
 use Rattle.parse.specs.Choice as choice
 use Rattle.parse.proofs.choice.Chosen.{where-chosen, alone, is-alone, hit, miss, goes}
-use Rattle.parse.proofs.rule.Marks.{keeping, word-mark}
+use Rattle.parse.proofs.rule.Marks.{keeping, aWord, word-mark}
 use Rattle.parse.proofs.rule.Steps.{numberIn, decided, reads-tok, reads-one}
 use Rattle.parse.proofs.rule.Closing.{Rule}
 
@@ -240,15 +240,15 @@ module _ (c : ℕ) where
   -- and marks of a call.
   pub typed-mark : choose table n-single c ≡ choice.Typed → roleOf kind.Call c ≡ aMark
   unfolding choose row table look
-  typed-mark e = word-mark c (where-chosen n-single choice.Typed (λ a. ltb t.List a) tt tt c e)
+  typed-mark e = word-mark c (where-chosen n-single choice.Typed aWord tt tt c e)
 
   pub folding-mark : choose table n-single c ≡ choice.Folding → roleOf kind.Call c ≡ aMark
   unfolding choose row table look
-  folding-mark e = word-mark c (where-chosen n-single choice.Folding (λ a. ltb t.List a) tt tt c e)
+  folding-mark e = word-mark c (where-chosen n-single choice.Folding aWord tt tt c e)
 
   pub whiles-mark : choose table n-single c ≡ choice.ForWhile → roleOf kind.Call c ≡ aMark
   unfolding choose row table look
-  whiles-mark e = word-mark c (where-chosen n-single choice.ForWhile (λ a. ltb t.List a) tt tt c e)
+  whiles-mark e = word-mark c (where-chosen n-single choice.ForWhile aWord tt tt c e)
 
 -- The token that a call begins with is a name of its own or a mark.
 pub called-role : (c : ℕ) → has callees c ≡ true → roleOf kind.Call c ≡ asName

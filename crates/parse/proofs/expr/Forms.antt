@@ -35,7 +35,7 @@ use Rattle.own.specs.Law.{Sort, word, child, sorts}
 use Rattle.own.specs.Kinds as kind
 use Rattle.grammar.specs.shapes.Shapes.{shapes}
 use Rattle.grammar.specs.shapes.Tables.{means, table}
-use Rattle.grammar.specs.records.Records.{Head, head, wide, plain, sees, headOf, formOf, lowHalf, highHalf, typeName, patternName, textOf, firstTok, firstOf, opening, decimal, literalHead, lone, partCount, unended, builtinType, unsignedType, boolType, Role, aMark, roleOf}
+use Rattle.grammar.specs.records.Records.{Head, head, wide, plain, sees, headOf, formOf, lowHalf, highHalf, typeName, patternName, textOf, firstTok, firstOf, opening, decimal, literalHead, lone, partCount, unended, Role, aMark, roleOf}
 use Rattle.grammar.specs.records.Faults.{unless, faultsAt, earliest, earlier}
 use Rattle.grammar.specs.shapes.ShapeKind.{ArrayShape, AssignmentShape, BlockShape, ListShape, LiteralShape, ParensShape}
 use Rattle.grammar.specs.shapes.TablesIndex.{n-assignment, n-block, n-elements, n-expression, n-list-expression, n-literal, n-pattern, n-single, n-tail-expression, n-type}

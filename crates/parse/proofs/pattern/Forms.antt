@@ -34,7 +34,7 @@ use Rattle.own.specs.Law.{Sort, word, child, sorts}
 use Rattle.own.specs.Kinds as kind
 use Rattle.grammar.specs.shapes.Shapes.{shapes}
 use Rattle.grammar.specs.shapes.Tables.{means, table}
-use Rattle.grammar.specs.records.Records.{Head, head, wide, plain, sees, headOf, formOf, lowHalf, highHalf, typeName, patternName, textOf, firstTok, firstOf, opening, decimal, builtinType, unsignedType, boolType, Role, aMark, roleOf}
+use Rattle.grammar.specs.records.Records.{Head, head, wide, plain, sees, headOf, formOf, lowHalf, highHalf, typeName, patternName, textOf, firstTok, firstOf, opening, decimal, Role, aMark, roleOf}
 use Rattle.grammar.specs.records.Faults.{unless, faultsAt, earliest, earlier}
 use Rattle.grammar.specs.shapes.ShapeKind.{ArrayPatternShape, NamePatternShape, TuplePatternShape}
 use Rattle.grammar.specs.shapes.TablesIndex.{n-identifier, n-list-pattern, n-pattern, n-tail-pattern}

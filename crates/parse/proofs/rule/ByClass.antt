@@ -18,7 +18,7 @@ use Rattle.lexer.specs.Classes as t
 
 -- The first number past the classes.
 abbrev pub pastClasses : ℕ
-pastClasses = suc t.true
+pastClasses = suc t.last
 
 -- The n numbers from a on pass the test.
 abbrev pub run : (ℕ → Bool) → ℕ → ℕ → Bool

@@ -81,12 +81,15 @@ keeping-mark K c h =
 pub keeps-between : (a b k : ℕ) → T (run keeping (suc b - a) a) → a ≤ k → k ≤ b → T (keeping k)
 keeps-between a b k h low high = run-at keeping (suc b - a) a k h low (omega arith)
 
--- Words of a call: the classes after `List` are the words of FUNCTION_RESERVED, the macros and the booleans.
-pub word-mark : (c : ℕ) → T (ltb t.List c) → roleOf kind.Call c ≡ aMark
+-- Words of a call: the classes between `List` and `bool` are the words of FUNCTION_RESERVED, the macros and the booleans.
+abbrev pub aWord : ℕ → Bool
+aWord c = ltb t.List c && ltb c t.bool
+
+pub word-mark : (c : ℕ) → T (aWord c) → roleOf kind.Call c ≡ aMark
 unfolding has
 word-mark c h = go (ltb c pastClasses) refl
   where
-    test : T (run (λ i. not (ltb t.List i) || (not (has callees i) && not (eqb i t.DecLiteral))) pastClasses 0)
+    test : T (run (λ i. not (aWord i) || (not (has callees i) && not (eqb i t.DecLiteral))) pastClasses 0)
     test = tt
 
     done : T (not (has callees c) && not (eqb c t.DecLiteral)) → roleOf kind.Call c ≡ aMark
@@ -98,5 +101,5 @@ word-mark c h = go (ltb c pastClasses) refl
     past g = rw (has-past callees c tt g, ne-eqb c t.DecLiteral (λ e. omega arith)) tt
 
     go : (b : Bool) → ltb c pastClasses ≡ b → roleOf kind.Call c ≡ aMark
-    go true e = done (implied (ltb t.List c) (not (has callees c) && not (eqb c t.DecLiteral)) (sweep (λ i. not (ltb t.List i) || (not (has callees i) && not (eqb i t.DecLiteral))) test c (ltb-true c pastClasses e)) h)
+    go true e = done (implied (aWord c) (not (has callees c) && not (eqb c t.DecLiteral)) (sweep (λ i. not (aWord i) || (not (has callees i) && not (eqb i t.DecLiteral))) test c (ltb-true c pastClasses e)) h)
     go false e = done (past (ltb-false c pastClasses e))

@@ -4,7 +4,7 @@ use mathlib.Core.Bool.{Bool, true, false, cond, _&&_, _||_, not}
 use mathlib.Core.List.{List, [], _∷_, _++_}
 use mathlib.Core.Option.{Option, none, some}
 use mathlib.Core.Path.{_≡_, refl, sym, ap, ap₂, _∙_, subst}
-use Prim.Native.Nat.{ℕ, zero, suc, _-_, _≤_, _<_}
+use Prim.Native.Nat.{ℕ, zero, suc, _-_, _^_, _≤_, _<_}
 use borrow.Author.Tests.{ne-eqb}
 use native.Mathlib.Omega.{arith}
 use lib.Dec.{T, eqb, eqb→eq, ltb, ltb→lt, leb}
@@ -16,9 +16,6 @@ use Rattle.num.specs.Digits as digits
 use Rattle.num.specs.Value.{decimalFrom, decimalOf, numberOf}
 use Rattle.num.specs.declared.Value.{Value}
 use Rattle.num.specs.Bound.{boundOk, lengthOk}
-use Rattle.words.specs.Words.{BOOL, UINT_TYPES, BUILTIN_ALIASES, wordOf}
-use Rattle.words.specs.declared.Found.{Found}
-use Rattle.words.specs.declared.Found.the-variants.{Word, Plain}
 use Rattle.lexer.specs.Classes as t
 use Rattle.theory.specs.Grammar.{Sym, tok, nt, Case, on, look, Row, row, alt, pick}
 use Rattle.theory.specs.Machine.{choose, expand}
@@ -31,7 +28,7 @@ use Rattle.own.specs.Law.{Sort, word, child, sorts}
 use Rattle.own.specs.Kinds as kind
 use Rattle.grammar.specs.shapes.Shapes.{shapes}
 use Rattle.grammar.specs.shapes.Tables.{means, table}
-use Rattle.grammar.specs.records.Records.{Head, head, wide, plain, sees, headOf, formOf, lowHalf, highHalf, typeName, patternName, textOf, firstTok, firstOf, opening, decimal, builtinType, unsignedType, boolType, Role, aMark, roleOf}
+use Rattle.grammar.specs.records.Records.{Head, head, wide, plain, sees, headOf, formOf, lowHalf, highHalf, typeName, patternName, textOf, firstTok, firstOf, opening, decimal, placeIn, Role, aMark, roleOf}
 use Rattle.grammar.specs.records.Faults.{unless, faultsAt, earliest, earlier}
 use Rattle.grammar.specs.shapes.ShapeKind.{ArrayTypeShape, EitherTypeShape, ListTypeShape, NamedTypeShape, OptionTypeShape, TupleTypeShape}
 use Rattle.grammar.specs.shapes.TablesIndex.{n-eitherType-optional-LAngle, n-list-type, n-listType-optional-LAngle, n-namedType, n-optionType-optional-LAngle, n-tail-type, n-type}
@@ -269,27 +266,22 @@ module _ (c : ℕ) where
   unfolding choose row table look
   named-pos e = ltb→lt 0 c (where-chosen n-type choice.NamedType (λ a. ltb 0 a) tt tt c e)
 
-named-kinds : (f g : Found) (h : Found) → (kind.Alias ≤ boolType f (unsignedType g (builtinType h)) .kind) × (boolType f (unsignedType g (builtinType h)) .kind ≤ kind.Unsigned)
-unfolding boolType unsignedType builtinType
-named-kinds (Word i) g h = (omega arith, omega arith)
-named-kinds Plain (Word i) h = (omega arith, omega arith)
-named-kinds Plain Plain (Word i) = (omega arith, omega arith)
-named-kinds Plain Plain Plain = (omega arith, omega arith)
-
-type-kind : (p : List ℕ) (c : ℕ) → (kind.Alias ≤ typeName p c .kind) × (typeName p c .kind ≤ kind.Unsigned)
+type-kind : (c : ℕ) → (kind.Alias ≤ typeName c .kind) × (typeName c .kind ≤ kind.Unsigned)
 unfolding typeName
-type-kind p c = go (eqb c t.Ident)
+type-kind c = go (eqb c t.bool) (has t.unsignedTypes c) (has t.builtinTypes c)
   where
-    h : Head
-    h = boolType (wordOf BOOL p) (unsignedType (wordOf UINT_TYPES p) (builtinType (wordOf BUILTIN_ALIASES p)))
+    its : Bool → Bool → Bool → ℕ
+    its x y z = cond x (plain kind.BoolType) (cond y (head kind.Unsigned (2 ^ placeIn 0 0 t.unsignedTypes c) 0) (cond z (head kind.Builtin (placeIn 0 0 t.builtinTypes c) 0) (plain kind.Alias))) .kind
 
-    go : (b : Bool) → (kind.Alias ≤ cond b h (plain kind.Alias) .kind) × (cond b h (plain kind.Alias) .kind ≤ kind.Unsigned)
-    go true = named-kinds (wordOf BOOL p) (wordOf UINT_TYPES p) (wordOf BUILTIN_ALIASES p)
-    go false = (omega arith, omega arith)
+    go : (x y z : Bool) → (kind.Alias ≤ its x y z) × (its x y z ≤ kind.Unsigned)
+    go true y z = (omega arith, omega arith)
+    go false true z = (omega arith, omega arith)
+    go false false true = (omega arith, omega arith)
+    go false false false = (omega arith, omega arith)
 
-module _ {k low : ℕ} (p : List ℕ) (c : ℕ) (e : head k low 0 ≡ typeName p c) where
+module _ {k low : ℕ} (c : ℕ) (e : head k low 0 ≡ typeName c) where
   kind-is : (kind.Alias ≤ k) × (k ≤ kind.Unsigned)
-  kind-is = let h = type-kind p c in let f : k ≡ typeName p c .kind = ap (λ (u : Head). u .kind) e in (omega arith, omega arith)
+  kind-is = let h = type-kind c in let f : k ≡ typeName c .kind = ap (λ (u : Head). u .kind) e in (omega arith, omega arith)
 
   pub named-kind : (kind.Alias ≤ k) × (k ≤ kind.ListType)
   named-kind = (kind-is .0, omega (arith, kind-is .1))
@@ -303,9 +295,6 @@ module _ {k low : ℕ} (p : List ℕ) (c : ℕ) (e : head k low 0 ≡ typeName p
   pub named-role : (d : ℕ) → roleOf k d ≡ aMark
   named-role d = keeping-mark k d keeping-kind
 
-pub named-head : (d w : List ℕ) (n : ℕ) {st : State} (r : State) {k low : ℕ} → Stands (text d w n) st → r .at ≡ st .at → head k low 0 ≡ typeName (partOf d (st .start) (st .stop)) (st .class)
-    → decided (text d w n) NamedTypeShape (word (st .class) ∷ []) (tokAt (text d w n) (r .at) ∷ []) ≡ head k low 0
-unfolding headOf formOf opening textOf firstTok text
-named-head d w n {st} r s a e =
-    ap (λ (i : ℕ). typeName (partOf d (tokAt (text d w n) i .start) (tokAt (text d w n) i .stop)) (st .class)) a
-    ∙ ap₂ (λ (i j : ℕ). typeName (partOf d i j) (st .class)) (sym (s .start-is)) (sym (s .stop-is)) ∙ sym e
+pub named-head : (x : Text) (t : Tok) (c : ℕ) {k low : ℕ} → head k low 0 ≡ typeName c → decided x NamedTypeShape (word c ∷ []) (t ∷ []) ≡ head k low 0
+unfolding headOf formOf opening
+named-head x t c e = sym e

@@ -7,7 +7,6 @@ use borrow.Author.Needs.{needs}
 use native.Mathlib.Omega.{arith}
 use lib.ListN.{length, getD}
 use Rattle.theory.specs.Grammar.{Sym, tok, nt}
-use Rattle.text.specs.Part.{partOf}
 use Rattle.theory.specs.Walk.{k-nt}
 use Rattle.theory.specs.Machine.{expand}
 use Rattle.grammar.specs.shapes.Tables.{table}
@@ -63,13 +62,9 @@ returns c =
     let x = text (c .before .before .before .before .before .before .before .before .before .before .args .draft .now) (c .before .before .before .before .before .before .before .before .before .before .args .tokens .now) (c .before .before .before .before .before .before .before .before .before .before .args .count) in
     let d0 = starts (c .before .before .before .before .type-name .result .kind) AnyN form.namedRhs (c .before .before .before .before .before .before .before .before .before .before .args .tree .now) (o .stands) in
     let d1 = advances-one d0 form.flat-named (form.at-named (c .before .before .before .before .before .before .before .before .before .before .args .st .class) e) (o .class-is) (form.named-pos (c .before .before .before .before .before .before .before .before .before .before .args .st .class) e) (c .before .before .before .before .before .advance .ensures)
-    (form.named-role (partOf (c .before .before .before .before .before .before .before .before .before .before .args .draft .now) (c .before .before .before .before .before .before .before .before .before .before .args .st .start) (c .before .before .before .before .before .before .before .before .before .before .args .st .stop))
-    (c .before .before .before .before .before .before .before .before .before .before .args .st .class) (c .before .before .before .before .type-name .ensures) (c .before .before .before .before .before .before .before .before .before .before .args .st .class)) in
-    as-nonterminal form.named-rule y e (read (shut NamedTypeShape tt y o d1 (omega arith) (form.named-head (c .before .before .before .before .before .before .before .before .before .before .args .draft .now) (c .before .before .before .before .before .before .before .before .before .before .args .tokens .now)
-    (c .before .before .before .before .before .before .before .before .before .before .args .count) (c .before .before .before .before .before .before .reserve .result) (y .stands) (o .at-is) (c .before .before .before .before .type-name .ensures)) (form.named-unturned (partOf
-    (c .before .before .before .before .before .before .before .before .before .before .args .draft .now) (c .before .before .before .before .before .before .before .before .before .before .args .st .start) (c .before .before .before .before .before .before .before .before .before .before .args .st .stop))
-    (c .before .before .before .before .before .before .before .before .before .before .args .st .class) (c .before .before .before .before .type-name .ensures)) TypeKind (form.named-kind (partOf (c .before .before .before .before .before .before .before .before .before .before .args .draft .now)
-    (c .before .before .before .before .before .before .before .before .before .before .args .st .start) (c .before .before .before .before .before .before .before .before .before .before .args .st .stop)) (c .before .before .before .before .before .before .before .before .before .before .args .st .class) (c .before .before .before .before .type-name .ensures))
+    (form.named-role (c .before .before .before .before .before .before .before .before .before .before .args .st .class) (c .before .before .before .before .type-name .ensures) (c .before .before .before .before .before .before .before .before .before .before .args .st .class)) in
+    as-nonterminal form.named-rule y e (read (shut NamedTypeShape tt y o d1 (omega arith) (form.named-head x (tokAt x (c .before .before .before .before .before .before .reserve .result .at)) (c .before .before .before .before .before .before .before .before .before .before .args .st .class) (c .before .before .before .before .type-name .ensures))
+    (form.named-unturned (c .before .before .before .before .before .before .before .before .before .before .args .st .class) (c .before .before .before .before .type-name .ensures)) TypeKind (form.named-kind (c .before .before .before .before .before .before .before .before .before .before .args .st .class) (c .before .before .before .before .type-name .ensures))
     (c .before .before .close .ensures)))
 
 pub named-spec : {M : Type 1} → statement M

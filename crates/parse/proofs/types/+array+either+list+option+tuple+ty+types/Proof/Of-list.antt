@@ -7,7 +7,6 @@ use borrow.Author.Needs.{needs}
 use native.Mathlib.Omega.{arith}
 use lib.ListN.{length, getD}
 use Rattle.theory.specs.Grammar.{Sym, tok, nt}
-use Rattle.text.specs.Part.{partOf}
 use Rattle.theory.specs.Walk.{k-nt}
 use Rattle.theory.specs.Machine.{expand}
 use Rattle.grammar.specs.shapes.Tables.{table}
