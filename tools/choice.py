@@ -52,6 +52,7 @@ def choices():
         Choice("PATTERNS", "pattern", "A pattern", shapes_of("pattern"), [choose("pattern", c) for c in classes]),
         Choice("SINGLES", "single", "An expression that is no block", shapes_of("single"), [choose("single", c) for c in classes]),
         Choice("NAMES", "name", "A name", ["ReservedName", "FunctionName"], [sort(c) for c in classes]),
+        Choice("ALIASES", "alias", "A type item's name", [], [choose("aliasName", c) for c in classes]),
         Choice("HEADS", "head", "An arm's head, where an arm begins", HEADS, [choose("arm", c) and choose("head", c) for c in classes]),
     ]
 
@@ -85,7 +86,7 @@ def names(all_choices):
     out = "-- Made by tools/choice.py: the alternatives by name, as `choose` of grammar's table numbers them; src/choice.rt has the same names.\n"
     out += "-- Assumes nothing.\nuse Prim.Native.Nat.{ℕ}\n\n-- No alternative begins with the class.\nabbrev pub Absent : ℕ\nAbsent = 0\n\n"
     for t in all_choices:
-        out += f"-- {t.what}.\n" + "".join(f"abbrev pub {a} : ℕ\n{a} = {i}\n\n" for i, a in enumerate(t.alternatives, 1))
+        out += (f"-- {t.what}.\n" if t.alternatives else "") + "".join(f"abbrev pub {a} : ℕ\n{a} = {i}\n\n" for i, a in enumerate(t.alternatives, 1))
     return out.rstrip() + "\n"
 
 

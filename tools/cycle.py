@@ -30,6 +30,7 @@ GROUPS = [
     ("parse", ["pattern"]),
     ("parse", ["heads"]),
     ("parse", ["program"]),
+    ("parse", ["file"]),
     ("parse", ["literal"]),
     ("parse", ["entry"]),
     ("lines", ["lines"]),

@@ -1,3 +1,5 @@
 -- The whole draft.
+pub mod Ends
 pub mod Holds
+pub mod Closed
 pub mod Laws

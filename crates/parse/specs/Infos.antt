@@ -7,6 +7,8 @@ use mathlib.Core.Logic.{_⊎_}
 use mathlib.Core.Path.{_≡_}
 use Prim.Native.Nat.{ℕ, _+_, _≤_}
 use lib.Dec.{eqb, ltb}
+use lib.ListN.{length, take, drop}
+use Rattle.theory.specs.Grammar.{nt}
 use Rattle.theory.specs.Machine.{choose}
 use Rattle.own.specs.Tree as own
 use Rattle.own.specs.Tree.{Items, partner}
@@ -19,11 +21,14 @@ use Rattle.kinds.specs.Families as family
 use Rattle.lexer.specs.Classes as t
 use Rattle.grammar.specs.records.Records.{head, sees, nameCount, lone, unended, armHead, arranged}
 use Rattle.grammar.specs.shapes.Tables.{table}
-use Rattle.grammar.specs.shapes.TablesIndex.{n-single}
+use Rattle.grammar.specs.shapes.TablesIndex.{n-single, n-function, n-typeItem, n-file}
 use Rattle.text.specs.Refusals as refusal
-use Rattle.parse.specs.Contract.{Text, Moved, Only, Turned, countable}
+use Rattle.text.specs.Widths.{recWide}
+use Rattle.parse.specs.Contract.{Text, asItems, Parsed, Put, Moved, Only, Turned, countable, reserved}
 use Rattle.parse.specs.Choice as choice
 use Rattle.parse.specs.declared.State.{State}
+use Rattle.parse.specs.declared.Step.{Step}
+use Rattle.parse.specs.declared.Step.the-variants.{Next, Refused}
 use Rattle.parse.specs.Orders as order
 
 abbrev pub LetKind : ℕ → Type 0
@@ -188,6 +193,30 @@ ParameterKind k = k ≡ kind.Parameter
 
 abbrev pub FunctionKind : ℕ → Type 0
 FunctionKind k = k ≡ kind.Function
+
+abbrev pub TypeItemKind : ℕ → Type 0
+TypeItemKind k = k ≡ kind.TypeItem
+
+abbrev pub ItemKind : ℕ → Type 0
+ItemKind k = (k ≡ kind.Function) ⊎ (k ≡ kind.TypeItem)
+
+-- The nonterminal of the item that begins with a token of this class: a type item's, or a function's.
+unfoldable pub itemAt : ℕ → ℕ
+itemAt c = cond (eqb c t.«Type») n-typeItem n-function
+
+-- Items side by side: no token of theirs becomes a record here.
+pub record FileItems (J L : Items) (m a b : ℕ) : Type 0 where
+  pub same : L ≡ J
+
+-- Where the words behind the first record begin, in a buffer of so many.
+unfoldable pub behind : ℕ → ℕ
+behind n = cond (ltb n recWide) n recWide
+
+-- What is read of a whole file of so many bytes: its items, behind the first record, and then that record; or the parser is stuck.
+pub data FileRead (x : Text) (len : ℕ) (st : State) (l l′ : List ℕ) : Step → Type 0 where
+  file-read : {z : State} {l₁ : List ℕ} {a b : ℕ} → Parsed x (nt n-file ∷ []) asItems FileItems st (drop (behind (length l)) l) l₁ (Next z a b)
+      → Put (take (behind (length l)) l ++ l₁) 0 kind.Program 0 len 0 0 (reserved z .out) l′ → FileRead x len st l l′ (Next (reserved z) 0 0)
+  file-stuck : {l₁ : List ℕ} {p : ℕ} → Parsed x (nt n-file ∷ []) asItems FileItems st (drop (behind (length l)) l) l₁ (Refused p) → FileRead x len st l l′ (Refused p)
 
 -- Parameters with commas between them: a is how many.
 pub record Parameters (J L : Items) (m a b : ℕ) : Type 0 where

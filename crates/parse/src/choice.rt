@@ -3,7 +3,7 @@
 ghost use mathlib.Core.Path.{_≡_};
 ghost use Rattle.theory.specs.Machine.{choose};
 ghost use Rattle.grammar.specs.shapes.Tables.{table};
-ghost use Rattle.grammar.specs.shapes.TablesIndex.{n-type, n-pattern, n-single};
+ghost use Rattle.grammar.specs.shapes.TablesIndex.{n-type, n-pattern, n-single, n-aliasName};
 ghost use Rattle.parse.specs.Contract.{nameSort, headSort};
 
 // Written by tools/choice.py, to the second mark.
@@ -99,6 +99,16 @@ const NAMES: [u8; 97] = *b"\
     \x02\x02\x02\x02\x02\x02\x02\x02\x02\x02\x02\x02\x02\x02\x02\x02\
     \x02";
 
+// A type item's name.
+const ALIASES: [u8; 97] = *b"\
+    \0\0\0\0\0\0\0\0\0\0\0\0\0\0\0\0\
+    \0\0\0\0\0\0\0\0\0\0\0\0\0\0\0\0\
+    \x01\0\0\0\0\x02\x03\x04\x05\0\0\0\x06\x07\x08\x09\
+    \x0a\x0b\x0c\x0d\0\x0e\x0f\x10\x11\0\0\0\0\0\0\0\
+    \0\0\0\0\0\0\0\0\0\0\0\0\0\0\0\0\
+    \0\0\0\0\0\0\0\0\0\0\0\0\0\0\0\0\
+    \0";
+
 // An arm's head, where an arm begins.
 pub(crate) const FALSE_HEAD: u32 = 1;
 
@@ -156,6 +166,16 @@ pub(crate) fn names(class: u32) -> u32
     if class < CLASSES {
         let i = class as usize;
         return NAMES[i] as u32;
+    }
+    ABSENT
+}
+
+pub(crate) fn aliases(class: u32) -> u32
+    ensures { λ r. ⌜ r ≡ choose table n-aliasName class ⌝ }
+{
+    if class < CLASSES {
+        let i = class as usize;
+        return ALIASES[i] as u32;
     }
     ABSENT
 }

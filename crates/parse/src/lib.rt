@@ -2,7 +2,7 @@
 ghost use mathlib.Core.Path.{_≡_};
 ghost use lib.ListN.{length};
 ghost use Rattle.lexer.specs.Limits.{draftLimits};
-ghost use Rattle.grammar.specs.Entry.{oneFunction};
+ghost use Rattle.grammar.specs.Entry.{oneFunction, wholeFile};
 ghost use Rattle.parse.specs.Entry.{meant, answerOf, treeOf};
 
 mod arms;
@@ -10,6 +10,7 @@ mod choice;
 mod entry;
 mod expr;
 mod fault;
+mod file;
 mod heads;
 mod names;
 mod pattern;
@@ -43,10 +44,18 @@ pub enum Answer {
     Refused { number: u32, place: usize },
 }
 
-// Writes the records of a draft with so many tokens, `RECORD_WORDS` words each, and zeros behind them; on a refusal every word is 0.
+// Writes the records of one function, a draft with so many tokens, `RECORD_WORDS` words each, and zeros behind them; on a refusal every word is 0.
 pub fn parse(draft: &[u8], tokens: &[u32], count: usize, tree: &mut [u32]) -> Answer
     ensures answer { λ r. ⌜ meant count r ≡ answerOf oneFunction (draftLimits .tokens) (now (draft .entry)) (now (tokens .entry)) count (length (now (tree .entry))) ⌝ }
     ensures tree { λ _. ⌜ now (tree .exit) ≡ treeOf oneFunction (draftLimits .tokens) (now (draft .entry)) (now (tokens .entry)) count (length (now (tree .entry))) ⌝ }
 {
-    entry::parse_within(draft, tokens, count, tree, lexer::DRAFT_TOKENS)
+    entry::parse_within(draft, tokens, count, tree, lexer::DRAFT_TOKENS, false)
+}
+
+// The same of a file: its first record is that of the whole file.
+pub fn parse_file(draft: &[u8], tokens: &[u32], count: usize, tree: &mut [u32]) -> Answer
+    ensures answer { λ r. ⌜ meant count r ≡ answerOf wholeFile (draftLimits .tokens) (now (draft .entry)) (now (tokens .entry)) count (length (now (tree .entry))) ⌝ }
+    ensures tree { λ _. ⌜ now (tree .exit) ≡ treeOf wholeFile (draftLimits .tokens) (now (draft .entry)) (now (tokens .entry)) count (length (now (tree .entry))) ⌝ }
+{
+    entry::parse_within(draft, tokens, count, tree, lexer::DRAFT_TOKENS, true)
 }

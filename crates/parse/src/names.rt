@@ -7,7 +7,7 @@ ghost use Rattle.text.specs.Part.{partOf};
 ghost use Rattle.num.specs.Value.{numberOf};
 ghost use Rattle.theory.specs.Grammar.{tok, nt};
 ghost use Rattle.lexer.specs.Classes as t;
-ghost use Rattle.grammar.specs.shapes.TablesIndex.{n-identifier, n-functionName, n-path-many-DoubleColon};
+ghost use Rattle.grammar.specs.shapes.TablesIndex.{n-identifier, n-functionName, n-aliasName, n-path-many-DoubleColon};
 ghost use Rattle.grammar.specs.records.Records.{head, plain, typeName, patternName, literalHead, callHead, wrapperHead, aloneHead, placeIn};
 ghost use Rattle.parse.specs.Contract.{text, Ready, Near, Parsed, Parses, asItems, NameAt, Decimal, Names, Called, boundFault, sizeFault};
 use crate::State;
@@ -50,6 +50,25 @@ pub(crate) fn function_name(
     ensures { λ r. ⌜ Parses n-functionName (NameAt (now (draft .entry)) (now (tokens .entry)) count (st .at)) (now (draft .entry)) (now (tokens .entry)) count st (now (tree .entry)) (now (tree .exit)) r ⌝ }
 {
     if choice::names(st.class) != choice::FUNCTION_NAME {
+        return Step::Refused(st.at);
+    }
+    let a = token::advance(draft, tokens, count, st);
+    let b = tree::child(tree, st, a, kind::NAME, 0, 0);
+    Step::Next(b, 0, 0)
+}
+
+// A type item's name, as a record.
+pub(crate) fn alias_name(
+    draft: &[u8],
+    tokens: &[u32],
+    count: usize,
+    tree: &mut [u32],
+    st: State,
+) -> Step
+    requires { ⌜ Ready (text (now draft) (now tokens) count) st ⌝ }
+    ensures { λ r. ⌜ Parses n-aliasName (NameAt (now (draft .entry)) (now (tokens .entry)) count (st .at)) (now (draft .entry)) (now (tokens .entry)) count st (now (tree .entry)) (now (tree .exit)) r ⌝ }
+{
+    if choice::aliases(st.class) == choice::ABSENT {
         return Step::Refused(st.at);
     }
     let a = token::advance(draft, tokens, count, st);

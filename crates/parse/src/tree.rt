@@ -130,6 +130,13 @@ pub(crate) fn child_number(tree: &mut [u32], from: State, to: State, v: num::Val
     reserve(to)
 }
 
+// The first record, that of a whole file of so many bytes and records.
+pub(crate) fn top(tree: &mut [u32], end: u32, size: u32)
+    ensures { λ _. ⌜ Put (now (tree .entry)) 0 kind.Program 0 end 0 0 size (now (tree .exit)) ⌝ }
+{
+    put(tree, 0, kind::PROGRAM, 0, end, 0, 0, size);
+}
+
 // The records from `from` up to `mid` change places with those from `mid` up to `to`.
 pub(crate) fn exchange(tree: &mut [u32], from: u32, mid: u32, to: u32)
     ensures { λ _. ⌜ Turned (now (tree .entry)) from mid to (now (tree .exit)) ⌝ }

@@ -12,9 +12,9 @@ use Rattle.lexer.specs.Classes as t
 use Rattle.theory.specs.Grammar.{look, row}
 use Rattle.theory.specs.Machine.{choose}
 use Rattle.grammar.specs.shapes.Tables.{table}
-use Rattle.grammar.specs.shapes.TablesIndex.{n-type, n-pattern, n-single, n-arm}
+use Rattle.grammar.specs.shapes.TablesIndex.{n-type, n-pattern, n-single, n-arm, n-aliasName}
 use Rattle.parse.specs.Contract.{nameSort, headSort}
-use Rattle.parse.proofs.choice.Tables.{type-choices, pattern-choices, single-choices, name-choices, head-choices}
+use Rattle.parse.proofs.choice.Tables.{type-choices, pattern-choices, single-choices, name-choices, alias-choices, head-choices}
 use Rattle.parse.proofs.rule.ByClass.{pastClasses, low-all, beyond, has-past}
 
 -- An entry of a list of small numbers is small.
@@ -74,6 +74,19 @@ name-at = table-at nameSort name-choices pastClasses refl tt
 pub name-past : (c : ℕ) → pastClasses ≤ c → 0 ≡ nameSort c
 unfolding nameSort
 name-past c h = rw (has-past t.functionNames c tt h, has-past t.identifiers c tt h) refl
+
+-- ALIASES
+pub alias-small : (c : ℕ) → getD alias-choices c 0 < pastClasses
+unfolding alias-choices
+alias-small = small alias-choices tt
+
+pub alias-at : (c : ℕ) → c < pastClasses → getD alias-choices c 0 ≡ choose table n-aliasName c
+unfolding alias-choices choose row look table
+alias-at = table-at (choose table n-aliasName) alias-choices pastClasses refl tt
+
+pub alias-past : (c : ℕ) → pastClasses ≤ c → 0 ≡ choose table n-aliasName c
+unfolding row table
+alias-past c h = sym (beyond n-aliasName c h)
 
 -- HEADS
 pub head-small : (c : ℕ) → getD head-choices c 0 < pastClasses

@@ -26,7 +26,7 @@ use Rattle.kinds.specs.Fields.{counted}
 use Rattle.kinds.specs.Families as family
 use Rattle.lexer.specs.Classes as t
 use Rattle.grammar.specs.shapes.Tables.{table}
-use Rattle.grammar.specs.shapes.TablesIndex.{n-identifier, n-functionName, n-path-many-DoubleColon}
+use Rattle.grammar.specs.shapes.TablesIndex.{n-identifier, n-functionName, n-aliasName, n-path-many-DoubleColon}
 use Rattle.grammar.specs.records.Records.{aMark, roleOf, arranged, sees, nameCount}
 use Rattle.parse.proofs.Step.{the-type}
 use Rattle.parse.specs.Contract.{Text, classes, tokAt, Read, raw, Stands, Ready, Moved, Info, asItems, Went, Parsed, Named, Names, countable}
@@ -38,7 +38,7 @@ use Rattle.parse.proofs.rule.Amid.{class-at, inside, Amid, starts, then
 use Rattle.parse.proofs.rule.Chain.{advances, onward}
 use Rattle.parse.proofs.rule.Commas.{AnyN, finish}
 use Rattle.parse.proofs.names.Chain.{then-named}
-use Rattle.parse.proofs.names.Rows.{expanded-identifier, expanded-function-name, flat-more, more-names, no-more-names, name-role, arranged-names}
+use Rattle.parse.proofs.names.Rows.{expanded-identifier, expanded-function-name, expanded-alias-name, flat-more, more-names, no-more-names, name-role, arranged-names}
 
 -- What was chosen is what the table has.
 chosen : (A i a : ℕ) {rhs : List Sym} → choose table A a ≡ i → alt table A i ≡ some rhs → expand table A a ≡ some rhs
@@ -57,6 +57,10 @@ module _ {x : Text} {wrap : shape.Items → shape.Items} {I : Info} {st : State}
   -- and so is one that was read as a function's name.
   pub function-name-class : Parsed x (nt n-functionName ∷ σ) wrap I st l l′ r → r ≡ Next st′ a b → has t.functionNames (tokAt x (st .at) .class) ≡ true
   function-name-class p e = let q = expands x (went e p .reads) in ap (has t.functionNames) (sym (class-at (x .ts) (st .at))) ∙ expanded-function-name (getD (classes x) (st .at) 0) (q .1)
+
+  -- and one that was read as a type item's name.
+  pub alias-name-class : Parsed x (nt n-aliasName ∷ σ) wrap I st l l′ r → r ≡ Next st′ a b → has t.identifiers (tokAt x (st .at) .class) ≡ true
+  alias-name-class p e = let q = expands x (went e p .reads) in ap (has t.identifiers) (sym (class-at (x .ts) (st .at))) ∙ expanded-alias-name (getD (classes x) (st .at) 0) (q .1)
 
 -- A token that is a record of its own lies ahead.
 pub named-ahead : {x : Text} {σ : List Sym} {t : Tok} {kind low high : ℕ} {st : State} {l l′ : List ℕ} {r : Step} {st′ : State} {a b : ℕ} → Parsed x σ asItems (Named t kind low high) st l l′ r → r ≡ Next st′ a b → st .at < st′ .at

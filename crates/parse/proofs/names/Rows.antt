@@ -19,7 +19,7 @@ use Rattle.theory.specs.Same.{ex}
 use Rattle.kinds.specs.Families as family
 use Rattle.lexer.specs.Classes as t
 use Rattle.grammar.specs.shapes.Tables.{means, table}
-use Rattle.grammar.specs.shapes.TablesIndex.{n-identifier, n-functionName, n-path-many-DoubleColon}
+use Rattle.grammar.specs.shapes.TablesIndex.{n-identifier, n-functionName, n-aliasName, n-path-many-DoubleColon}
 use Rattle.own.specs.Tree as own
 use Rattle.own.specs.Tree.{Items, mark, sub}
 use Rattle.own.specs.Kinds as kind
@@ -105,6 +105,50 @@ pub no-function-name : (c : ℕ) → (nameSort c ≡ choice.FunctionName → ⊥
 no-function-name c h =
     is-lacking (expand table n-functionName c)
     (where-passed (λ c. lacking (expand table n-functionName c)) (λ c. not (eqb (nameSort c) choice.FunctionName)) no-function-name-test no-function-name-past c (rw (ne-eqb (nameSort c) choice.FunctionName h) tt))
+
+-- A type item's name,
+pub flat-alias-name : sortOf (ex means (nt n-aliasName)) ≡ shape.flat
+unfolding sortOf ex means
+flat-alias-name = refl
+
+abbrev anAlias : ℕ → Bool
+anAlias c = not (eqb (choose table n-aliasName c) 0)
+
+-- none past the classes
+no-alias-past : {A : Type 0} (c : ℕ) → pastClasses ≤ c → T (anAlias c) → A
+unfolding row table
+no-alias-past c h t = absurd (rw (beyond n-aliasName c h) at t)
+
+is-alias-test : T (run (λ c. not (anAlias c) || alone (expand table n-aliasName c) c) pastClasses 0)
+unfolding choose row look alt pick table
+is-alias-test = tt
+
+pub is-alias-name : (c : ℕ) → (choose table n-aliasName c ≡ 0 → ⊥) → expand table n-aliasName c ≡ some (tok c ∷ [])
+is-alias-name c h =
+    is-alone (expand table n-aliasName c) c (where-passed (λ c. alone (expand table n-aliasName c) c) anAlias is-alias-test (λ c h t. no-alias-past c h t) c (rw (ne-eqb (choose table n-aliasName c) 0 h) tt))
+
+-- or none.
+pub no-alias-name : (c : ℕ) → choose table n-aliasName c ≡ 0 → expand table n-aliasName c ≡ none
+unfolding alt row pick table
+no-alias-name c h = ap (alt table n-aliasName) h
+
+no-alias-end : choose table n-aliasName 0 ≡ 0
+unfolding choose row look table
+no-alias-end = refl
+
+pub alias-pos : (c : ℕ) → (choose table n-aliasName c ≡ 0 → ⊥) → 0 < c
+alias-pos zero h = absurd (h no-alias-end)
+alias-pos (suc c) h = omega arith
+
+alias-identifier-test : T (run (λ c. not (anAlias c) || has t.identifiers c) pastClasses 0)
+unfolding has choose row look table
+alias-identifier-test = tt
+
+-- A class that the table has as a type item's name is an identifier's.
+pub expanded-alias-name : (c : ℕ) {rhs : List Sym} → expand table n-aliasName c ≡ some rhs → has t.identifiers c ≡ true
+expanded-alias-name c e =
+    is-true (has t.identifiers c)
+    (where-passed (has t.identifiers) anAlias alias-identifier-test (λ c h t. no-alias-past c h t) c (rw (ne-eqb (choose table n-aliasName c) 0 (λ z. differ (sym (ap lacking (sym (no-alias-name c z) ∙ e))))) tt))
 
 sort-identifier-test : T (run (λ c. not (not (eqb (nameSort c) 0)) || has t.identifiers c) pastClasses 0)
 unfolding nameSort has

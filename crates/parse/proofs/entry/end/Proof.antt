@@ -7,10 +7,12 @@ use borrow.Author.Needs.{needs}
 use native.Mathlib.Omega.{arith}
 use lib.ListN.{length, replicate, length-replicate}
 use Rattle.text.specs.Refusals as refusal
-use Rattle.grammar.specs.Entry.{oneFunction}
 use Rattle.parse.specs.Contract.{text}
-use Rattle.parse.specs.Entry.{ended, judged}
+use Rattle.parse.specs.Entry.{entryOf, ended, judged}
 use Rattle.parse.proofs.entry.Laws as law
+use Rattle.parse.proofs.entry.Ends as ends
+use Rattle.parse.specs.declared.Answer.the-variants.{Records, Refused}
+use Rattle.parse.proofs.token.Tokens.{length-text}
 use Rattle.parse.specs.declared.Answer.the-variants.{Records, Refused}
 use Rattle.parse.proofs.token.Tokens.{length-text}
 use Rattle.parse.proofs.entry.end.Statement.{statement}
@@ -25,7 +27,7 @@ place-requires c κs =
 
 returns : tie.Need-returns
 returns c =
-    law.end-left (c .before .before .before .before .before .args .draft .now) (c .before .before .before .before .before .args .tokens .now) (c .before .before .before .before .before .args .count) (c .before .before .before .before .before .args .room) (c .before .before .before .before .before .args .z) (c .before .if1 .taken) (c .place .ensures)
+    ends.end-left (c .before .before .before .before .before .args .draft .now) (c .before .before .before .before .before .args .tokens .now) (c .before .before .before .before .before .args .count) (c .before .before .before .before .before .args .room) (c .before .before .before .before .before .args .z) (c .before .if1 .taken) (c .place .ensures)
 
 cast-t9 : tie.Need-cast-t9
 cast-t9 c =
@@ -33,7 +35,7 @@ cast-t9 c =
 
 returns-2 : tie.Need-returns-2
 returns-2 c =
-    law.end-fault (c .before .before .before .before .before .before .before .args .draft .now) (c .before .before .before .before .before .before .before .args .tokens .now) (c .before .before .before .before .before .before .before .args .count) (c .before .before .before .before .before .before .before .args .room)
+    ends.end-fault (c .before .before .before .before .before .before .before .args .draft .now) (c .before .before .before .before .before .before .before .args .tokens .now) (c .before .before .before .before .before .before .before .args .count) (c .before .before .before .before .before .before .before .args .room)
     (c .before .before .before .before .before .before .before .args .z) (c .before .before .before .if1 .left) (c .before .if2 .taken)
 
 cast-records : tie.Need-cast-records
@@ -46,12 +48,12 @@ mul-if3 c =
 
 returns-3 : tie.Need-returns-3
 returns-3 c =
-    law.end-small (c .before .before .before .before .before .before .before .before .args .draft .now) (c .before .before .before .before .before .before .before .before .args .tokens .now) (c .before .before .before .before .before .before .before .before .args .count) (c .before .before .before .before .before .before .before .before .args .room)
+    ends.end-small (c .before .before .before .before .before .before .before .before .args .draft .now) (c .before .before .before .before .before .before .before .before .args .tokens .now) (c .before .before .before .before .before .before .before .before .args .count) (c .before .before .before .before .before .before .before .before .args .room)
     (c .before .before .before .before .before .before .before .before .args .z) (c .before .before .before .before .if1 .left) (c .before .before .if2 .left) (c .if3 .taken)
 
 returns-4 : tie.Need-returns-4
 returns-4 c =
-    law.end-all (c .before .before .before .before .before .before .before .before .args .draft .now) (c .before .before .before .before .before .before .before .before .args .tokens .now) (c .before .before .before .before .before .before .before .before .args .count) (c .before .before .before .before .before .before .before .before .args .room)
+    ends.end-all (c .before .before .before .before .before .before .before .before .args .draft .now) (c .before .before .before .before .before .before .before .before .args .tokens .now) (c .before .before .before .before .before .before .before .before .args .count) (c .before .before .before .before .before .before .before .before .args .room)
     (c .before .before .before .before .before .before .before .before .args .z) (c .before .before .before .before .if1 .left) (c .before .before .if2 .left) (c .if3 .left)
 
 pub end-spec : {M : Type 1} → statement M

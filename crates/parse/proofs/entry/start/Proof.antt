@@ -7,10 +7,12 @@ use borrow.Author.Needs.{needs}
 use native.Mathlib.Omega.{arith}
 use lib.ListN.{length, replicate, length-replicate}
 use Rattle.text.specs.Refusals as refusal
-use Rattle.grammar.specs.Entry.{oneFunction}
 use Rattle.parse.specs.Contract.{text}
-use Rattle.parse.specs.Entry.{ended, judged}
+use Rattle.parse.specs.Entry.{entryOf, ended, judged}
 use Rattle.parse.proofs.entry.Laws as law
+use Rattle.parse.proofs.entry.Ends as ends
+use Rattle.parse.specs.declared.Answer.the-variants.{Records, Refused}
+use Rattle.parse.proofs.token.Tokens.{length-text}
 use Rattle.parse.specs.declared.Answer.the-variants.{Records, Refused}
 use Rattle.parse.proofs.token.Tokens.{length-text}
 use Rattle.parse.proofs.entry.start.Statement.{statement}
@@ -25,7 +27,7 @@ token-requires c κs =
 
 returns : tie.Need-returns
 returns c =
-    law.starts-at (text (c .before .before .before .args .draft .now) (c .before .before .before .args .tokens .now) (c .before .before .before .args .count)) (c .token .ensures)
+    ends.starts-at (text (c .before .before .before .args .draft .now) (c .before .before .before .args .tokens .now) (c .before .before .before .args .count)) (c .token .ensures)
 
 pub start-spec : {M : Type 1} → statement M
 start-spec = tie.close (tie.spec token-requires returns)

@@ -1,0 +1,32 @@
+-- Made by tools/cycle.py from tools/parse_answers: the answers are what people read and edit.
+-- Assumes nothing.
+use mathlib.Core.Path.{_≡_, refl, sym, ap, _∙_}
+use mathlib.Core.List.{List, [], _∷_}
+use Prim.Native.Nat.{ℕ, _+_, _*_, _/_, _<_, _≤_}
+use borrow.Author.Needs.{needs}
+use native.Mathlib.Omega.{arith}
+use lib.ListN.{length, replicate, length-replicate}
+use Rattle.text.specs.Refusals as refusal
+use Rattle.parse.specs.Contract.{text}
+use Rattle.parse.specs.Entry.{entryOf, ended, judged}
+use Rattle.parse.proofs.entry.Laws as law
+use Rattle.parse.proofs.entry.Ends as ends
+use Rattle.parse.specs.declared.Answer.the-variants.{Records, Refused}
+use Rattle.parse.proofs.token.Tokens.{length-text}
+use Rattle.parse.specs.declared.Answer.the-variants.{Records, Refused}
+use Rattle.parse.proofs.token.Tokens.{length-text}
+use Rattle.parse.proofs.entry.too_long.Statement.{statement}
+use Rattle.parse.proofs.entry.too_long.Tie as tie
+use Rattle.parse.proofs.entry.too_long.Reads as reads
+use Rattle.parse.proofs.entry.too_long.Lts as lts
+
+returns : tie.Need-returns
+returns c =
+    ends.long-file (c .before .args .bytes) (c .if1 .taken)
+
+returns-2 : tie.Need-returns-2
+returns-2 c =
+    ends.long-function (c .before .args .bytes) (c .if1 .left)
+
+pub too-long-spec : {M : Type 1} → statement M
+too-long-spec = tie.close (tie.spec returns returns-2)

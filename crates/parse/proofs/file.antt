@@ -1,0 +1,3 @@
+-- The items of a file.
+pub mod Forms
+pub mod Loop
