@@ -6,7 +6,7 @@ use mathlib.Core.Option.{Option, none, some}
 use mathlib.Core.Path.{_≡_, refl, sym, ap, ap₂, subst, _∙_}
 use Prim.Native.Nat.{ℕ, zero, suc, _+_, _-_, _*_, _/_, _≤_, _<_, min}
 use native.Mathlib.Omega.{arith}
-use borrow.Author.Tests.{ltb-true, ltb-false, le-ltb}
+use borrow.Author.Tests.{ltb-false, le-ltb, lt-leb}
 use lib.Dec.{ltb}
 use lib.ListN.{length, getD, replicate, drop}
 use Rattle.text.specs.Same.{differ}
@@ -19,11 +19,12 @@ use Rattle.text.specs.Answers.{Answer, accepted, refused}
 use Rattle.text.specs.Refusals as refusal
 use Rattle.own.specs.Words.{recWords}
 use Rattle.own.specs.Tree.{classesOf}
-use Rattle.grammar.specs.Entry.{Entry}
+use Rattle.grammar.specs.Entry.{Entry, oneFunction, wholeFile}
 use Rattle.grammar.specs.shapes.WellShaped.{shapeOf}
 use Rattle.grammar.specs.answers.Answer.{toksOf, Reading, shaped, lexed, reading, fitted, answer, content, tokensRead, recordsIn, tokenBuffer, treeBuffer, recordsRead}
 use Rattle.grammar.specs.answers.Laws.{token-buffer-lexed, law-4-refused}
-use Rattle.parse.specs.Entry.{tooMany, readingOf, answerOf, treeOf}
+use Rattle.parse.specs.Contract.{u32Count}
+use Rattle.parse.specs.Entry.{entryOf, tooMany, tooLong, readingOf, answerOf, treeOf}
 
 abbrev lexing : Answer → Bool
 lexing (accepted n m) = true
@@ -57,6 +58,15 @@ lexed-fits l draft tw n e = go (ltb (l .bytes) (length draft)) e
     go true f = absurd (no-refusal f)
     go false f = fits l tw n (lexemes draft) f
 
+-- Then the draft is short, too.
+lexed-short : (l : Limits) (draft : List ℕ) (tw n : ℕ) → lexedOf l draft tw ≡ accepted n 0 → length draft ≤ l .bytes
+unfolding lexedOf
+lexed-short l draft tw n e = go (ltb (l .bytes) (length draft)) refl e
+  where
+    go : (b : Bool) → ltb (l .bytes) (length draft) ≡ b → cond b (refused refusal.TooLong (l .bytes)) (judged l tw (lexemes draft)) ≡ accepted n 0 → length draft ≤ l .bytes
+    go true q f = absurd (no-refusal f)
+    go false q f = ltb-false (l .bytes) (length draft) q
+
 read-again : (ts : List Token) (z : List ℕ) → tokensIn (length ts) (tokenWords ts ++ z) ≡ ts
 unfolding tokensIn tokenWords
 read-again [] z = refl
@@ -83,6 +93,14 @@ module _ (en : Entry) (draft words : List ℕ) (n rw : ℕ) (e : lexedOf draftLi
       let b = h .1 in
       ap₂ (λ (u v : Bool). u || v) (le-ltb (draftLimits .tokens) n (omega arith)) (le-ltb (length words) (tokWide * n) (omega arith))
 
+  not-long : tooLong en (length draft) ≡ false
+  unfolding tooLong
+  not-long = go en
+    where
+      go : (en : Entry) → tooLong en (length draft) ≡ false
+      go oneFunction = refl
+      go wholeFile = lt-leb u32Count (length draft) (omega (arith, lexed-short draftLimits draft (length words) n e))
+
   its-reading : reading en draftLimits draft (length words) ≡ readingOf en draft (tokensIn n words)
   unfolding reading readingOf
   its-reading =
@@ -96,13 +114,14 @@ module _ (en : Entry) (draft words : List ℕ) (n rw : ℕ) (e : lexedOf draftLi
   -- The parser's answer is the definition's,
   pub parsed-answer : answerOf en (draftLimits .tokens) draft words n rw ≡ answer en draftLimits draft (length words) rw
   unfolding answerOf
-  parsed-answer = ap (λ (b : Bool). cond b (refused refusal.TooMany 0) (fitted rw (readingOf en draft (tokensIn n words)))) not-many ∙ sym its-answer
+  parsed-answer =
+      ap₂ (λ (b c : Bool). cond b (refused refusal.TooMany 0) (cond c (refused refusal.TooLong 0) (fitted rw (readingOf en draft (tokensIn n words))))) not-many not-long ∙ sym its-answer
 
   -- and so are the words of the tree buffer.
   pub parsed-tree : treeOf en (draftLimits .tokens) draft words n rw ≡ treeBuffer en draftLimits draft (length words) rw
   unfolding treeOf treeBuffer recordsRead
   parsed-tree =
-      ap (λ (b : Bool). cond b (replicate rw 0) (content (fitted rw (readingOf en draft (tokensIn n words))) (recWords (recordsIn (readingOf en draft (tokensIn n words)))) rw)) not-many
+      ap₂ (λ (b c : Bool). cond b (replicate rw 0) (cond c (replicate rw 0) (content (fitted rw (readingOf en draft (tokensIn n words))) (recWords (recordsIn (readingOf en draft (tokensIn n words)))) rw))) not-many not-long
       ∙ ap₂ (λ (x : Answer) (r : Reading). content x (recWords (recordsIn r)) rw) (sym its-answer) (sym its-reading)
 
 module _ (en : Entry) where
@@ -133,3 +152,7 @@ lexed-long draft e f = ap (lexedOf draftLimits draft) e ∙ f
 
 pub buffer-long : (draft : List ℕ) {a b : ℕ} {words : List ℕ} → a ≡ b → words ≡ bufferOf draftLimits draft b → words ≡ bufferOf draftLimits draft a
 buffer-long draft e f = f ∙ sym (ap (bufferOf draftLimits draft) e)
+
+-- What is ensured at an entry is ensured at the one that the code names.
+pub at-entry : {f b : Bool} (P : Entry → Type 0) → f ≡ b → P (entryOf b) → P (entryOf f)
+at-entry P e p = subst (λ (c : Bool). P (entryOf c)) (sym e) p

@@ -1,4 +1,4 @@
--- A buffer of a line for each of 2,048 records has room for the listing of every draft, no more bytes are used than there are, and none only where it
+-- A buffer of a line for each of 2,049 records has room for the listing of every draft, no more bytes are used than there are, and none only where it
 -- does not fit.
 -- Assumes nothing.
 use mathlib.Core.Bool.{Bool, true, false, cond}
@@ -10,28 +10,23 @@ use native.Mathlib.Omega.{arith}
 use borrow.Author.Tests.{ltb-true, ltb-false, le-ltb}
 use lib.Dec.{ltb}
 use lib.ListN.{length}
-use Rattle.lexer.specs.Limits.{Limits, draftLimits}
-use Rattle.own.specs.Kinds as kind
-use Rattle.own.specs.Tree.{Node, Rec, records, classesOf}
+use Rattle.lexer.specs.Limits.{draftLimits}
+use Rattle.own.specs.Tree.{Rec}
 use Rattle.text.specs.Widths.{tokWide, recWide}
 use Rattle.text.specs.Refusals as refusal
-use Rattle.grammar.specs.Entry.{oneFunction}
+use Rattle.grammar.specs.Entry.{wholeFile}
 use Rattle.text.specs.Answers.{Answer, accepted, refused}
-use Rattle.grammar.specs.answers.Answer.{toksOf, treesOf, Reading, unread, read, reading, answer, fitted, recordsIn, recordsRead}
-use Rattle.grammar.specs.answers.Outcome.{Accepted}
+use Rattle.grammar.specs.answers.Answer.{Reading, unread, read, reading, answer, fitted, recordsIn, recordsRead}
 use Rattle.grammar.specs.answers.OutcomeLaws.{read-faultless}
 use Rattle.grammar.specs.answers.Laws.{law-1}
-use Rattle.grammar.specs.shapes.WellShapedLaws.{shape-exactly}
-use Rattle.grammar.specs.spelled.TreeTokens.{top-function}
 use Rattle.lines.specs.Lines.{lineBytes, lines, lines-length}
 use Rattle.grammar.specs.answers.Lines.{listed, listing}
-use Rattle.reader.specs.Listed.{listingOf, usedOf}
+use Rattle.reader.specs.Listed.{recordsMost, listingOf, usedOf}
 
--- As many records as there may be tokens,
+-- The bytes of as many lines as there may be records, the most that there can be.
 abbrev most : ℕ
-most = draftLimits .tokens
+most = recordsMost
 
--- and the bytes of as many lines, the most that there can be.
 abbrev pub enough : ℕ
 enough = lineBytes * most
 
@@ -52,7 +47,7 @@ lines-fit (read ts rs) = by-room (length ts) rs (ltb (recWide * most) (recWide *
 -- The listing of every draft fits,
 pub listing-fits : (draft : List ℕ) → length (listingOf draft) ≤ enough
 unfolding listing answer recordsRead
-listing-fits draft = lines-fit (reading oneFunction draftLimits draft (tokWide * most))
+listing-fits draft = lines-fit (reading wholeFile draftLimits draft (tokWide * draftLimits .tokens))
 
 -- so that a buffer of that many bytes or more has all of it;
 pub all-listed : (draft : List ℕ) (size : ℕ) → enough ≤ size → usedOf draft size ≡ length (listingOf draft)
@@ -71,34 +66,23 @@ pub used-within : (draft : List ℕ) {size n : ℕ} → n ≡ usedOf draft size 
 unfolding usedOf
 used-within draft {size} {n} e = let h = by-size (length (listingOf draft)) size (ltb size (length (listingOf draft))) refl in omega (arith, e, h)
 
--- An accepted draft has a record, that of its function,
-top-counts : (ns : List Node) → (n : Node) × (ns ≡ n ∷ []) × (n .kind ≡ kind.Function) → 1 ≤ length (records ns)
-top-counts ns t = subst (λ (k : List Node). 1 ≤ length (records k)) (sym (t .1)) (omega arith)
-
-some-record : {l : Limits} (draft : List ℕ) {tw rw n m : ℕ} → Accepted oneFunction l draft tw rw n m → 1 ≤ m
-some-record draft a =
-    let ts = toksOf draft (a .its-tokens) in
-    let f = shape-exactly oneFunction (classesOf ts) (a .shape) .1 (a .shaped .is-shape, a .shaped .its-yield) in
-    let h = top-counts (treesOf draft (a .its-tokens) (a .shape)) (top-function draft ts (a .shape) f) in
-    omega (arith, a .records-number)
-
-some-line : (draft : List ℕ) (tw rw : ℕ) (x : Answer) → answer oneFunction draftLimits draft tw rw ≡ x → 1 ≤ length (listed x (recordsRead oneFunction draftLimits draft tw))
+-- An accepted draft has a record, that of the whole file,
+some-line : (draft : List ℕ) (tw rw : ℕ) (x : Answer) → answer wholeFile draftLimits draft tw rw ≡ x → 1 ≤ length (listed x (recordsRead wholeFile draftLimits draft tw))
 unfolding recordsRead
 some-line draft tw rw (refused c p) e = omega arith
 some-line draft tw rw (accepted n m) e =
-    let a = law-1 oneFunction draftLimits draft tw rw n m .0 e in
-    let f = read-faultless oneFunction draftLimits draft tw rw (a .its-tokens) (a .shape) (a .shaped) (a .no-fault) in
-    let h = some-record draft a in
-    let k : length (recordsIn (reading oneFunction draftLimits draft tw)) ≡ m = ap (λ y. length (recordsIn y)) f ∙ sym (a .records-number) in
+    let a = law-1 wholeFile draftLimits draft tw rw n m .0 e in
+    let f = read-faultless wholeFile draftLimits draft tw rw (a .its-tokens) (a .shape) (a .shaped) (a .no-fault) in
+    let k = ap (λ y. length (recordsIn y)) f in
     omega arith
 
 -- so that the listing of every draft has a line,
 pub listing-some : (draft : List ℕ) → 0 < length (listingOf draft)
 unfolding listing
 listing-some draft =
-    let a = answer oneFunction draftLimits draft (tokWide * most) (recWide * most) in
-    let h = some-line draft (tokWide * most) (recWide * most) a refl in
-    let k = lines-length (listed a (recordsRead oneFunction draftLimits draft (tokWide * most))) in
+    let a = answer wholeFile draftLimits draft (tokWide * draftLimits .tokens) (recWide * most) in
+    let h = some-line draft (tokWide * draftLimits .tokens) (recWide * most) a refl in
+    let k = lines-length (listed a (recordsRead wholeFile draftLimits draft (tokWide * draftLimits .tokens))) in
     omega (arith, h, k)
 
 -- and no byte is used only when it does not fit: "It gets 0, all bytes zero, only when the lines do not fit."

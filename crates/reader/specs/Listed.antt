@@ -2,16 +2,20 @@
 -- bytes zero, only when the lines do not fit."
 -- Assumes nothing.
 use mathlib.Core.List.{List}
-use Prim.Native.Nat.{ℕ, _*_}
+use Prim.Native.Nat.{ℕ, _+_, _*_}
 use Rattle.lexer.specs.Limits.{draftLimits}
 use Rattle.text.specs.Widths.{tokWide, recWide}
 use Rattle.lines.specs.Written.{used, padded}
-use Rattle.grammar.specs.Entry.{oneFunction}
+use Rattle.grammar.specs.Entry.{wholeFile, over}
 use Rattle.grammar.specs.answers.Lines.{listing}
 
--- The listing of a draft, by a reader with buffers for as many tokens as a draft may have, and as many records.
+-- A file has no more records than it may have tokens, and that of the whole file.
+abbrev pub recordsMost : ℕ
+recordsMost = over wholeFile + draftLimits .tokens
+
+-- The listing of a draft, by a reader of files with buffers for as many tokens and records as a draft may have.
 abbrev pub listingOf : List ℕ → List ℕ
-listingOf draft = listing oneFunction draftLimits draft (tokWide * draftLimits .tokens) (recWide * draftLimits .tokens)
+listingOf draft = listing wholeFile draftLimits draft (tokWide * draftLimits .tokens) (recWide * recordsMost)
 
 -- The bytes used of a buffer of so many,
 unfoldable pub usedOf : List ℕ → ℕ → ℕ

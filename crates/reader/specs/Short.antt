@@ -1,4 +1,4 @@
--- A draft of few bytes has as few tokens and records, so that buffers for as many give the same listing as those for the limits.
+-- A draft of few bytes has as few tokens, and no more records but one, so that buffers for as many give the same listing as those for the limits.
 -- Assumes nothing.
 use mathlib.Core.Bool.{Bool, true, false, cond}
 use mathlib.Core.List.{List, [], _∷_}
@@ -13,12 +13,13 @@ use Rattle.lexer.specs.Limits.{Limits, limitsOf, draftLimits, tooDeep, room, no
 use Rattle.lexer.specs.Tokens.{Between, tokens-between}
 use Rattle.text.specs.Widths.{tokWide, recWide}
 use Rattle.text.specs.Refusals as refusal
-use Rattle.grammar.specs.Entry.{Entry, oneFunction, over}
+use Rattle.grammar.specs.Entry.{Entry, wholeFile, over}
 use Rattle.text.specs.Answers.{Answer, accepted, refused}
 use Rattle.grammar.specs.answers.Answer.{Reading, unread, read, lexed, reading, answer, fitted, recordsIn, recordsRead}
 use Rattle.grammar.specs.answers.Laws.{space-enough}
 use Rattle.lines.specs.Lines.{lines}
 use Rattle.grammar.specs.answers.Lines.{listed, listing}
+use Rattle.reader.specs.Listed.{recordsMost}
 
 few-tokens : (at m : ℕ) (ts : List Token) → at ≤ m → Between at m ts → at + length ts ≤ m
 few-tokens at m [] h b = omega arith
@@ -64,17 +65,18 @@ module _ (draft : List ℕ) (k : ℕ) (short : length draft ≤ k) where
             go true q = absurd (space-enough en (limitsOf bytes k) draft (tokWide * k) rw h 0
                 (ap (fitted rw) e ∙ ap (λ (b : Bool). cond b (refused refusal.NoRoom 0) (accepted (length ts) (length rs))) q))
 
--- So the listing is the same with buffers for k tokens and as many records.
+-- So the listing is the same with buffers for k tokens, and the records of as many.
 pub short-listing : (draft : List ℕ) (k : ℕ) → length draft ≤ k → k ≤ draftLimits .tokens
-    → listing oneFunction draftLimits draft (tokWide * k) (recWide * k) ≡ listing oneFunction draftLimits draft (tokWide * draftLimits .tokens) (recWide * draftLimits .tokens)
+    → listing wholeFile draftLimits draft (tokWide * k) (recWide * (over wholeFile + k)) ≡ listing wholeFile draftLimits draft (tokWide * draftLimits .tokens) (recWide * recordsMost)
 unfolding listing answer recordsRead room
 short-listing draft k short h =
-    let en = oneFunction in
+    let en = wholeFile in
     let bytes = draftLimits .bytes in
     let most = draftLimits .tokens in
+    let here = recWide * (over en + k) in
     let few = reading en (limitsOf bytes k) draft (tokWide * k) in
     let a : reading en draftLimits draft (tokWide * k) ≡ few = same-reading draft k short en bytes most (tokWide * k) k (tokWide * k) (omega (arith, h)) (omega arith) in
     let b : reading en draftLimits draft (tokWide * most) ≡ few = same-reading draft k short en bytes most (tokWide * most) k (tokWide * k) (omega (arith, h)) (omega arith) in
-    let c : fitted (recWide * most) few ≡ fitted (recWide * k) few = records-fit draft k short en bytes (recWide * most) (recWide * k) (omega (arith, h)) (omega arith) few refl in
-    ap (λ (r : Reading). lines (listed (fitted (recWide * k) r) (recordsIn r))) a
-    ∙ sym (ap (λ (r : Reading). lines (listed (fitted (recWide * most) r) (recordsIn r))) b ∙ ap (λ (x : Answer). lines (listed x (recordsIn few))) c)
+    let c : fitted (recWide * recordsMost) few ≡ fitted here few = records-fit draft k short en bytes (recWide * recordsMost) here (omega (arith, h)) (omega arith) few refl in
+    ap (λ (r : Reading). lines (listed (fitted here r) (recordsIn r))) a
+    ∙ sym (ap (λ (r : Reading). lines (listed (fitted (recWide * recordsMost) r) (recordsIn r))) b ∙ ap (λ (x : Answer). lines (listed x (recordsIn few))) c)

@@ -7,14 +7,17 @@ ghost use lib.ListN.{length};
 ghost use Rattle.lexer.specs.Limits.{draftLimits};
 ghost use Rattle.lines.specs.Lines.{lines};
 ghost use Rattle.lines.specs.Written.{used, padded};
-ghost use Rattle.grammar.specs.Entry.{oneFunction};
+ghost use Rattle.grammar.specs.Entry.{wholeFile};
 ghost use Rattle.text.specs.Answers.{refused};
 ghost use Rattle.grammar.specs.answers.Lines as spec;
 ghost use Rattle.reader.specs.Listed.{listingOf, usedOf, bytesOf};
 use crate::Reading;
 
-// Room for the lines of every draft, which has no more records than tokens.
-pub const LISTING_BYTES: usize = lines::LINE_BYTES * lexer::DRAFT_TOKENS;
+// A file has no more records than tokens but one, that of the whole file.
+const RECORDS_OVER: usize = 1;
+
+// Room for the lines of every draft.
+pub const LISTING_BYTES: usize = lines::LINE_BYTES * (lexer::DRAFT_TOKENS + RECORDS_OVER);
 
 // A draft of at most so many bytes is short: its tokens and records get smaller buffers.
 const SHORT_BYTES: usize = 512;
@@ -35,10 +38,10 @@ fn refusal(number: u32, place: usize, out: &mut [u8]) -> usize
 
 // Lists a draft by way of these buffers for its tokens and its tree.
 fn list_by(draft: &[u8], out: &mut [u8], tokens: &mut [u32], tree: &mut [u32]) -> usize
-    ensures used { λ r. ⌜ r ≡ used (spec.listing oneFunction draftLimits (now (draft .entry)) (length (now (tokens .entry))) (length (now (tree .entry)))) (length (now (out .entry))) ⌝ }
-    ensures bytes { λ _. ⌜ now (out .exit) ≡ padded (spec.listing oneFunction draftLimits (now (draft .entry)) (length (now (tokens .entry))) (length (now (tree .entry)))) (length (now (out .entry))) ⌝ }
+    ensures used { λ r. ⌜ r ≡ used (spec.listing wholeFile draftLimits (now (draft .entry)) (length (now (tokens .entry))) (length (now (tree .entry)))) (length (now (out .entry))) ⌝ }
+    ensures bytes { λ _. ⌜ now (out .exit) ≡ padded (spec.listing wholeFile draftLimits (now (draft .entry)) (length (now (tokens .entry))) (length (now (tree .entry)))) (length (now (out .entry))) ⌝ }
 {
-    let reading = crate::read(draft, tokens, tree);
+    let reading = crate::read_file(draft, tokens, tree);
     match reading {
         Reading::Accepted { tokens: _, records } => lines::list(tree, records, out),
         Reading::Refused { number, place } => refusal(number, place, out),
@@ -46,7 +49,7 @@ fn list_by(draft: &[u8], out: &mut [u8], tokens: &mut [u32], tree: &mut [u32]) -
 }
 
 // Lists a draft: its lines, zeros behind them; 0 and zeros alone if the buffer is too short for them. A short draft has no more tokens than
-// bytes, and no more records than tokens: smaller buffers give the same, and take less time to clear.
+// bytes, and no more records than tokens but one: smaller buffers give the same, and take less time to clear.
 #[no_mangle]
 pub extern "C" fn togmelic_list(draft: &[u8], out: &mut [u8]) -> usize
     ensures used { λ r. ⌜ r ≡ usedOf (now (draft .entry)) (length (now (out .entry))) ⌝ }
@@ -55,10 +58,10 @@ pub extern "C" fn togmelic_list(draft: &[u8], out: &mut [u8]) -> usize
 {
     if draft.len() <= SHORT_BYTES {
         let mut tokens = [0u32; text::TOKEN_WORDS * SHORT_BYTES];
-        let mut tree = [0u32; text::RECORD_WORDS * SHORT_BYTES];
+        let mut tree = [0u32; text::RECORD_WORDS * (SHORT_BYTES + RECORDS_OVER)];
         return list_by(draft, out, &mut tokens, &mut tree);
     }
     let mut tokens = [0u32; text::TOKEN_WORDS * lexer::DRAFT_TOKENS];
-    let mut tree = [0u32; text::RECORD_WORDS * lexer::DRAFT_TOKENS];
+    let mut tree = [0u32; text::RECORD_WORDS * (lexer::DRAFT_TOKENS + RECORDS_OVER)];
     list_by(draft, out, &mut tokens, &mut tree)
 }

@@ -6,7 +6,7 @@ use lib.ListN.{length, replicate}
 use Rattle.lexer.specs.Limits.{draftLimits}
 use Rattle.lexer.specs.Limits as lexer
 use Rattle.parse.specs.Entry as parser
-use Rattle.grammar.specs.Entry.{oneFunction}
+use Rattle.parse.specs.Entry.{entryOf, answerOf, treeOf}
 use Rattle.grammar.specs.answers.Answer.{answer, tokenBuffer, treeBuffer}
 use Rattle.text.specs.Answers.{values}
 use Rattle.grammar.specs.answers.Laws.{promised}
@@ -16,11 +16,11 @@ use Rattle.reader.proofs.parsed.Statement.{statement}
 use Rattle.reader.proofs.parsed.Tie as tie
 use Rattle.reader.proofs.parsed.Reads as reads
 use Rattle.reader.proofs.parsed.Lts as lts
-use Rattle.parse.proofs.parse.Reads as parse-reads
+use Rattle.reader.proofs.parse_as.Reads as parse-as-reads
 use Rattle.text.proofs.clear.Reads as clear-reads
 
-parse-requires : tie.Need-parse-requires
-parse-requires c κs =
+parse-as-requires : tie.Need-parse-as-requires
+parse-as-requires c κs =
     search needs
 
 enum-known-answer : tie.Need-enum-known-answer
@@ -45,16 +45,17 @@ same-length-2 c =
 
 returns : tie.Need-returns
 returns c =
+    let en = entryOf (c .before .before .before .before .before .before .before .before .before .before .before .args .file) in
     let d = c .before .before .before .before .before .before .before .before .before .before .before .args .draft .now in
     let w = c .before .before .before .before .before .before .before .before .before .before .before .args .tokens .now in
     let n = c .before .before .before .before .before .before .before .before .before .before .before .args .count in
     let z = length (c .before .before .before .before .before .before .before .before .before .before .before .args .tree .now) in
     let e = c .before .before .before .before .before .before .before .before .before .before .before .pre .0 in
     let b = c .before .before .before .before .before .before .before .before .before .before .before .pre .1 in
-    let p = c .before .before .before .before .before .parse .ensures .0 ∙ law.parsed-answer oneFunction d w n z e b in
-    let t = c .before .before .before .before .before .parse .ensures .1 ∙ law.parsed-tree oneFunction d w n z e b in
+    let p = c .before .before .before .before .before .parse-as .ensures .0 ∙ law.parsed-answer en d w n z e b in
+    let t = c .before .before .before .before .before .parse-as .ensures .1 ∙ law.parsed-tree en d w n z e b in
     let f = sym (ap (parser.meant n) (c .before .answer .given .1)) ∙ p in
-    (f, (law.accepted-tokens oneFunction d w z b (sym f), t))
+    (f, (law.accepted-tokens en d w z b (sym f), t))
 
 same-length-3 : tie.Need-same-length-3
 same-length-3 c =
@@ -66,17 +67,18 @@ same-length-4 c =
 
 returns-2 : tie.Need-returns-2
 returns-2 c =
+    let en = entryOf (c .before .before .before .before .before .before .before .before .before .before .before .before .before .before .before .args .file) in
     let d = c .before .before .before .before .before .before .before .before .before .before .before .before .before .before .before .args .draft .now in
     let w = c .before .before .before .before .before .before .before .before .before .before .before .before .before .before .before .args .tokens .now in
     let n = c .before .before .before .before .before .before .before .before .before .before .before .before .before .before .before .args .count in
     let z = length (c .before .before .before .before .before .before .before .before .before .before .before .before .before .before .before .args .tree .now) in
     let e = c .before .before .before .before .before .before .before .before .before .before .before .before .before .before .before .pre .0 in
     let b = c .before .before .before .before .before .before .before .before .before .before .before .before .before .before .before .pre .1 in
-    let p = c .before .before .before .before .before .before .before .before .before .parse .ensures .0 ∙ law.parsed-answer oneFunction d w n z e b in
-    let t = c .before .before .before .before .before .before .before .before .before .parse .ensures .1 ∙ law.parsed-tree oneFunction d w n z e b in
+    let p = c .before .before .before .before .before .before .before .before .before .parse-as .ensures .0 ∙ law.parsed-answer en d w n z e b in
+    let t = c .before .before .before .before .before .before .before .before .before .parse-as .ensures .1 ∙ law.parsed-tree en d w n z e b in
     let g = sym (ap (parser.meant n) (c .before .before .before .before .before .answer2 .given .1)) ∙ p in
-    (g, (c .before .before .clear .ensures ∙ law.refused-tokens oneFunction d (length w) z (sym g), t))
+    (g, (c .before .before .clear .ensures ∙ law.refused-tokens en d (length w) z (sym g), t))
 
 pub parsed-spec : {M : Type 1} → statement M
-parsed-spec = tie.close (tie.spec parse-requires enum-known-answer enum-known-answer-2 clear-requires same-length same-length-2 returns same-length-3
-    same-length-4 returns-2)
+parsed-spec = tie.close (tie.spec parse-as-requires enum-known-answer enum-known-answer-2 clear-requires same-length same-length-2 returns
+    same-length-3 same-length-4 returns-2)

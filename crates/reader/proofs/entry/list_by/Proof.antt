@@ -16,10 +16,10 @@ use Rattle.reader.proofs.entry.list_by.Reads as reads
 use Rattle.reader.proofs.entry.list_by.Lts as lts
 use Rattle.lines.proofs.list.Reads as list-reads
 use Rattle.reader.proofs.entry.refusal.Reads as refusal-reads
-use Rattle.reader.proofs.read.Reads as read-reads
+use Rattle.reader.proofs.read_file.Reads as read-file-reads
 
-read-requires : tie.Need-read-requires
-read-requires c κs =
+read-file-requires : tie.Need-read-file-requires
+read-file-requires c κs =
     search needs
 
 enum-known-reading : tie.Need-enum-known-reading
@@ -56,11 +56,11 @@ returns c =
     let x = length (c .before .before .before .before .before .before .before .before .before .before .before .before .before .before .before .before .before .before .before .args .tokens .now) in
     let y = length (c .before .before .before .before .before .before .before .before .before .before .before .before .before .before .before .before .before .before .before .args .tree .now) in
     let z = length (c .before .before .before .before .before .before .before .before .before .before .before .before .before .before .before .before .before .before .before .args .out .now) in
-    let t = c .before .before .before .before .before .before .before .before .before .before .before .before .read .last .1 .1 .0 in
+    let t = c .before .before .before .before .before .before .before .before .before .before .before .before .read-file .last .1 .1 .0 in
     let n = c .before .before .before .before .before .before .reading .given .0 .0 in
     let m = c .before .before .before .before .before .before .reading .given .0 .1 .0 in
-    let a = c .before .before .before .before .before .before .before .before .before .before .before .before .read .ensures .1 .1 .1 .1 .accepts n m .0 (ap meant (c .before .before .before .before .before .before .reading .given .1)) in
-    let e = c .before .before .before .before .before .before .before .before .before .before .before .before .read .ensures .1 .1 .1 .0 in
+    let a = c .before .before .before .before .before .before .before .before .before .before .before .before .read-file .ensures .1 .1 .1 .1 .accepts n m .0 (ap meant (c .before .before .before .before .before .before .reading .given .1)) in
+    let e = c .before .before .before .before .before .before .before .before .before .before .before .before .read-file .ensures .1 .1 .1 .0 in
     let l = all-listed t m z (law.records-fit d t x y n m a e) (c .before .before .list .ensures .0) (c .before .before .list .ensures .1) in
     law.accepted-is d t x y n m z (l .0) (l .1) a e
 
@@ -84,9 +84,9 @@ returns-2 c =
     let z = length (c .before .before .before .before .before .before .before .before .before .before .before .before .before .before .before .before .before .before .args .out .now) in
     let c2 = c .before .before .before .before .before .reading2 .given .0 .0 in
     let p = c .before .before .before .before .before .reading2 .given .0 .1 .0 in
-    let b = c .before .before .before .before .before .before .before .before .before .before .before .read .ensures .1 .1 .1 .1 .refuses c2 p .0 (ap meant (c .before .before .before .before .before .reading2 .given .1)) in
+    let b = c .before .before .before .before .before .before .before .before .before .before .before .read-file .ensures .1 .1 .1 .1 .refuses c2 p .0 (ap meant (c .before .before .before .before .before .reading2 .given .1)) in
     law.refused-is d x y c2 p z (c .before .before .refusal .ensures .0) (c .before .before .refusal .ensures .1) b
 
 pub list-by-spec : {M : Type 1} → statement M
-list-by-spec = tie.close (tie.spec read-requires enum-known-reading list-requires enum-known-reading-2 refusal-requires same-length same-length-2
+list-by-spec = tie.close (tie.spec read-file-requires enum-known-reading list-requires enum-known-reading-2 refusal-requires same-length same-length-2
     same-length-3 returns same-length-4 same-length-5 same-length-6 returns-2)
