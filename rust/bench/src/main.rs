@@ -53,7 +53,7 @@ fn run(words: &[&str]) -> Option<String> {
 
 /// How many tokens the draft has, if it is accepted.
 fn tokens(draft: &[u8]) -> Option<usize> {
-    let reading = partner::read(draft, 3 * 2_048, 6 * 2_048);
+    let reading = partner::read_with_room(draft, partner::Entry::File);
     reading.ok().map(|(tokens, _)| tokens.len())
 }
 

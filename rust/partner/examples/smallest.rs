@@ -1,6 +1,8 @@
-//! Seeks the smallest draft of each refusal: tries every draft of up to three bytes, then for 9 to 14 and
-//! 19 every token list that has the right shape so far and leaves room for what the number needs.
+//! Seeks the smallest draft of each refusal, read as a file: tries every draft of up to three bytes, then
+//! for 9 to 14 and 19 every token list that has the right shape so far and leaves room for what the number
+//! needs.
 
+use partner::{read_with_room, Entry};
 use std::collections::BTreeMap;
 
 /// The shortest spelling of a number that 64 bits do not hold.
@@ -8,8 +10,8 @@ const TOO_LARGE: &str = "18446744073709551616";
 /// Every token that a refusal tells apart, in its shortest spelling. `a` stands for all other names, `0`
 /// for all digits but those of a number that is too large, `true` for both booleans.
 #[rustfmt::skip]
-const TOKENS: [&str; 45] = [
-    "pub", "fn", "let", "match", "a", "0", "true", "(", ")", "[", "]", "{", "}", "<", ">", ",", ";",
+const TOKENS: [&str; 46] = [
+    "pub", "fn", "type", "let", "match", "a", "0", "true", "(", ")", "[", "]", "{", "}", "<", ">", ",", ";",
     ":", "::", "=", "->", "=>", "None", "Left", "Right", "Some", "Either", "Option", "List", "into",
     "fold", "array_fold", "for_while", "unwrap", "unwrap_left", "unwrap_right", "is_none",
     "raw_hash", "jet::a", "witness::a", "assert!", "panic!", "dbg!", "list!", TOO_LARGE,
@@ -33,9 +35,8 @@ fn try_bytes() {
 
 /// The number of the refusal, 0 for none.
 fn number(draft: &[u8]) -> u32 {
-    partner::read(draft, 6144, 12288)
-        .err()
-        .map_or(0, |(number, _)| number)
+    let refusal = read_with_room(draft, Entry::File).err();
+    refusal.map_or(0, |(number, _)| number)
 }
 
 /// One search: drafts of one number with at most so many bytes.
@@ -63,9 +64,10 @@ impl Search {
 
     fn visit(&mut self, tokens: &mut Vec<&'static str>, draft: &str) {
         self.tried += 1;
-        match partner::read(draft.as_bytes(), 6144, 12288) {
-            // Only the end is wrong: the tokens can be continued.
+        match read_with_room(draft.as_bytes(), Entry::File) {
+            // Only the end is wrong, or nothing is: the tokens can be continued.
             Err((8, place)) if place == draft.len() => self.extend(tokens, draft),
+            Ok(_) => self.extend(tokens, draft),
             Err((number, _)) if number == self.number => self.found.push(draft.to_string()),
             _ => {}
         }

@@ -6,14 +6,23 @@ const CASES: &str = include_str!("../listings.txt");
 
 /// Runs all cases, names those that fail, and answers how many did.
 pub fn failures() -> usize {
-    let example: Vec<String> = CASES
+    let examples = CASES.split("\nexample\n").skip(1);
+    let (run, failed) = examples
+        .map(run)
+        .fold((0, 0), |sum, more| (sum.0 + more.0, sum.1 + more.1));
+    println!("{run} listings, {failed} failed");
+    failed
+}
+
+/// Runs the cases of one example, whose text begins with its lines: how many there are, and how many fail.
+fn run(text: &str) -> (usize, usize) {
+    let example: Vec<String> = text
         .lines()
         .filter_map(|line| line.strip_prefix("    "))
         .map(|line| format!("{line}\n"))
         .collect();
     let cases = || {
-        CASES
-            .lines()
+        text.lines()
             .filter(|line| !line.starts_with('#'))
             .filter_map(|line| Some((line, line.split_once(" =")?)))
     };
@@ -25,8 +34,7 @@ pub fn failures() -> usize {
         fails
     });
     let failed = failed.count() + usize::from(!buffer_holds(&example));
-    println!("{} listings, {failed} failed", cases().count());
-    failed
+    (cases().count(), failed)
 }
 
 /// The example's lines with some replaced: a number from 1 and a text in quotes for each.
@@ -57,9 +65,9 @@ fn holds(result: &str, listing: &str) -> bool {
 
 /// 18 when the buffer is a word too short, but 16 and 17 before it.
 fn buffer_holds(example: &[String]) -> bool {
-    let listing = example.concat();
-    load(listing.as_bytes(), 54).is_ok()
-        && load(listing.as_bytes(), 53) == Err((18, 0))
+    let (listing, words) = (example.concat(), 6 * example.len());
+    load(listing.as_bytes(), words).is_ok()
+        && load(listing.as_bytes(), words - 1) == Err((18, 0))
         && load(b"", 0) == Err((17, 0))
         && load(b"\n", 0) == Err((16, 1))
 }

@@ -2,7 +2,7 @@
 
 use crate::lexer::lex;
 use crate::listing::listing;
-use crate::{read, Reading, TOKENS};
+use crate::{read, read_with_room, Entry, Reading};
 
 const CASES: &str = include_str!("../cases.txt");
 
@@ -20,7 +20,8 @@ pub fn failures() -> usize {
             expected.push('\n');
         }
         run += 1;
-        if !holds(result, &draft(text), &expected) {
+        let (entry, draft) = draft(text);
+        if !holds(result, entry, &draft, &expected) {
             failed += 1;
             eprintln!("fails: {line}");
         }
@@ -33,8 +34,8 @@ pub fn failures() -> usize {
     failed
 }
 
-/// Whether the draft has the stated result.
-fn holds(result: &str, draft: &[u8], expected: &str) -> bool {
+/// Whether the draft has the stated result at the entry.
+fn holds(result: &str, entry: Entry, draft: &[u8], expected: &str) -> bool {
     let (what, numbers) = result.split_once(' ').unwrap_or((result, ""));
     let numbers: Vec<u32> = numbers
         .split_whitespace()
@@ -43,9 +44,9 @@ fn holds(result: &str, draft: &[u8], expected: &str) -> bool {
     match what {
         "tokens" => lex(draft).is_ok_and(|tokens| tokens.iter().map(|t| t[0]).eq(numbers)),
         "listing" => listing(draft) == expected.as_bytes(),
-        "accept" => accepted(read(draft, 3 * TOKENS, 6 * TOKENS), &numbers),
+        "accept" => accepted(read_with_room(draft, entry), &numbers),
         "refuse" => {
-            let refusal = read(draft, 3 * TOKENS, 6 * TOKENS).err();
+            let refusal = read_with_room(draft, entry).err();
             refusal.is_some_and(|(number, place)| numbers == [number, place as u32])
         }
         _ => false,
@@ -64,12 +65,17 @@ fn accepted(reading: Reading, numbers: &[u32]) -> bool {
     found.starts_with(numbers)
 }
 
-/// Builds a draft from its quoted pieces.
-fn draft(text: &str) -> Vec<u8> {
+/// Builds a draft from its quoted pieces; its form says at which entry it is read.
+fn draft(text: &str) -> (Entry, Vec<u8>) {
     let mut pieces = text.split('"');
     let mut draft = String::new();
     let mut repeat = pieces.next().unwrap_or("");
     let in_body = repeat.starts_with("body");
+    let entry = if repeat.starts_with("file") {
+        Entry::File
+    } else {
+        Entry::Function
+    };
     while let (Some(piece), Some(after)) = (pieces.next(), pieces.next()) {
         let count = repeat
             .split(' ')
@@ -86,19 +92,28 @@ fn draft(text: &str) -> Vec<u8> {
     if in_body {
         draft = format!("fn f(){{{draft}}}");
     }
-    draft.into_bytes()
+    (entry, draft.into_bytes())
 }
 
 /// The words of both buffers count: one too few is refused, just enough is not. 6 goes before a
-/// length that is too large, and 15 after it.
+/// length that is too large, and 15 after it. A file's first record takes words of the tree too.
 fn buffers_hold() -> bool {
-    let draft = b"fn f(){}";
     let too_large = b"fn f()->[b;18446744073709551616]{}";
-    read(draft, 17, 18) == Err((6, 7))
-        && read(draft, 18, 17) == Err((15, 0))
-        && read(draft, 18, 18).is_ok()
-        && read(too_large, 35, 0) == Err((6, 33))
-        && read(too_large, 36, 0) == Err((19, 11))
+    let tokens_first = |entry| {
+        read(b"fn f(){}", entry, 17, 0) == Err((6, 7))
+            && read(too_large, entry, 35, 0) == Err((6, 33))
+            && read(too_large, entry, 36, 0) == Err((19, 11))
+    };
+    let just_enough = |entry, draft, tokens, tree| {
+        read(draft, entry, tokens, tree).is_ok()
+            && read(draft, entry, tokens, tree - 1) == Err((15, 0))
+    };
+    tokens_first(Entry::Function)
+        && tokens_first(Entry::File)
+        && just_enough(Entry::Function, b"fn f(){}", 18, 18)
+        && just_enough(Entry::File, b"fn f(){}", 18, 24)
+        && just_enough(Entry::File, b"type A=u8;", 15, 24)
+        && just_enough(Entry::File, b" ", 0, 6)
 }
 
 #[test]

@@ -1,6 +1,6 @@
-//! The listing: one line a record, or one line for a refusal.
+//! The listing of a file: one line a record, or one line for a refusal.
 
-use crate::{read, Record, TOKENS};
+use crate::{read_with_room, Entry, Record};
 
 /// Bytes of a line, its end among them.
 pub const LINE: usize = 36;
@@ -31,7 +31,7 @@ pub fn list_into(draft: &[u8], out: &mut [u8]) -> usize {
 
 /// The records of an accepted draft, or a refusal as the words of its line.
 fn lines(draft: &[u8]) -> Vec<Record> {
-    match read(draft, 3 * TOKENS, 6 * TOKENS) {
+    match read_with_room(draft, Entry::File) {
         Ok((_, records)) => records,
         Err((number, place)) => vec![[0, place as u32, place as u32, number, 0, 1]],
     }

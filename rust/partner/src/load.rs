@@ -12,8 +12,8 @@ use crate::{Record, Refusal};
 /// Loads a listing for a record buffer of that many words: its records, or the number and line of the refusal.
 pub fn load(listing: &[u8], words: usize) -> Result<Vec<Record>, Refusal> {
     let records = form::records(listing).map_err(|line| (refusal::BAD_LINE, line))?;
-    if !is_one_function(&records) {
-        return Err((refusal::NOT_ONE_FUNCTION, 0));
+    if !is_one_tree(&records) {
+        return Err((refusal::NOT_ONE_TREE, 0));
     }
     if words < 6 * records.len() {
         return Err((refusal::RECORDS_TOO_SMALL, 0));
@@ -21,11 +21,13 @@ pub fn load(listing: &[u8], words: usize) -> Result<Vec<Record>, Refusal> {
     Ok(records)
 }
 
-/// Whether the first record is a function that holds all the others, each as its parent's row of the table allows.
-fn is_one_function(records: &[Record]) -> bool {
+/// Whether the first record is a function or a file that holds all the others, each as its parent's row of the table
+/// allows.
+fn is_one_tree(records: &[Record]) -> bool {
+    let is_top = |top: &Record| matches!(top[0], record::FUNCTION | record::PROGRAM);
     records
         .first()
-        .is_some_and(|top| top[0] == record::FUNCTION && top[5] as usize == records.len())
+        .is_some_and(|top| is_top(top) && top[5] as usize == records.len())
         && (0..records.len()).all(|at| holds(records, at))
 }
 
@@ -34,7 +36,7 @@ fn is_one_function(records: &[Record]) -> bool {
 fn holds(records: &[Record], at: usize) -> bool {
     let parent = &records[at];
     children(records, at).is_some_and(|children| {
-        parent[1] < parent[2]
+        has_place(parent)
             && children.iter().all(|child| is_inside(child, parent))
             && fields::allowed(parent)
             && children::allowed(parent, &children)
@@ -52,6 +54,14 @@ fn children(records: &[Record], at: usize) -> Option<Vec<Record>> {
         next += size(next);
     }
     (next == end).then_some(children)
+}
+
+/// Only a file may be empty, and it starts at 0.
+fn has_place([kind, start, end, ..]: &Record) -> bool {
+    match *kind {
+        record::PROGRAM => *start == 0,
+        _ => start < end,
+    }
 }
 
 fn is_inside(child: &Record, parent: &Record) -> bool {

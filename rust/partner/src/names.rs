@@ -20,6 +20,11 @@ pub fn is_reserved(name: &[u8]) -> bool {
     FUNCTION_RESERVED.contains(&name)
 }
 
+/// `ALIAS_RESERVED`: every name that is a type already, with types of its own in angles or without.
+pub fn is_reserved_type(name: &[u8]) -> bool {
+    matches!(name, b"Either" | b"Option" | b"List") || named_type(name).0 != record::ALIAS
+}
+
 /// The call that a name begins when `::<` follows.
 pub fn generic_call(name: &[u8]) -> Option<u32> {
     match name {

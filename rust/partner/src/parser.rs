@@ -3,6 +3,7 @@
 mod calls;
 mod expressions;
 mod function;
+mod items;
 mod matches;
 mod patterns;
 mod statements;
@@ -10,11 +11,11 @@ mod types;
 
 use crate::kinds::{refusal, token};
 use crate::names::{decimal_value, halves};
-use crate::{Record, Refusal, Step, Token};
+use crate::{Entry, Record, Refusal, Step, Token};
 
 /// The tree of a well-shaped draft, or refusal 8, or the earliest of 9 to 14 and 19.
-pub fn parse(draft: &[u8], tokens: &[Token]) -> Step<Vec<Record>> {
-    let records = Vec::with_capacity(tokens.len());
+pub fn parse(draft: &[u8], tokens: &[Token], entry: Entry) -> Step<Vec<Record>> {
+    let records = Vec::with_capacity(tokens.len() + 1);
     let mut parser = Parser {
         draft,
         tokens,
@@ -22,7 +23,10 @@ pub fn parse(draft: &[u8], tokens: &[Token]) -> Step<Vec<Record>> {
         records,
         fault: None,
     };
-    parser.function()?;
+    match entry {
+        Entry::Function => parser.function()?,
+        Entry::File => parser.file()?,
+    }
     parser.take(token::END)?;
     match parser.fault {
         Some(refusal) => Err(refusal),

@@ -1,6 +1,6 @@
 //! Streams of drafts and of listings on standard input, with one answer after the other.
 
-use crate::{list_into, listing, load, read, write_lines};
+use crate::{list_into, listing, load, read, write_lines, Entry};
 
 /// The listings of a stream of drafts: length, line end, bytes, both ways.
 pub fn many(mut stream: &[u8]) -> Option<Vec<u8>> {
@@ -31,7 +31,7 @@ pub fn cases(mut stream: &[u8]) -> Option<Vec<u8>> {
         if take(&mut stream, 1)? != b"\n" {
             return None;
         }
-        let reading = match read(draft, token_words, tree_words) {
+        let reading = match read(draft, Entry::Function, token_words, tree_words) {
             Ok((tokens, records)) => {
                 format!("accepted {} {} owned zeros\n", tokens.len(), records.len())
             }

@@ -21,7 +21,8 @@ fn take_row(parent: &Record, rest: &mut Rest) -> Option<()> {
             rest.many(low >> 1, is_type)?;
             rest.one(|kind| kind == record::BLOCK)?;
         }
-        record::PARAMETER => {
+        record::PROGRAM => rest.all(is_item),
+        record::PARAMETER | record::TYPE_ITEM => {
             rest.one(is_name)?;
             rest.one(is_type)?;
         }
@@ -142,6 +143,10 @@ impl Rest<'_> {
         self.one(is_pattern)?;
         self.many(1, is_type)
     }
+}
+
+fn is_item(kind: u32) -> bool {
+    matches!(kind, record::FUNCTION | record::TYPE_ITEM)
 }
 
 fn is_name(kind: u32) -> bool {

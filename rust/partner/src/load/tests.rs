@@ -2,7 +2,7 @@
 
 use super::load;
 use crate::kinds::{arm, call, record};
-use crate::{listing, read, write_lines, Record};
+use crate::{listing, read_with_room, write_lines, Entry, Record};
 
 /// A record over its children; all places are alike, so each is inside the others.
 fn over(kind: u32, (low, high): (u32, u32), children: &[Vec<Record>]) -> Vec<Record> {
@@ -83,8 +83,60 @@ fn drafts_come_back() {
         "fn f(){fold::<g,2>(x);array_fold::<g,18446744073709551615>();for_while::<g>(x)}",
     ];
     for draft in drafts {
-        let (_, records) = read(draft.as_bytes(), 6144, 12288).expect("an accepted draft");
-        assert_eq!(load(&listing(draft.as_bytes()), 12288), Ok(records));
+        let records = |entry| {
+            let reading = read_with_room(draft.as_bytes(), entry);
+            reading.expect("an accepted draft").1
+        };
+        assert!(loads(&records(Entry::Function)));
+        let loaded = load(&listing(draft.as_bytes()), usize::MAX);
+        assert_eq!(loaded, Ok(records(Entry::File)));
+    }
+}
+
+#[test]
+fn files() {
+    let function = || node(record::FUNCTION, &[name(), leaf(record::BLOCK)]);
+    let item = |children: &[Vec<Record>]| node(record::TYPE_ITEM, children);
+    let named = || item(&[name(), alias()]);
+    let file = |children: &[Vec<Record>]| loads(&node(record::PROGRAM, children));
+    assert!(file(&[]) && file(&[function()]) && file(&[named()]));
+    assert!(file(&[named(), function(), function(), named(), named()]));
+    // No other child, and none of the two below another.
+    for wrong in [name(), alias(), value(), pattern(), leaf(record::PROGRAM)] {
+        assert!(!file(std::slice::from_ref(&wrong)) && !file(&[function(), wrong]));
+    }
+    assert!(!loads(&named()) && !loads_expression(named()) && !loads_expression(function()));
+    assert!(!loads_expression(leaf(record::PROGRAM)) && !loads_type(named()));
+    for wrong in [
+        item(&[]),
+        item(&[name()]),
+        item(&[alias()]),
+        item(&[alias(), name()]),
+        item(&[name(), value()]),
+        item(&[name(), alias(), alias()]),
+        over(record::TYPE_ITEM, (1, 0), &[name(), alias()]),
+        over(record::TYPE_ITEM, (0, 1), &[name(), alias()]),
+    ] {
+        assert!(!file(&[wrong]));
+    }
+}
+
+/// A file begins at 0 and may end there; a function, and what is in a file, may not be empty.
+#[test]
+fn places_of_tops() {
+    for (start, end) in (0..3).flat_map(|start| (0..3).map(move |end| (start, end))) {
+        assert_eq!(loads(&[[record::PROGRAM, start, end, 0, 0, 1]]), start == 0);
+        let mut function = node(record::FUNCTION, &[name(), leaf(record::BLOCK)]);
+        (function[0][1], function[0][2]) = (start, end);
+        // The others have the place from 0 to 1.
+        assert_eq!(loads(&function), start == 0 && end > 0);
+        let mut file = node(record::PROGRAM, &[function]);
+        assert_eq!(loads(&file), start == 0 && end == 1);
+        (file[0][1], file[0][2]) = (start, end);
+        assert_eq!(loads(&file), start == 0 && end > 0);
+    }
+    for numbers in [(1, 0), (0, 1)] {
+        assert!(!loads(&over(record::PROGRAM, numbers, &[])));
     }
 }
 
