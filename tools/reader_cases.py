@@ -3,58 +3,21 @@
 
 A case: a line with the words of the token buffer, the words of the tree buffer, the bytes of the byte buffer and the bytes of the
 draft; then the draft and a line end.
+Answered are the draft read as one function, the draft read as a file, and its listing.
 --partner PATH: also writes stdout, the answers of the partner's program, and sees that every record kind, call and refusal is there, and that the
 partner says what is written here from the papers, where that is.
 --check: exit 1 if a file differs.
 """
 import argparse, pathlib, random, re, subprocess, sys
 
+import file_cases
+from draft_cases import HEAD, LINE, OVER, TOKENS, TREE, Cases, body
+
 ROOT = pathlib.Path(__file__).resolve().parent.parent
 PARTNER = ROOT / "rust/partner"
-# Three words for each of 2,048 tokens, six words for as many records, 36 bytes for each of them.
-TOKENS, TREE, BYTES = 6144, 12288, 73728
-LINE = 36
-HEAD = "fn f()"
-
-
-def body(text):
-    """The text in braces after the head; `~` is the fat arrow."""
-    return HEAD + "{" + text + "}"
-
-
-# The first number that 64 bits do not hold.
-OVER = 2 ** 64
 # Small drafts: one that is accepted, one with a refusal 9, one with a refusal 8, one with a refusal 19. And one whose arms are exchanged.
 SMALL, WRONG_BOUND, WRONG_SHAPE, WRONG_LENGTH = body(""), body("fold::<g,3>(x)"), body("1 2"), f"{HEAD}->[b;{OVER}]{{}}"
 EXCHANGED = body("match x{Some(a:u1)~{1},None~{2}}")
-
-
-class Cases:
-    def __init__(self):
-        # `said` has what the answer of a case must hold.
-        self.count, self.parts, self.said = 0, [], {}
-
-    def add(self, draft, tokens=TOKENS, tree=TREE, out=BYTES):
-        if isinstance(draft, str):
-            draft = draft.replace("~", "=>").encode()
-        self.parts.append(b"%d %d %d %d\n%s\n" % (tokens, tree, out, len(draft), draft))
-        self.count += 1
-
-    def add_refused(self, number, draft):
-        """A draft that is refused with that number, at the mark `^`."""
-        self.said[self.count] = f"refused {number} {draft.replace('~', '=>').index('^')} "
-        self.add(draft.replace("^", ""))
-
-    def add_array(self, draft, number):
-        """A draft that is accepted, with an array type of that length over one record, whose place is from mark `^` to mark `^`."""
-        before, inside, _ = draft.replace("~", "=>").split("^")
-        start, end = len(before), len(before) + len(inside)
-        self.said[self.count] = f"0B {start:04X} {end:04X} {number % 2 ** 32:08X} {number >> 32:08X} 0002\n"
-        self.add(draft.replace("^", ""))
-
-    def add_bodies(self, *texts, **buffers):
-        for text in texts:
-            self.add(body(text), **buffers)
 
 
 def known_drafts():
@@ -70,7 +33,7 @@ def known_drafts():
 
 def add_bytes_of_drafts(cases):
     """16,384 bytes and one more; a refusal at the length; refusal 1 before those of the bytes. One line is enough for each."""
-    cases.add("fn " + 16377 * "a" + "(){}", out=3 * LINE)
+    cases.add("fn " + 16377 * "a" + "(){}", out=4 * LINE)
     for draft in ("fn " + 16378 * "a" + "(){}", HEAD + "{" + 16376 * " " + "}\n", HEAD + 16378 * " "):
         cases.add(draft, out=LINE)
     cases.add(b"\x80" + 16383 * b" ", out=LINE)
@@ -126,7 +89,7 @@ def add_words_lent(cases):
             for records in (0, tree - 1, tree):
                 cases.add(draft, words, records, LINE)
     # Arms that are exchanged in a tree buffer with no room to spare.
-    for words in range(66, 83):
+    for words in range(66, 89):
         cases.add(EXCHANGED, TOKENS, words, 0)
     # Buffers over every limit.
     cases.add(SMALL, 8192, 16384, 80000)
@@ -134,7 +97,7 @@ def add_words_lent(cases):
 
 def add_bytes_lent(cases):
     """Byte buffers of no bytes, around each line, and of more than any draft needs."""
-    for draft, lines in ((SMALL, 3), (EXCHANGED, 13), (WRONG_BOUND, 1), (WRONG_SHAPE, 1), (WRONG_LENGTH, 1)):
+    for draft, lines in ((SMALL, 4), (EXCHANGED, 14), (WRONG_BOUND, 1), (WRONG_SHAPE, 1), (WRONG_LENGTH, 1)):
         for out in [0, 1, 80000] + [LINE * line + step for line in range(1, lines + 2) for step in (-1, 0, 1)]:
             cases.add(draft, out=out)
 
@@ -210,7 +173,7 @@ def add_enum_arms(cases):
 
 
 def add_smallest(cases):
-    """The smallest draft of each refusal 1 to 15, and of 19."""
+    """The smallest draft of each refusal 1 to 15, and of 19: of one function, and below of a file where that is another."""
     cases.add(16385 * " ", out=LINE)
     for draft in (b"\x80", b"-", b"/*", b"simc"):
         cases.add(draft)
@@ -221,6 +184,10 @@ def add_smallest(cases):
     cases.add_bodies("array_fold::<f,0>()", "match a{}", "match a{None~{}A::B~{}}", "match a{None~{}}", "match a{None~{}None~{}}")
     cases.add(SMALL, tree=17)
     cases.add(WRONG_LENGTH)
+    cases.add_refused(8, "^;")
+    cases.add_refused(9, "type a=List<b,^0>;", ["file"])
+    cases.add("", tree=5, said=["function refused 8 0 zeros\n", "file refused 15 0 zeros\n"])
+    cases.add_refused(19, f"type a=[b;^{OVER}];", ["file"])
 
 
 def add_differences(cases):
@@ -231,6 +198,8 @@ def add_differences(cases):
         cases.add(draft)
     cases.add(";", tokens=2)
     cases.add_bodies("fold(x)", "assert(x)")
+    for draft in ("pub ^type A=b;", "^use a::b;", "^mod m{}", "^enum E{}", "type ^Either=b;"):
+        cases.add_refused(8, draft, ["file"])
 
 
 def add_built_in_arms(cases):
@@ -343,7 +312,7 @@ def random_drafts(seed, count, kind, longest):
 
 def add_random(cases):
     """A sample of random drafts of each kind, and some with buffers that may be too short."""
-    for kind, count in (("shaped", 150), ("damaged", 80), ("tokens", 80)):
+    for kind, count in (("shaped", 150), ("damaged", 80), ("tokens", 80), ("files", 40), ("damaged-files", 40)):
         for draft in random_drafts(11, count, kind, 2000):
             cases.add(draft)
     rng = random.Random(12)
@@ -354,7 +323,7 @@ def add_random(cases):
 SECTIONS = (
     add_bytes_of_drafts, add_tokens, add_brackets, add_matches, add_words_lent, add_bytes_lent, add_functions, add_types, add_statements,
     add_expressions, add_calls, add_arms, add_enum_arms, add_smallest, add_differences, add_built_in_arms, add_orders, add_lengths, add_faults,
-    add_wrong_shapes, add_random,
+    add_wrong_shapes, add_random, *file_cases.SECTIONS,
 )
 
 
@@ -369,18 +338,22 @@ def all_cases():
 
 
 def missing(answers):
-    """The record kinds, calls and refusals that no answer has."""
+    """The record kinds, calls and refusals of each entry that no answer has."""
     records = {tuple(int(word, 16) for word in line.split()) for line in answers.splitlines() if re.match(r"[0-9A-F]{2} ", line)}
     kinds, calls = {record[0] for record in records}, {record[3] for record in records if record[0] == 39}
-    refusals = {int(number) for number in re.findall(r"^refused (\d+)", answers, re.M)}
-    wanted = (("kind", kinds, range(1, 41)), ("call", calls, range(1, 15)), ("refusal", refusals, [*range(1, 16), 19]))
+    wanted = [("kind", kinds, range(1, 43)), ("call", calls, range(1, 15))]
+    for entry in ("function", "file"):
+        refusals = {int(number) for number in re.findall(rf"^{entry} refused (\d+)", answers, re.M)}
+        wanted.append((f"{entry} with refusal", refusals, [*range(1, 16), 19]))
     return [f"{name} {number}" for name, found, numbers in wanted for number in numbers if number not in found]
 
 
 def differing(cases, answers):
-    """The cases whose answer is not what the papers say."""
-    each = re.split(r"^(?=accepted |refused )", answers, flags=re.M)[1:]
-    return [f"{cases.parts[at]} is not answered with {said!r}" for at, said in cases.said.items() if said not in each[at]]
+    """The cases whose answer is not what the papers say; and those where the records of one function are not those of its file behind the first."""
+    each = re.split(r"^(?=function )", answers, flags=re.M)[1:]
+    wrong = [f"{part} is not answered with {text!r}" for part, answer, said in zip(cases.parts, each, cases.said, strict=True) for text in said
+             if "\n" + text not in "\n" + answer]
+    return wrong + [f"{part} is not the same at both entries" for part, answer in zip(cases.parts, each) if "NOT" in answer]
 
 
 def main():
@@ -401,7 +374,7 @@ def main():
             path.write_bytes(content)
         elif path.read_bytes() != content:
             bad.append(f"crates/reader_cases/{name} is not what tools/reader_cases.py writes")
-    print(*bad, f"{cases.count} cases", sep="\n")
+    print(*bad, f"{len(cases.parts)} cases", sep="\n")
     sys.exit(bool(bad))
 
 

@@ -38,9 +38,9 @@ def draft_fault(number, found, draft):
 
 
 def answers():
-    """The answer to each case, by the words of its two buffers and its draft."""
+    """The answer of `read` to each case, by the words of its two buffers and its draft."""
     stream, found = (CASES / "stdin").read_bytes(), {}
-    results = re.findall(rb"^(?:accepted|refused) .*$", (CASES / "stdout").read_bytes(), re.M)
+    results = re.findall(rb"^function (.*)$", (CASES / "stdout").read_bytes(), re.M)
     for result in results:
         sizes, _, stream = stream.partition(b"\n")
         tokens, tree, _, length = map(int, sizes.split())

@@ -2,9 +2,11 @@
 """Random escrow drafts as a stream of cases: a decimal length, a line end, that many bytes.
 
 Use: drafts.py SEED COUNT KIND, where KIND is
-  shaped   drafts written from the grammar, some with numbers, arms or limits that are refused
-  damaged  shaped drafts with a token dropped, doubled, swapped or replaced, or a byte changed
-  tokens   strings of lexemes, each one that may follow the last, now and then any other
+  shaped         functions written from the grammar, some with numbers, arms or limits that are refused
+  damaged        shaped drafts with a token dropped, doubled, swapped or replaced, or a byte changed
+  tokens         strings of lexemes, each one that may follow the last, now and then any other
+  files          files of 0 to 30 functions and types, some with numbers or arms that are refused
+  damaged-files  such files, damaged in the same ways
 """
 
 import random
@@ -19,6 +21,7 @@ dbg raw_hash""".split()
 KEYWORDS = "pub use as fn let type mod const match enum crate true false".split()
 PLAIN = "a b x y foo bar_1 _ _z Z9 f g main list jet witness param u3 u512 Action".split()
 TELLING = "Left Right Some None Either Option List bool".split() + UNSIGNED[:4] + BUILTINS[:5]
+TYPE_NAMES = "Either Option List bool".split() + UNSIGNED + BUILTINS
 BOUNDS = ["2", "4", "1_6", "0256", "2_", "9223372036854775808", "1024"]
 WRONG_BOUNDS = ["0", "1", "3", "6", "9223372036854775807", "9223372036854775809",
                 "18446744073709551615", "18446744073709551616", "99999999999999999999999"]
@@ -58,6 +61,13 @@ class Shaped:
             return self.rng.choice(PLAIN)
         return self.rng.choice(TELLING if share < 0.9 else RESERVED)
 
+    def name_but(self, *others):
+        """A name that is none of the others."""
+        while True:
+            name = self.name()
+            if name not in others:
+                return name
+
     def function_name(self):
         return self.rng.choice(TELLING if self.chance(0.2) else PLAIN)
 
@@ -81,6 +91,13 @@ class Shaped:
             self.put("->")
             self.type()
         self.block(most=6)
+
+    def item(self):
+        if self.chance(0.5):
+            return self.function()
+        self.put("type", self.name_but(*TYPE_NAMES), "=")
+        self.type()
+        self.put(";")
 
     def parameter(self):
         self.put(self.name(), ":")
@@ -158,10 +175,7 @@ class Shaped:
                          self.call, self.match, self.block])()
 
     def variable(self):
-        while True:
-            name = self.name()
-            if name != "None":
-                return name
+        return self.name_but("None")
 
     def atom(self):
         values = ["None", self.variable(), "false", "true"] + LITERALS[:7]
@@ -293,6 +307,16 @@ def shaped(rng):
     return draft.out
 
 
+def filed(rng):
+    """Lexemes of a file; where there are many items, they are short."""
+    count = rng.choice([0, 1, 1, 2, 2, 3, 4, 6, rng.randint(7, 30)])
+    file = Shaped(rng, 0, rng.choice([0, 0, 0, 0, 0.15, 0.5]))
+    for _ in range(count):
+        file.left = rng.choice([2, 5, 10, 15, 120 // count])
+        file.item()
+    return file.out
+
+
 def is_wordy(text):
     return text.isalnum() or text in "_!"
 
@@ -328,8 +352,7 @@ def any_lexeme(rng):
     return rng.choice(group)
 
 
-def damaged(rng):
-    lexemes = shaped(rng)
+def damaged(rng, lexemes):
     for _ in range(rng.choice([1, 1, 1, 2])):
         place = rng.randrange(max(1, len(lexemes)))
         damage = rng.randint(0, 4)
@@ -394,8 +417,11 @@ def closing(lexemes):
 def main():
     seed, count, kind = int(sys.argv[1]), int(sys.argv[2]), sys.argv[3]
     rng, after = random.Random(f"{seed} {kind}"), followers()
-    kinds = {"shaped": lambda: spaced(rng, shaped(rng)), "damaged": lambda: damaged(rng),
-             "tokens": lambda: token_string(rng, after)}
+    kinds = {"shaped": lambda: spaced(rng, shaped(rng)),
+             "damaged": lambda: damaged(rng, shaped(rng)),
+             "tokens": lambda: token_string(rng, after),
+             "files": lambda: spaced(rng, filed(rng)),
+             "damaged-files": lambda: damaged(rng, filed(rng))}
     for _ in range(count):
         draft = kinds[kind]()
         sys.stdout.buffer.write(b"%d\n%s" % (len(draft), draft))

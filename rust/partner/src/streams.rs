@@ -1,6 +1,6 @@
 //! Streams of drafts and of listings on standard input, with one answer after the other.
 
-use crate::{list_into, listing, load, read, write_lines, Entry};
+use crate::{list_into, listing, load, read, write_lines, Entry, Reading};
 
 /// The listings of a stream of drafts: length, line end, bytes, both ways.
 pub fn many(mut stream: &[u8]) -> Option<Vec<u8>> {
@@ -22,7 +22,8 @@ pub fn next_draft<'a>(stream: &mut &'a [u8]) -> Option<&'a [u8]> {
 
 /// The answers to a stream of cases. A case is a line of four numbers, the words of the token
 /// buffer, the words of the tree buffer, the bytes of the byte buffer and the bytes of the draft;
-/// then the draft and a line end.
+/// then the draft and a line end. Answered are both entries, the draft read as one function and as a
+/// file, and the listing.
 pub fn cases(mut stream: &[u8]) -> Option<Vec<u8>> {
     let mut answers = Vec::new();
     while !stream.is_empty() {
@@ -31,19 +32,37 @@ pub fn cases(mut stream: &[u8]) -> Option<Vec<u8>> {
         if take(&mut stream, 1)? != b"\n" {
             return None;
         }
-        let reading = match read(draft, Entry::Function, token_words, tree_words) {
-            Ok((tokens, records)) => {
-                format!("accepted {} {} owned zeros\n", tokens.len(), records.len())
-            }
-            Err((number, place)) => format!("refused {number} {place} zeros\n"),
-        };
+        let function = read(draft, Entry::Function, token_words, tree_words);
+        let file = read(draft, Entry::File, token_words, tree_words);
         let mut out = vec![0; room];
         let used = list_into(draft, &mut out);
-        answers.extend_from_slice(reading.as_bytes());
-        answers.extend_from_slice(format!("listed {used} zeros\n").as_bytes());
+        let lines = [
+            format!("function {}\n", answer(&function)),
+            format!("file {}{}\n", answer(&file), sameness(&function, &file)),
+            format!("listed {used} zeros\n"),
+        ];
+        answers.extend_from_slice(lines.concat().as_bytes());
         answers.extend_from_slice(&out[..used]);
     }
     Some(answers)
+}
+
+fn answer(reading: &Reading) -> String {
+    match reading {
+        Ok((tokens, records)) => {
+            format!("accepted {} {} owned zeros", tokens.len(), records.len())
+        }
+        Err((number, place)) => format!("refused {number} {place} zeros"),
+    }
+}
+
+/// Where both entries accept: whether the file's records behind its first are the function's.
+fn sameness(function: &Reading, file: &Reading) -> &'static str {
+    match (function, file) {
+        (Ok((_, function)), Ok((_, file))) if file[1..] == *function => " same",
+        (Ok(_), Ok(_)) => " NOT THE SAME",
+        _ => "",
+    }
 }
 
 /// The answers to a stream of listings. A case is a line of two numbers, the words of the record
