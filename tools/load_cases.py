@@ -1,8 +1,8 @@
 #!/usr/bin/env python3
-"""Writes crates/load_cases/stdin and stdout: listings, each with the words of the buffer that is lent for it, and the answers that document 02, order 1,
-asks for.
+"""Writes crates/load_cases/stdin and stdout: listings, each with the words of the buffer that is lent for it, and the answers that document 02, orders 1
+and 3, asks for.
 
-A listing is built here from a tree of records by document 01's kinds table, or from such a listing by one change. Its answer is what the sentence says
+A listing is built here from a tree of records by the kinds table, or from such a listing by one change. Its answer is what the sentence says
 under which the case stands; no program is asked for it.
 A case: a line with the words of the buffer and the bytes of the listing, one space between; then the listing and a line end.
 --check: exit 1 if a file differs. --partner PATH: exit 1 if the partner's program answers a case otherwise. --list: how many cases each sentence has.
@@ -12,7 +12,7 @@ import argparse, itertools, pathlib, subprocess, sys
 from record_trees import *
 
 CRATE = pathlib.Path(__file__).resolve().parent.parent / "crates/load_cases"
-BAD_LINE, NO_FUNCTION, NO_ROOM = 16, 17, 18
+BAD_LINE, NOT_ONE_TREE, NO_ROOM = 16, 17, 18
 
 
 class Cases:
@@ -32,9 +32,9 @@ class Cases:
             self.add(lines(records), WORDS * len(records) + more, f"records {len(records)} zeros same\n{words}")
 
     def refuses(self, *trees):
-        """Each is in form, but no function; the buffer would be long enough."""
+        """Each is in form, but neither a function nor a file; the buffer would be long enough."""
         for tree in trees:
-            self.refuse(NO_FUNCTION, 0, lines(rows(tree)), WORDS * len(rows(tree)))
+            self.refuse(NOT_ONE_TREE, 0, lines(rows(tree)), WORDS * len(rows(tree)))
 
     def refuse(self, number, line, listing, words=60):
         self.add(listing, words, f"refused {number} {line} zeros\n")
@@ -207,13 +207,14 @@ def add_calls(cases):
 
 def add_tops(cases):
     """17: "a listing whose records form one function": no line, a refusal's line, two functions, another top, kinds that the table has not."""
-    cases.refuse(NO_FUNCTION, 0, b"")
-    cases.refuse(NO_FUNCTION, 0, b"00 000B 000B 00000008 00000000 0001\n")
+    cases.refuse(NOT_ONE_TREE, 0, b"")
+    cases.refuse(NOT_ONE_TREE, 0, b"00 000B 000B 00000008 00000000 0001\n")
     cases.refuses(function().records() + function().records(), function().records() + VALUE.records(), VALUE, EMPTY, function().records()[1:])
-    for kind in (0, 41, 255):
+    # Kinds 41 and 42 have other children.
+    for kind in (0, 41, 42, 43, 255):
         cases.refuses(changed(function(), 0, KIND, kind), changed(value(VALUE), 3, KIND, kind))
     for count in range(1, 9):
-        cases.refuse(NO_FUNCTION, 0, PAPER[:count * LINE])
+        cases.refuse(NOT_ONE_TREE, 0, PAPER[:count * LINE])
 
 
 def add_sizes(cases):
@@ -264,10 +265,88 @@ def add_rooms(cases):
         cases.refuse(NO_ROOM, 0, PAPER, words)
     cases.refuse(NO_ROOM, 0, THREE, 17)
     for words in (0, 1, 17):
-        cases.refuse(NO_FUNCTION, 0, b"", words)
-        cases.refuse(NO_FUNCTION, 0, PAPER[LINE:], words)
+        cases.refuse(NOT_ONE_TREE, 0, b"", words)
+        cases.refuse(NOT_ONE_TREE, 0, PAPER[LINE:], words)
         cases.refuse(BAD_LINE, 9, PAPER[:-1], words)
         cases.refuse(BAD_LINE, 3, lines(VALUE.records()) + lines(VALUE.records()) + b"\n", words)
+
+
+def add_programs(cases):
+    """Order 3: "kind 41, a program, with [..] the items as children"; "any number of functions and of `type` items"."""
+    for count in range(4):
+        cases.loads(*(program(*items) for items in itertools.product((function(), NAMED), repeat=count)))
+    cases.loads(program(*15 * [NAMED, function(VALUE)]), program(*30 * [NAMED]), program(function(low=3, parameters=[PARAMETER], result=[TYPE])),
+                program(value(Node("match", VALUE, arm(FALSE), arm(TRUE))), NAMED))
+    others = (NAME, PARAMETER, TYPE, Node("tuple type", TYPE, TYPE), PATTERN, LET, EMPTY, VALUE, arm(NONE), enum_arm(), number(2), program(),
+              program(function()))
+    for other in others:
+        cases.refuses(program(other), program(function(), other), program(other, NAMED))
+    # What is wrong inside an item is wrong in a file too.
+    for wrong in (function(last=1), function(low=2), value(Node("match", VALUE, arm(TRUE), arm(FALSE))), result(Node("list type", TYPE, **wide(3)))):
+        cases.refuses(program(wrong), program(NAMED, wrong, NAMED))
+    cases.refuses(program(low=1), program(high=1), program(function(), low=1), program(NAMED, high=1))
+
+
+def add_type_items(cases):
+    """Order 3: "Kind 42 is a type item with a name and a type"; low and high are 0."""
+    types = [*(Node(kind) for kind in PLAIN_TYPES), Node("builtin", low=23), Node("unsigned", low=256), Node("either", TYPE, TYPE), Node("option", TYPE),
+             Node("tuple type"), Node("tuple type", TYPE, TYPE), Node("array type", TYPE), Node("array type", TYPE, **wide(LARGEST)),
+             Node("list type", TYPE, **wide(2 ** 63))]
+    cases.loads(*(program(Node("type item", NAME, found)) for found in types), program(*(Node("type item", NAME, found) for found in types)))
+    for children in ((), (NAME,), (TYPE,), (TYPE, NAME), (NAME, NAME), (TYPE, TYPE), (NAME, TYPE, TYPE), (NAME, NAME, TYPE), (NAME, VALUE),
+                     (NAME, PATTERN), (PATTERN, TYPE), (VALUE, TYPE), (NAME, PARAMETER), (NAME, EMPTY), (NAME, TYPE, EMPTY), (NAME, function()),
+                     (NAME, NAMED), (NAME, program()), (NAMED,)):
+        cases.refuses(program(Node("type item", *children)), program(function(), Node("type item", *children)))
+    for fields in ({"low": 1}, {"high": 1}):
+        cases.refuses(program(Node("type item", NAME, TYPE, **fields)))
+    for wrong in (Node("unsigned", low=3), Node("builtin", low=24), Node("either", TYPE), Node("list type", TYPE, **wide(3)), Node("list type", TYPE)):
+        cases.refuses(program(Node("type item", NAME, wrong)))
+
+
+def add_nested_items(cases):
+    """Order 3: "the top record is kind 41", "the items as children": a 41 is only ever first, and a 42 only directly below one."""
+    cases.refuses(NAMED, Node("type item"), NAMED.records() + NAMED.records())
+    for inner in (NAMED, program(), program(NAMED)):
+        cases.refuses(function(inner), value(inner), result(inner), function(parameters=[inner]), Node("function", inner, EMPTY),
+                      Node("function", NAME, inner), value(Node("tuple", inner)), pattern(inner), call(CUSTOM, NAME, inner), Node("function", inner))
+        cases.refuses(program(function(inner)), program(value(inner), NAMED))
+
+
+def add_program_places(cases):
+    """Order 3: "a 41 starting at 0, empty or not"; its end is any that its items are before."""
+    for end in (0, 1, 2, 0x4000, 0xFFFF):
+        cases.loads(changed(program(), 0, END, end))
+        cases.refuses(changed(changed(program(), 0, END, end), 0, START, 1), changed(changed(program(), 0, END, end), 0, START, 0xFFFF))
+    for tree in (program(function()), program(NAMED), program(NAMED, function())):
+        top, last = rows(tree)[0], max(record[END] for record in rows(tree)[1:])
+        cases.loads(changed(tree, 0, END, last), changed(tree, 0, END, 0xFFFF))
+        cases.refuses(changed(tree, 0, END, last - 1), changed(tree, 0, END, 0), changed(tree, 0, START, 1), changed(tree, 0, START, top[END]))
+        # Its items are as any other record: not empty, and each child's place inside.
+        start, end = rows(tree)[1][START:LOW]
+        cases.refuses(changed(tree, 1, END, start), changed(tree, 1, START, end), changed(tree, 1, END, top[END] + 1), changed(tree, 1, START, start + 2))
+        cases.loads(changed(tree, 1, START, 0), changed(tree, 1, END, top[END]), changed(changed(tree, 1, START, 0), 1, END, top[END]))
+        cases.refuses(changed(tree, 2, END, rows(tree)[2][START]))
+
+
+def add_program_sizes(cases):
+    """Order 3: sizes in a file add up too, and the first record's is the number of lines; 16 before 17 before 18 as ever."""
+    tree = program(NAMED, function(), NAMED)
+    records = rows(tree)
+    for at, record in enumerate(records):
+        cases.refuses(*(changed(tree, at, SIZE, size) for size in sorted({0, record[SIZE] - 1, record[SIZE] + 1, 0xFFFF})))
+    cases.refuses(changed(tree, 0, SIZE, 1), changed(program(), 0, SIZE, 0), changed(program(), 0, SIZE, 2), records[:-1], records[:-3], records[1:])
+    # Two tops, one after the other; and a top of each sort.
+    cases.refuses(rows(program()) + rows(program()), rows(program()) + rows(function()), rows(function()) + rows(program()), records + records,
+                  rows(function()) + rows(NAMED), records + rows(NAMED))
+    for found in (program(), tree):
+        enough = WORDS * len(rows(found))
+        cases.loads(found, more=0)
+        cases.loads(found, more=6)
+        for words in (0, enough - 1):
+            cases.refuse(NO_ROOM, 0, lines(rows(found)), words)
+        cases.refuse(BAD_LINE, len(rows(found)), lines(rows(found))[:-1], 0)
+        cases.refuse(BAD_LINE, len(rows(found)) + 1, lines(rows(found)) + b"\n", enough)
+    cases.refuse(NOT_ONE_TREE, 0, lines(rows(program(VALUE))), 0)
 
 
 def add_large(cases):
@@ -284,7 +363,7 @@ def add_large(cases):
 
 
 SECTIONS = (add_paper, add_functions, add_types, add_numbers, add_patterns, add_blocks, add_values, add_leaves, add_enums, add_arms, add_calls, add_tops,
-            add_sizes, add_places, add_lines, add_rooms, add_large)
+            add_sizes, add_places, add_lines, add_rooms, add_programs, add_type_items, add_nested_items, add_program_places, add_program_sizes, add_large)
 
 
 def all_cases():

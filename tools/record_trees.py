@@ -1,13 +1,14 @@
-"""Trees of records by document 01's kinds table, and their lines: what tools/load_cases.py builds its listings from."""
+"""Trees of records by document 01's kinds table and the two kinds of document 02, order 3, and their lines: what tools/load_cases.py builds its
+listings from."""
 
 WORDS = 6  # of a record
 WIDTHS = 2, 4, 4, 8, 8, 4  # digits of its line
 KIND, START, END, LOW, HIGH, SIZE = range(WORDS)
-# The kinds from 1, in the order of the table; then those that are one token, with low and high 0.
+# The kinds from 1, in the order of the table, those of a file behind them; then those that are one token, with low and high 0.
 KINDS = ("function", "name", "parameter", "alias", "builtin", "bool", "unsigned", "either", "option", "tuple type", "array type", "list type",
          "identifier pattern", "_", "tuple pattern", "array pattern", "let", "block", "left", "right", "some", "none", "boolean", "decimal",
          "hexadecimal", "binary", "witness", "parameter value", "variable", "parenthesised", "tuple", "array", "list", "enum construction", "match",
-         "enum match", "built-in arm", "enum arm", "call", "number")
+         "enum match", "built-in arm", "enum arm", "call", "number", "program", "type item")
 PLAIN_TYPES, PLAIN_PATTERNS = ("alias", "bool"), ("identifier pattern", "_")
 PLAIN_VALUES = ("none", "decimal", "hexadecimal", "binary", "witness", "parameter value", "variable")
 BITS = [2 ** i for i in range(9)]  # u1 to u256
@@ -45,6 +46,13 @@ PARAMETER, LET, EMPTY = Node("parameter", NAME, TYPE), Node("let", PATTERN, TYPE
 def function(*elements, last=0, low=0, parameters=(), result=()):
     """A function with these elements in its block."""
     return Node("function", NAME, *parameters, *result, Node("block", *elements, low=last), low=low, high=len(parameters))
+
+
+NAMED = Node("type item", NAME, TYPE)
+
+
+def program(*items, **fields):
+    return Node("program", *items, **fields)
 
 
 def result(kind):
