@@ -11,15 +11,20 @@ extern "C" {
 
 /* Bytes of a line, its LF among them. */
 #define TOGMELIC_LINE 36
-/* No draft has more lines. */
-#define TOGMELIC_MOST_LINES 2048
+/* No draft has more lines: one for each of 2,048 tokens at most, and the program's. */
+#define TOGMELIC_MOST_LINES 2049
 /* A buffer of so many bytes is enough for every draft. */
 #define TOGMELIC_MOST_BYTES (TOGMELIC_LINE * TOGMELIC_MOST_LINES)
 /* Words of a record: kind, start, end, low, high, size. */
 #define TOGMELIC_RECORD_WORDS 6
+/* Kinds of the records at the top: a function, a program, which is the record of a whole file, and a type item in it. */
+#define TOGMELIC_FUNCTION 1
+#define TOGMELIC_PROGRAM 41
+#define TOGMELIC_TYPE_ITEM 42
 
 /*
- * Lists a draft: writes its lines into out and returns the bytes used, 36 times the lines.
+ * Lists a draft, a file of any number of functions and types: writes its lines into out and returns the bytes used, 36
+ * times the lines.
  *
  * An accepted draft has one line a record, a parent before its children:
  *
@@ -27,6 +32,10 @@ extern "C" {
  *
  * in 2, 4, 4, 8, 8 and 4 upper-case hexadecimal digits, one space between, LF after. Start and end are byte numbers
  * of the draft from 0, end being the byte after; size counts the record and all beneath it.
+ *
+ * The first line is the program's, kind 41, written 29: its place is the whole draft, which may be empty, and its size is
+ * the number of lines. Its children are the items in the order of the draft, functions, kind 01, and type items, kind 42,
+ * written 2A. A draft without items has the program's line alone.
  *
  * A refused draft has one line: kind 00, the place twice, the number of the refusal as low, high 0, size 1. The place
  * is a byte number, or the draft's length where something is missing at its end. The number is one of 1 to 14, or 19
@@ -59,26 +68,31 @@ struct togmelic_refusal {
  * order of the lines, and returns how many there are. A record is six words, kind, start, end, low, high and size.
  * *refusal is then {0, 0}.
  *
+ * The first record is a program or a function, and its kind, words[0], tells which: TOGMELIC_PROGRAM in what
+ * togmelic_list writes; TOGMELIC_FUNCTION in a listing of one function alone, such as those that were kept before files
+ * were read.
+ *
  * listing_length / TOGMELIC_LINE * TOGMELIC_RECORD_WORDS words are always enough; for what togmelic_list wrote,
  * TOGMELIC_MOST_LINES * TOGMELIC_RECORD_WORDS are. Any other listing that is taken has at most 65,535 lines, which is
  * what the four digits of a size can count.
  *
- * Only a listing whose records form one function is taken. Else 0 is returned, and *refusal has the first of these
- * that is so:
+ * Only a listing whose records form one file or one function is taken. Else 0 is returned, and *refusal has the first
+ * of these that is so:
  *
  *     16  a line is not of the form that togmelic_list writes, its 36th byte, LF, included; the line is the first such
- *     17  the lines do not form one function: there are none, or it is a refusal's line, or there are two functions, or
- *         a record's kind, low, high and children are not as the kinds table of document 01 has them, two built-in arms
- *         are not in the order Left, None or False first, a size is not one more than those of the children, a start is
- *         not before its end, or a child's place is not inside its parent's (docs/REFUSALS.md, 17)
+ *     17  the lines form neither one file nor one function: there are none, or it is a refusal's line, or two listings
+ *         stand one behind the other, or a record's kind, low, high and children are not as the kinds table has them,
+ *         two built-in arms are not in the order Left, None or False first, a size is not one more than those of the
+ *         children, a program does not start at 0, any other start is not before its end, or a child's place is not
+ *         inside its parent's (docs/REFUSALS.md, 17)
  *     18  words is too short
  *
  * No draft is at hand, so a listing may be taken that is not your draft's, or no draft's at all: an end may be up to
  * 65,535, and the places of siblings may overlap. See that an end is within the draft before you cut a text out of it.
  *
- * Every word of words behind the records is set to zero, and where the listing is refused every word is. A function
- * has a record, so 0 is returned only where *refusal has a number: either one tells the answer, and no word of a
- * refused listing can be taken for a record.
+ * Every word of words behind the records is set to zero, and where the listing is refused every word is. A file and a
+ * function each have a record, also a file without items, so 0 is returned only where *refusal has a number: either one
+ * tells the answer, and no word of a refused listing can be taken for a record.
  *
  * The listing may be any bytes of any length, such as those of a file, but no more than its lines: with the zeros that
  * togmelic_list puts behind them it is refused. listing_length counts bytes, words_length counts words, and each

@@ -1,7 +1,7 @@
 #!/usr/bin/env bash
 # Instructions and time of one reading of each case, through the entry for C, beside the plain Rust reader: draft in, listing out. Then the same of one
 # loading: that listing in, its records out.
-# Both are called by the same loop (rust/bench), with one buffer of 73,728 bytes, or 12,288 words, that is lent again each time; every call fills all of it.
+# Both are called by the same loop (rust/bench), with one buffer of 73,764 bytes, or 12,294 words, that is lent again each time; every call fills all of it.
 # Instructions are the difference of two runs, divided by how many more readings the second makes, so that the start cancels.
 # callgrind counts a byte that `rep stosb` clears as an instruction; the case `least` shows what clearing the buffers comes to.
 # Needs cargo and valgrind; run it after `rt staticlib reader`. Writes one line a case; the answers are compared.

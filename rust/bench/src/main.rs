@@ -1,6 +1,6 @@
 //! Reads one draft, or loads its listing, again and again, for bench/reader/run.sh. Use: bench CASE WHICH REPEATS, where WHICH is `here`,
 //! the proved reader through its entry for C, or `partner`, the plain Rust reader; `load-here` and `load-partner` load the draft's listing.
-//! Both are called in the same loop and with the same buffer, of 73,728 bytes or 12,288 words, lent again each time. The
+//! Both are called in the same loop and with the same buffer, of 73,764 bytes or 12,294 words, lent again each time. The
 //! checksum is taken once, after the loop, so that it cancels where two runs are subtracted.
 //! `bench CASE tokens` and `bench CASE records` write the numbers of tokens and records, and `bench cases` the names of the cases.
 

@@ -1,6 +1,9 @@
 //! A safe wrapper around the proved reader of escrow drafts: lists any bytes as a draft, or reads them to records,
 //! and loads a listing that is kept without its draft.
 //!
+//! A draft is a file of any number of functions and types. Its first record is a program, which holds all the others:
+//! the items are its children, in the order of the draft.
+//!
 //! [`list`] and [`load_into`] write into a lent buffer and allocate nothing; [`listing`], [`read`] and [`load`] bring
 //! their own. Each of them may be called with any bytes and from any thread, and no answer depends on an earlier call.
 //! The reader keeps its tokens and its tree on the stack and calls itself for what is nested: the deepest drafts
@@ -8,17 +11,20 @@
 //! nested.
 //!
 //! ```
+//! use togmelic::Record;
+//!
 //! let draft = b"fn f(){Left(1)}";
 //! let tree = togmelic::read(draft).expect("an accepted draft");
-//! assert_eq!(tree.len(), 5);
+//! assert_eq!(tree.len(), 6);
+//! assert_eq!((tree[0].kind, tree[1].kind), (Record::PROGRAM, Record::FUNCTION));
 //! // Kind 19 is `Left`.
-//! assert_eq!(tree[3].kind, 19);
-//! assert_eq!(&draft[tree[3].place()], b"Left(1)");
+//! assert_eq!(tree[4].kind, 19);
+//! assert_eq!(&draft[tree[4].place()], b"Left(1)");
 //!
 //! let refusal = togmelic::read(b"fn f(){fold(x)}").unwrap_err();
 //! assert_eq!((refusal.number, refusal.place), (8, 11));
 //!
-//! // A listing comes back as the same records. One whose records form no function, or with a bad line, is refused.
+//! // A listing comes back as the same records. One that is no file and no function, or with a bad line, is refused.
 //! let mut kept = togmelic::listing(draft);
 //! assert_eq!(togmelic::load(&kept), Ok(tree));
 //! kept[36] = b'x';
@@ -36,8 +42,8 @@ pub use refusal::{LoadRefusal, Refusal};
 
 /// Bytes of a line, its line end among them.
 pub const LINE: usize = 36;
-/// No draft has more lines.
-pub const MOST_LINES: usize = 2_048;
+/// No draft has more lines: one for each of 2,048 tokens at most, and the program's.
+pub const MOST_LINES: usize = 2_049;
 /// A buffer of so many bytes suffices for every draft.
 pub const MOST_BYTES: usize = LINE * MOST_LINES;
 
@@ -69,7 +75,8 @@ pub fn listing(draft: &[u8]) -> Vec<u8> {
     out
 }
 
-/// The records of a draft, a parent before its children, or the refusal.
+/// The records of a draft, a parent before its children, or the refusal. The first is the program's, so there is one
+/// also where the draft has no item.
 pub fn read(draft: &[u8]) -> Result<Vec<Record>, Refusal> {
     let tree: Vec<Record> = records(&listing(draft)).collect();
     match tree.first().copied().and_then(Refusal::from_line) {

@@ -16,8 +16,9 @@ extern "C" {
 }
 
 /// Loads a listing into `words`, six a record, and answers the number of records, never 0, with zeros in the rest of
-/// `words`. Where it is refused, every word is zero. No draft is at hand, so a listing may be taken that is not your
-/// draft's, or no draft's at all: see [`Record::place`].
+/// `words`. Where it is refused, every word is zero. The first word is [`Record::PROGRAM`], or [`Record::FUNCTION`] in a
+/// listing of one function alone. No draft is at hand, so a listing may be taken that is not your draft's, or no draft's
+/// at all: see [`Record::place`].
 pub fn load_into(listing: &[u8], words: &mut [u32]) -> Result<usize, LoadRefusal> {
     let mut refusal = LoadRefusal { number: 0, line: 0 };
     // SAFETY: the pointers of the slices are never null and good for the length beside them, in bytes and in words;
@@ -32,7 +33,7 @@ pub fn load_into(listing: &[u8], words: &mut [u32]) -> Result<usize, LoadRefusal
             &mut refusal,
         )
     };
-    // Every function has a record, so no record means that the listing is refused.
+    // Every file and every function has a record, so no record means that the listing is refused.
     if count > 0 {
         Ok(count)
     } else {
@@ -48,6 +49,6 @@ pub fn load(listing: &[u8]) -> Result<Vec<Record>, LoadRefusal> {
     let (records, _) = words.as_chunks();
     let loaded = records[..count]
         .iter()
-        .map(|words| Record::from_words(*words).expect("a loaded kind is at most 40"));
+        .map(|words| Record::from_words(*words).expect("a loaded kind is at most 42"));
     Ok(loaded.collect())
 }

@@ -4,10 +4,10 @@ use crate::{LINE, RECORD_WORDS};
 use std::ops::Range;
 
 /// One line of a listing. The kinds and what `low` and `high` hold are in document 01, "Records and the marks they
-/// own".
+/// own"; 41 and 42 in document 02, order 3.
 #[derive(Clone, Copy, Debug, PartialEq, Eq, Hash)]
 pub struct Record {
-    /// 1 to 40; 0 in the one line of a refusal.
+    /// 1 to 42; 0 in the one line of a refusal.
     pub kind: u8,
     /// The first byte of the record's place in the draft.
     pub start: usize,
@@ -22,6 +22,14 @@ pub struct Record {
 }
 
 impl Record {
+    /// The kind of a function: an item, or the first record of a listing that is one function alone.
+    pub const FUNCTION: u8 = 1;
+    /// The kind of the first record of a draft, which holds all the others. Its place is the whole draft, which may be
+    /// empty; no other record's is.
+    pub const PROGRAM: u8 = 41;
+    /// The kind of a type item, `type A = u8;`, a child of the program: its own children are the name and the type.
+    pub const TYPE_ITEM: u8 = 42;
+
     /// The place, to cut the record's text out of its draft. A loaded listing may be that of another draft, or of none,
     /// and its places may lie behind the end of yours: then cut with `draft.get(record.place())`, which does not panic.
     pub fn place(&self) -> Range<usize> {

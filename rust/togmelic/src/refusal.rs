@@ -22,7 +22,7 @@ const REASONS: [&str; 15] = [
     "the word simc is reserved",
     "there are over 2,048 tokens",
     "over 48 brackets are open, or over 8 match stand in a row",
-    "no well-shaped draft goes on like this",
+    "no well-shaped file goes on like this",
     "the bound is not a power of two from 2 to 9,223,372,036,854,775,808",
     "the size is 0 or over 18,446,744,073,709,551,615",
     "the match has no arms",
@@ -69,7 +69,7 @@ impl std::error::Error for Refusal {}
 #[derive(Clone, Copy, Debug, PartialEq, Eq, Hash)]
 #[repr(C)]
 pub struct LoadRefusal {
-    /// 16, 17 or 18, as in document 02, order 1.
+    /// 16, 17 or 18, as in document 02, orders 1 and 3.
     pub number: usize,
     /// The first bad line, from 1, for 16; 0 for 17 and 18.
     pub line: usize,
@@ -80,7 +80,7 @@ impl LoadRefusal {
     pub fn reason(&self) -> &'static str {
         match self.number {
             16 => "the line is not of the 36-byte form",
-            17 => "the lines do not form one function",
+            17 => "the lines form neither one file nor one function",
             18 => "the record buffer is too short",
             _ => "no such refusal",
         }

@@ -5,7 +5,7 @@ use togmelic::{listing, load, load_into, read, LoadRefusal, Record, LINE, RECORD
 
 const GARBAGE: u32 = 0xAAAA_AAAA;
 
-/// As document 01 prints it, "The listing program".
+/// As document 01 prints it, "The listing program": one function alone.
 const LINES: &[u8] = b"\
 01 0000 0022 00000000 00000000 0009
 02 0003 0004 00000000 00000000 0001
@@ -30,7 +30,7 @@ const WORDS: [u32; 54] = [
     24, 21, 22, 0, 0, 1,
 ];
 
-/// One draft for each group of kinds, and one with the largest lengths.
+/// One function for each group of kinds, and one with the largest lengths.
 const DRAFTS: [&str; 8] = [
     "fn f(){}",
     "pub fn f(a:u8,b:Point)->Either<Option<bool>,List<([_;0],),9223372036854775808>>{}",
@@ -41,6 +41,17 @@ const DRAFTS: [&str; 8] = [
     "fn f(){jet::j(1);unwrap(1);<u8>::into(1);is_none::<u8>(1);Left(1,);assert!(x);}",
     "fn f(){fold::<g,2>(x);array_fold::<g,18446744073709551615>();for_while::<g>(x)}",
 ];
+
+/// Files of other than one function.
+const FILES: [&str; 5] = [
+    "",
+    " // no item",
+    "type A = Either<u8, [A; 18446744073709551615]>;",
+    "fn f(){}fn f(){}",
+    "type A=u8; pub fn f(a:A)->A{match a{true=>1,false=>2,}} type B=List<(A,),2>;",
+];
+/// A line of an empty file.
+const EMPTY: &[u8] = b"29 0000 0000 00000000 00000000 0001\n";
 
 /// Loads with a buffer of that many words: the answer, and the whole buffer afterwards.
 fn loaded(listing: &[u8], length: usize) -> (Result<usize, LoadRefusal>, Vec<u32>) {
@@ -82,12 +93,18 @@ fn example_word_for_word() {
 
 #[test]
 fn written_and_loaded() {
-    for draft in DRAFTS {
+    for draft in DRAFTS.iter().chain(&FILES) {
         let lines = listing(draft.as_bytes());
         let tree = load(&lines).expect(draft);
         assert_eq!(read(draft.as_bytes()), Ok(tree.clone()), "{draft}");
         let again: String = tree.iter().map(written).collect();
         assert_eq!(again.as_bytes(), lines, "{draft}");
+        // Without the program's line it is a listing only where the draft is one function.
+        match load(&lines[LINE..]) {
+            Ok(function) => assert_eq!(function, tree[1..], "{draft}"),
+            Err(refusal) => assert_eq!((refusal.number, refusal.line), (17, 0), "{draft}"),
+        }
+        assert_eq!(load(&lines[LINE..]).is_ok(), DRAFTS.contains(draft));
     }
 }
 
@@ -116,7 +133,7 @@ fn lines_not_in_form() {
 }
 
 #[test]
-fn lines_not_of_one_function() {
+fn lines_of_no_function() {
     assert_refused(b"", 0, 17, 0);
     assert_refused(&listing(b"fn f("), 54, 17, 0);
     assert_refused(&[LINES, LINES].concat(), 108, 17, 0);
@@ -129,6 +146,34 @@ fn lines_not_of_one_function() {
     assert_refused(&changed(5, 8, b"0022"), 54, 17, 0);
     assert_refused(&changed(6, 20, b"6"), 54, 17, 0);
     assert_refused(&changed(5, 0, b"02"), 53, 17, 0);
+}
+
+#[test]
+fn files() {
+    let (count, words) = loaded(EMPTY, 8);
+    assert_eq!((count, words), (Ok(1), vec![41, 0, 0, 0, 0, 1, 0, 0]));
+    assert_refused(EMPTY, 5, 18, 0);
+    let program = |start: &str, end: &str, low: &str, size: &str| {
+        let line = format!("29 {start} {end} {low} 00000000 {size}\n");
+        [line.as_bytes(), LINES].concat()
+    };
+    let file = program("0000", "0022", "00000000", "000A");
+    let expected = [&[41, 0, 34, 0, 0, 10], &WORDS[..]].concat();
+    assert_eq!(loaded(&file, 60), (Ok(10), expected));
+    assert!(load(&program("0000", "FFFF", "00000000", "000A")).is_ok());
+    // A program starts at 0, ends behind its items, has no low and counts all lines.
+    assert_refused(&program("0001", "0022", "00000000", "000A"), 60, 17, 0);
+    assert_refused(&program("0000", "0021", "00000000", "000A"), 60, 17, 0);
+    assert_refused(&program("0000", "0000", "00000000", "000A"), 60, 17, 0);
+    assert_refused(&program("0000", "0022", "00000001", "000A"), 60, 17, 0);
+    assert_refused(&program("0000", "0022", "00000000", "0001"), 60, 17, 0);
+    // It is first, and once; a type item stands below it alone.
+    assert_refused(&[LINES, EMPTY].concat(), 60, 17, 0);
+    assert_refused(&[EMPTY, EMPTY].concat(), 60, 17, 0);
+    assert_refused(&changed(5, 0, b"29"), 54, 17, 0);
+    assert_refused(&changed(5, 0, b"2A"), 54, 17, 0);
+    assert_refused(&changed(1, 0, b"2A"), 54, 17, 0);
+    assert_refused(&changed(1, 0, b"29"), 54, 17, 0);
 }
 
 #[test]
@@ -172,7 +217,7 @@ fn refusals_in_words() {
     );
     assert_eq!(
         refusal(17, 0),
-        "refusal 17: the lines do not form one function"
+        "refusal 17: the lines form neither one file nor one function"
     );
     assert_eq!(refusal(18, 0), "refusal 18: the record buffer is too short");
 }

@@ -16,16 +16,22 @@ fn refused(text: &str) -> (u32, usize) {
 #[test]
 fn example() {
     let tree = read(DRAFT).expect("an accepted draft");
-    assert_eq!(tree.len(), 9);
-    let function = Record {
-        kind: 1,
+    assert_eq!(tree.len(), 10);
+    let program = Record {
+        kind: Record::PROGRAM,
         start: 0,
         end: 34,
         low: 0,
         high: 0,
-        size: 9,
+        size: 10,
     };
-    assert_eq!(tree[0], function);
+    assert_eq!(tree[0], program);
+    let function = Record {
+        kind: Record::FUNCTION,
+        size: 9,
+        ..program
+    };
+    assert_eq!(tree[1], function);
     let first_arm = Record {
         kind: 37,
         start: 23,
@@ -34,8 +40,47 @@ fn example() {
         high: 0,
         size: 2,
     };
-    assert_eq!(tree[5], first_arm);
-    assert_eq!(&DRAFT[tree[5].place()], b"false=>2,");
+    assert_eq!(tree[6], first_arm);
+    assert_eq!(&DRAFT[tree[6].place()], b"false=>2,");
+}
+
+/// Document 02, order 3: items below a program, whose place is the whole draft.
+#[test]
+fn files() {
+    let draft = b"type Pair = (u8, u8);\npub fn first(p: Pair) -> u8 { p }\ntype A=Pair; // end\n";
+    let tree = read(draft).expect("an accepted draft");
+    assert_eq!(tree[0].place(), 0..draft.len());
+    assert_eq!(tree[0].size, tree.len());
+    let mut items = Vec::new();
+    let mut at = 1;
+    while at < tree.len() {
+        items.push((tree[at].kind, &draft[tree[at].place()]));
+        at += tree[at].size;
+    }
+    let expected: [(u8, &[u8]); 3] = [
+        (Record::TYPE_ITEM, b"type Pair = (u8, u8);"),
+        (Record::FUNCTION, b"pub fn first(p: Pair) -> u8 { p }"),
+        (Record::TYPE_ITEM, b"type A=Pair;"),
+    ];
+    assert_eq!(items, expected);
+    // The name and the type of the last item.
+    assert_eq!(&draft[tree[at - 2].place()], b"A");
+    assert_eq!(&draft[tree[at - 1].place()], b"Pair");
+    assert_eq!(read(b"").map(|tree| tree.len()), Ok(1));
+}
+
+#[test]
+fn refused_files() {
+    for (draft, number, place) in [
+        ("fn f(){};", 8, 8),
+        ("type A=u8", 8, 9),
+        ("type u8=A;", 8, 5),
+        ("pub type A=u8;", 8, 4),
+        ("type A=List<u8,3>;", 9, 15),
+        ("type A=[u8;18446744073709551616];", 19, 11),
+    ] {
+        assert_eq!(read(draft.as_bytes()), Err(Refusal { number, place }));
+    }
 }
 
 #[test]
@@ -76,7 +121,7 @@ fn lengths_over_64_bits() {
 #[test]
 fn refusals() {
     assert_eq!(
-        read(b""),
+        read(b";"),
         Err(Refusal {
             number: 8,
             place: 0
@@ -110,6 +155,7 @@ fn refusals_in_words() {
     );
     let reason = |number| Refusal { number, place: 0 }.reason();
     assert_eq!(reason(1), "the draft is over 16,384 bytes");
+    assert_eq!(reason(8), "no well-shaped file goes on like this");
     assert_eq!(reason(15), "the tree buffer is too short");
     // 16 to 18 are about listings.
     for number in [0, 16, 17, 18, 20, u32::MAX] {

@@ -29,10 +29,10 @@ fn matches_in_every_bracket() {
     }
 }
 
-/// Pairs nested in first place: a pair and a number for each of 47, the innermost number, and three records around.
+/// Pairs nested in first place: a pair and a number for each of 47, the innermost number, and four records around.
 #[test]
 fn pairs() {
     let draft = format!("fn f(){{{}1{}}}", "(".repeat(47), ",1)".repeat(47));
     let tree = read_in_thread(draft).expect("an accepted draft");
-    assert_eq!(tree.len(), 2 * 47 + 1 + 3);
+    assert_eq!(tree.len(), 2 * 47 + 1 + 4);
 }
