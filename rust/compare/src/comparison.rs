@@ -45,8 +45,8 @@ impl Comparison {
 
     /// Compares with a byte buffer in which the lines of a draft of that many bytes fit, and some bytes more.
     pub fn check_short(&mut self, draft: &[u8]) {
-        // A line needs a token, so there are at most as many as bytes, and one for a refusal.
-        self.check(draft, (LINE * draft.len().max(1) + 40).min(MOST_BYTES));
+        // The first line is the program's or a refusal's, and each other needs a token.
+        self.check(draft, (LINE * (draft.len() + 1) + 40).min(MOST_BYTES));
     }
 
     /// Compares the answers for a byte buffer of `room` bytes.

@@ -1,12 +1,15 @@
 //! Listings damaged by chance: a byte, a line or a field of one.
 
 use crate::random::Random;
+use partner::kinds::record;
 use partner::{write_lines, Record};
 use togmelic::LINE;
 
 /// The largest value of each of a line's six words.
 const LARGEST: [u32; 6] = [0xFF, 0xFFFF, 0xFFFF, u32::MAX, u32::MAX, 0xFFFF];
 const DIGITS: &[u8] = b"0123456789ABCDEF";
+/// Kinds that stand at the top, or just below it.
+const TOPS: [u32; 3] = [record::FUNCTION, record::PROGRAM, record::TYPE_ITEM];
 
 /// One of the bytes changed, put in or taken out, or the listing cut, or another one behind it.
 pub fn bytes(lines: &[u8], other: &[u8], random: &mut Random) -> Vec<u8> {
@@ -56,15 +59,18 @@ pub fn lines(lines: &[u8], random: &mut Random) -> Vec<u8> {
 pub fn field(records: &[Record], random: &mut Random) -> Vec<u8> {
     let mut damaged = records.to_vec();
     for _ in 0..random.one_of(&[1, 1, 1, 2]) {
-        let at = random.below(records.len());
+        // The first record and the one below it decide most.
+        let among = if random.one_in(4) { 2 } else { records.len() };
+        let at = random.below(among.min(records.len()));
         let column = random.below(LARGEST.len());
         let value = records[at][column];
-        let telling = match random.below(9) {
+        let telling = match random.below(10) {
             number @ 0..=3 => number as u32,
             4 => LARGEST[column],
             5 => value.wrapping_add(1),
             6 => value.wrapping_sub(1),
             7 => records[random.below(records.len())][column],
+            8 => random.one_of(&TOPS),
             _ => random.one_of(&records[at]),
         };
         damaged[at][column] = telling & LARGEST[column];

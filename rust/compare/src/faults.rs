@@ -1,11 +1,12 @@
 //! Well-shaped drafts with numbers and arms that are refused: lengths around the largest 64-bit number wherever a type
-//! may stand, and up to three of the refusals 9 to 14 and 19 in one draft, in every order; with up to two also misshapen.
+//! may stand, and up to three of the refusals 9 to 14 and 19 in one draft, in every order, in one function and in several;
+//! with up to two also misshapen.
 
 use crate::comparison::Comparison;
 use crate::strings;
 
 /// Drafts with a type in each place that may have one; `#` stands for it.
-const PLACES: [&str; 16] = [
+const PLACES: [&str; 18] = [
     "fn f(a:#){}",
     "pub fn f(a:u8,b:#,)->u8{}",
     "fn f()->#{}",
@@ -22,6 +23,8 @@ const PLACES: [&str; 16] = [
     "fn f(){raw_hash::<#>(x)}",
     "fn f(a:u8)->[u8;0]{match a{A::B=>[{let (b,):#=a;b}],}}",
     "fn f(a:#,b:#)->#{<#>::into(a)}",
+    "type A=#;",
+    "fn f(){}type A=#;fn g(a:#){}",
 ];
 
 /// The type itself, and types that hold it, some with a number of their own that is refused.
@@ -78,7 +81,7 @@ pub fn all(comparison: &mut Comparison) {
     let pieces = FAULTS.map(str::as_bytes);
     strings::each(&pieces, &mut |string| {
         let faults: Vec<&str> = string.iter().map(|piece| text(piece)).collect();
-        for draft in [behind(&faults), inside(&faults)] {
+        for draft in [behind(&faults), inside(&faults), apart(&faults)] {
             comparison.check_short(draft.as_bytes());
             if faults.len() < 3 {
                 misshapen(&draft, comparison);
@@ -136,6 +139,14 @@ fn behind(faults: &[&str]) -> String {
         .map(|fault| fault.replace('#', "x") + ";")
         .collect();
     format!("fn f(){{{statements}}}")
+}
+
+/// Each in a function of its own.
+fn apart(faults: &[&str]) -> String {
+    let functions = faults
+        .iter()
+        .map(|fault| format!("fn f(){{{}}}", fault.replace('#', "x")));
+    functions.collect()
 }
 
 /// Each in all the room of the one before it.

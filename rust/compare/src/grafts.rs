@@ -1,10 +1,11 @@
-//! Trees changed by chance so that their sizes still add up: most are of no draft, and many are still functions.
+//! Trees changed by chance so that their sizes still add up: most are of no draft, and many are still functions or files.
 
 use crate::random::Random;
 use partner::kinds::record;
 use partner::{write_lines, Record};
 
-/// A part replaced by one of another tree, taken out, doubled, or exchanged with the part behind it.
+/// A part replaced by one of another tree, taken out, doubled, or exchanged with the part behind it. The tree has a part
+/// below its top.
 pub fn graft(records: &[Record], other: &[Record], random: &mut Random) -> Vec<u8> {
     let mut tree = records.to_vec();
     let at = 1 + random.below(tree.len() - 1);
@@ -66,9 +67,10 @@ fn fitting_part(tree: &[Record], taken: Record, random: &mut Random) -> Vec<Reco
     part
 }
 
-/// Types, patterns and expressions stand for each other: the first of the group.
+/// Items, types, patterns and expressions stand for each other: the first of the group.
 fn group(kind: u32) -> u32 {
     match kind {
+        record::TYPE_ITEM => record::FUNCTION,
         record::ALIAS..=record::LIST_TYPE => record::ALIAS,
         record::IDENTIFIER_PATTERN..=record::ARRAY_PATTERN => record::IDENTIFIER_PATTERN,
         record::BLOCK..=record::ENUM_MATCH | record::CALL => record::BLOCK,

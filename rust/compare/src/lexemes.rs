@@ -42,9 +42,12 @@ const HEAD: Place = Place {
     after: "{}",
 };
 
+const TYPES: &str =
+    "Either< Option< List< [ ( u8 u7 Point _ , ,2> ,1> > ;0] ;18446744073709551616] )";
+
 const TYPE: Place = Place {
     before: "fn f(a:",
-    pieces: "Either< Option< List< [ ( u8 u7 Point _ , ,2> ,1> > ;0] ;18446744073709551616] )",
+    pieces: TYPES,
     all: 4,
     most: 7,
     after: "){}",
@@ -76,8 +79,27 @@ const ARMS: Place = Place {
     after: "}}",
 };
 
+/// What files are made of, whole functions among it; the tab is the gap inside one.
+const ITEMS: Place = Place {
+    before: "",
+    pieces: "type pub fn\tf(){} A u8 = ; [A;2]",
+    all: 6,
+    most: 14,
+    after: "",
+};
+
+const TYPE_ITEM: Place = Place {
+    before: "fn f(){}type A=",
+    pieces: TYPES,
+    all: 3,
+    most: 6,
+    after: ";fn f(){}",
+};
+
 pub fn all(comparison: &mut Comparison) {
-    for place in [WHOLE, BODY, HEAD, TYPE, PATTERN, CALL, ARMS] {
+    for place in [
+        WHOLE, BODY, HEAD, TYPE, PATTERN, CALL, ARMS, ITEMS, TYPE_ITEM,
+    ] {
         compare(&place, comparison);
     }
 }

@@ -4,7 +4,7 @@ use crate::comparison::Comparison;
 use togmelic::{LINE, MOST_BYTES};
 
 pub fn all(comparison: &mut Comparison) {
-    let drafts = [bytes(), tokens(), brackets(), matches(), numbers()].concat();
+    let drafts = [bytes(), tokens(), brackets(), matches(), numbers(), files()].concat();
     for draft in drafts {
         comparison.check(draft.as_bytes(), MOST_BYTES);
     }
@@ -157,11 +157,42 @@ fn numbers() -> Vec<String> {
     texts.iter().flat_map(places).collect()
 }
 
+/// Files at the limits: blanks and comments alone, and items up to each limit and over it.
+fn files() -> Vec<String> {
+    let mut drafts = Vec::new();
+    for length in 16_383..=16_386 {
+        drafts.push(" ".repeat(length));
+        drafts.push(format!("//{}", "a".repeat(length - 2)));
+        drafts.push(format!("/*{}*/", "a".repeat(length - 4)));
+        drafts.push(format!("type A=u8;{}fn f(){{}}", "\n".repeat(length - 18)));
+        drafts.push(format!("type {}=u8;", "A".repeat(length - 9)));
+    }
+    // Five tokens a type and six a function; then the first tokens of a type.
+    for count in 2_047..=2_050 {
+        for functions in 0..5 {
+            let types = count - 6 * functions;
+            let cut = ["", "type", "type A", "type A=", "type A=A"][types % 5];
+            drafts.push("fn f(){}".repeat(functions) + &"type A=A;".repeat(types / 5) + cut);
+        }
+    }
+    // Brackets are closed again before the next item.
+    for count in 47..=50 {
+        let item = format!("type A={}A{};", "(".repeat(count), ")".repeat(count));
+        drafts.push(item.repeat(2));
+        drafts.push(format!("fn f(){{}}type A={}A", "[".repeat(count)));
+        drafts.push("fn f(){}".repeat(count));
+    }
+    drafts
+}
+
 /// Byte buffers of every length, from none to some bytes over what is needed.
 fn buffers(comparison: &mut Comparison) {
     let small = [
         "",
+        " ",
         "fn f(){}",
+        "type A=u8;",
+        "type A=u8;fn f(){}",
         "fn f(){1",
         "fn f(){match b{true=>1,false=>2,}}",
         "fn f(a:u8){Left(a,)}",
@@ -172,9 +203,9 @@ fn buffers(comparison: &mut Comparison) {
             comparison.check(draft.as_bytes(), room);
         }
     }
-    // 1,533 lines: three for each element, and three around them.
+    // 1,534 lines: three for each element, and four around them.
     let many = body(&"A::B;".repeat(510));
-    let needed = LINE * 1_533;
+    let needed = LINE * 1_534;
     for room in (needed - 3..needed + 3).chain(MOST_BYTES - 3..MOST_BYTES + 3) {
         comparison.check(many.as_bytes(), room);
     }

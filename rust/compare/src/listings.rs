@@ -1,4 +1,5 @@
-//! The listings of a stream of drafts, whole and damaged, with word buffers around what is needed.
+//! The listings of a stream of drafts, whole and damaged, with word buffers around what is needed. Where a draft is one
+//! function, its listing without the program's line is one too.
 
 use crate::loading::Loading;
 use crate::random::Random;
@@ -16,8 +17,19 @@ pub fn all(stream: &[u8], loading: &mut Loading) -> Option<()> {
     let mut before = partner::listing(b"fn f(){}");
     while !rest.is_empty() {
         let draft = partner::streams::next_draft(&mut rest)?;
-        let lines = partner::listing(draft);
-        whole(&lines, loading, &mut random);
+        let file = partner::listing(draft);
+        let function = file[LINE..].to_vec();
+        let is_function = load(&function).is_ok();
+        whole(&file, loading, &mut random);
+        if is_function {
+            whole(&function, loading, &mut random);
+        }
+        // Only one of the two is damaged, by chance.
+        let lines = if is_function && random.one_in(2) {
+            function
+        } else {
+            file
+        };
         if let (Ok(records), Ok(other)) = (load(&lines), load(&before)) {
             damaged(&lines, &before, loading, &mut random);
             changed(&records, &other, loading, &mut random);
@@ -64,7 +76,9 @@ fn changed(records: &[Record], other: &[Record], loading: &mut Loading, random: 
     for _ in 0..3 {
         check(&damage::field(records, random), loading, random);
     }
-    for _ in 0..4 {
+    // A file without items has no part that could be exchanged.
+    let grafts = if records.len() > 1 { 4 } else { 0 };
+    for _ in 0..grafts {
         check(&grafts::graft(records, other, random), loading, random);
     }
 }

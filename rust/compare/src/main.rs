@@ -4,6 +4,7 @@
 //!   lexemes   every string of a few lexemes, in telling surroundings
 //!   limits    drafts at each limit, and buffers of every length
 //!   faults    array lengths around 64 bits, and several of the refusals 9 to 14 and 19 in one draft
+//!   files     names of types that are reserved or nearly so, and files of 0 to 30 items, whole and damaged
 //!   stream    the drafts on standard input: length, line end, bytes
 //!   shapes    listings of records with every few children
 //!   listings  the listings of the drafts on standard input, whole and damaged
@@ -13,6 +14,7 @@
 mod comparison;
 mod damage;
 mod faults;
+mod files;
 mod grafts;
 mod lexemes;
 mod limits;
@@ -67,6 +69,7 @@ impl Total {
             "lexemes" => lexemes::all(&mut run),
             "limits" => limits::all(&mut run),
             "faults" => faults::all(&mut run),
+            "files" => files::all(&mut run),
             "stream" => stream(&mut run)?,
             _ => return None,
         }

@@ -1,17 +1,19 @@
-//! All records of a few children, in functions that are right otherwise, and listings of as many lines as sizes count.
+//! All records of a few children, in functions and files that are right otherwise, tops of every place, and listings of as
+//! many lines as sizes count.
 
 use crate::loading::Loading;
 use crate::strings;
 use crate::trees::{
-    alias, block, built_in_arm, in_functions, name, number, over, pattern, smallest, value, Tree,
+    alias, block, built_in_arm, in_tops, name, number, over, pattern, program, smallest, value,
+    Tree,
 };
 use partner::kinds::record;
-use partner::write_lines;
+use partner::{write_lines, Record};
 use std::ops::RangeInclusive;
 use togmelic::RECORD_WORDS;
 
 /// Every kind, and some that there are not.
-const KINDS: RangeInclusive<u32> = 0..=record::NUMBER + 2;
+const KINDS: RangeInclusive<u32> = 0..=record::TYPE_ITEM + 2;
 
 /// Strings of children: see `child` for the letters.
 struct Row {
@@ -38,8 +40,10 @@ const fn row(
     }
 }
 
-const ROWS: [Row; 8] = [
-    row(KINDS, "NPTpLBE3456MnozF", 2, (4, 2)),
+const ROWS: [Row; 10] = [
+    row(KINDS, "NPTpLBE3456MnozFDG", 2, (4, 2)),
+    row(record::PROGRAM..=record::PROGRAM, "FDGN", 5, (2, 2)),
+    row(record::TYPE_ITEM..=record::TYPE_ITEM, "NTFDG", 4, (2, 2)),
     row(record::FUNCTION..=record::FUNCTION, "NPTBE", 5, (5, 4)),
     row(record::LET..=record::BLOCK, "pTEL", 4, (3, 2)),
     row(
@@ -65,6 +69,8 @@ fn child(letter: u8) -> Tree {
         b'B' => block(0, &[]),
         b'E' => value(),
         b'F' => smallest(record::FUNCTION),
+        b'D' => smallest(record::TYPE_ITEM),
+        b'G' => program(&[]),
         b'M' => smallest(record::ENUM_ARM),
         b'n' => number(2),
         b'o' => number(3),
@@ -78,17 +84,21 @@ pub fn all(loading: &mut Loading) {
         compare_row(row, loading);
     }
     numbers(loading);
+    places(loading);
     long(loading);
 }
 
-/// Compares the tree in its functions, with as many words as it needs; whether one of them is taken.
+/// Compares the tree below its tops, with as many words as they need; whether one of them is taken.
 fn compare(tree: Tree, loading: &mut Loading) -> bool {
     let mut taken = false;
-    for function in in_functions(tree) {
-        let room = RECORD_WORDS * function.len();
-        taken |= loading.check(&write_lines(&function), room);
+    for top in in_tops(tree) {
+        taken |= check(&top, loading);
     }
     taken
+}
+
+fn check(records: &[Record], loading: &mut Loading) -> bool {
+    loading.check(&write_lines(records), RECORD_WORDS * records.len())
 }
 
 fn compare_row(row: &Row, loading: &mut Loading) {
@@ -139,22 +149,58 @@ fn numbers(loading: &mut Loading) {
     }
 }
 
-/// Chains and rows of so many records that four digits just count them, and of more.
+/// Tops of every small place, alone and over an item of every small place.
+fn places(loading: &mut Loading) {
+    for place in pairs(4, 4) {
+        check(&placed(program(&[]), place), loading);
+        for inner in pairs(4, 4) {
+            for item in [record::FUNCTION, record::TYPE_ITEM] {
+                let mut file = program(&[placed(smallest(item), inner)]);
+                (file[0][1], file[0][2]) = place;
+                check(&file, loading);
+                // The item with the top's place too, over children that keep theirs; then that item as the top.
+                (file[1][1], file[1][2]) = place;
+                check(&file, loading);
+                check(&file[1..], loading);
+            }
+        }
+    }
+}
+
+/// The tree with one place for all of it.
+fn placed(mut tree: Tree, (start, end): (u32, u32)) -> Tree {
+    for record in &mut tree {
+        (record[1], record[2]) = (start, end);
+    }
+    tree
+}
+
+/// Listings of so many records that four digits just count them, and of more: chains and rows in a function and in a
+/// file, and items in a row.
 fn long(loading: &mut Loading) {
     for count in [0xFFFE, 0xFFFF, 0x1_0000, 0x1_0001, 0x1_0003] {
-        // Three of the records stand around these: function, name, block.
-        let inner = count - 3;
-        let row = vec![value(); inner];
-        let chain: Tree = (1..inner as u32 + 1)
-            .rev()
-            .map(|size| [record::BLOCK, 0, 9, u32::from(size > 1), 0, size])
-            .collect();
-        for tree in [row.concat(), chain] {
-            let body = block(1, &[tree]);
-            let lines = write_lines(&over(record::FUNCTION, (0, 0), &[name(), body]));
-            for room in [RECORD_WORDS * count - 1, RECORD_WORDS * count] {
+        // Three of the records stand around the others: function, name, block; and a file's program.
+        let functions = row_and_chain(count - 3).map(function);
+        let files = row_and_chain(count - 4).map(|tree| program(&[function(tree)]));
+        let items = program(&vec![smallest(record::TYPE_ITEM); (count - 1) / 3]);
+        for tree in functions.iter().chain(&files).chain([&items]) {
+            let lines = write_lines(tree);
+            for room in [RECORD_WORDS * tree.len() - 1, RECORD_WORDS * tree.len()] {
                 loading.check(&lines, room);
             }
         }
     }
+}
+
+/// So many records side by side, and as many inside one another.
+fn row_and_chain(count: usize) -> [Tree; 2] {
+    let chain = (1..count as u32 + 1)
+        .rev()
+        .map(|size| [record::BLOCK, 0, 9, u32::from(size > 1), 0, size]);
+    [vec![value(); count].concat(), chain.collect()]
+}
+
+/// A function with these records in its block.
+fn function(tree: Tree) -> Tree {
+    over(record::FUNCTION, (0, 0), &[name(), block(1, &[tree])])
 }

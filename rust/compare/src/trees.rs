@@ -35,6 +35,10 @@ pub fn block(low: u32, statements: &[Tree]) -> Tree {
     over(record::BLOCK, (low, 0), statements)
 }
 
+pub fn program(items: &[Tree]) -> Tree {
+    over(record::PROGRAM, (0, 0), items)
+}
+
 /// The number of a call.
 pub fn number(low: u32) -> Tree {
     over(record::NUMBER, (low, 0), &[])
@@ -53,7 +57,7 @@ pub fn built_in_arm(low: u32) -> Tree {
 pub fn smallest(kind: u32) -> Tree {
     let (low, children) = match kind {
         record::FUNCTION => (0, vec![name(), block(0, &[])]),
-        record::PARAMETER => (0, vec![name(), alias()]),
+        record::PARAMETER | record::TYPE_ITEM => (0, vec![name(), alias()]),
         record::UNSIGNED => (1, vec![]),
         record::EITHER => (0, vec![alias(), alias()]),
         record::OPTION | record::ARRAY_TYPE => (0, vec![alias()]),
@@ -75,23 +79,24 @@ pub fn smallest(kind: u32) -> Tree {
     over(kind, (low, 0), &children)
 }
 
-/// Functions in which the tree stands where one of its kind may stand.
-pub fn in_functions(tree: Tree) -> Vec<Tree> {
+/// Functions and files in which the tree stands where one of its kind may stand.
+pub fn in_tops(tree: Tree) -> Vec<Tree> {
     let [kind, _, _, low, _, _] = tree[0];
     let function = |low, high, children: &[Tree]| {
         let children = [&[name()], children].concat();
         vec![over(record::FUNCTION, (low, high), &children)]
     };
     let in_match =
-        |kind, arms: [Tree; 2]| in_functions(over(kind, (0, 0), &[&[value()], &arms[..]].concat()));
-    let in_call = |low| in_functions(over(record::CALL, (low, 0), &[name(), tree.clone()]));
+        |kind, arms: [Tree; 2]| in_tops(over(kind, (0, 0), &[&[value()], &arms[..]].concat()));
+    let in_call = |low| in_tops(over(record::CALL, (low, 0), &[name(), tree.clone()]));
     match kind {
-        record::FUNCTION => vec![tree],
+        record::FUNCTION | record::TYPE_ITEM => vec![program(std::slice::from_ref(&tree)), tree],
+        record::PROGRAM => vec![tree],
         record::NAME => vec![over(record::FUNCTION, (0, 0), &[tree, block(0, &[])])],
         record::PARAMETER => function(0, 1, &[tree, block(0, &[])]),
         record::ALIAS..=record::LIST_TYPE => function(2, 0, &[tree, block(0, &[])]),
         record::IDENTIFIER_PATTERN..=record::ARRAY_PATTERN => {
-            in_functions(over(record::LET, (0, 0), &[tree, alias(), value()]))
+            in_tops(over(record::LET, (0, 0), &[tree, alias(), value()]))
         }
         record::LET => function(0, 0, &[block(0, &[tree])]),
         // The other arm is the one that belongs to it.
