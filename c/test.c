@@ -329,6 +329,7 @@ static void test_loading_files(void)
     CHECK(refusal.number == 0 && refusal.line == 0 && one[0] == TOGMELIC_PROGRAM && one[1] == 0 && one[2] == 0 && one[5] == 1);
     CHECK(togmelic_load((const unsigned char *)"29 0000 FFFF 00000000 00000000 0001\n", TOGMELIC_LINE, one, TOGMELIC_RECORD_WORDS, &refusal) == 1);
     CHECK(togmelic_load((const unsigned char *)EMPTY_LINE, TOGMELIC_LINE, one, TOGMELIC_RECORD_WORDS - 1, &refusal) == 0 && refusal.number == 18);
+    CHECK(togmelic_load((const unsigned char *)"29 0001 0002 00000000 00000000 0001\n", TOGMELIC_LINE, one, TOGMELIC_RECORD_WORDS, &refusal) == 0);
     CHECK(togmelic_load((const unsigned char *)"2A 0000 0001 00000000 00000000 0001\n", TOGMELIC_LINE, one, TOGMELIC_RECORD_WORDS, &refusal) == 0);
     CHECK(refusal.number == 17 && one[0] == 0 && one[5] == 0);
 }

@@ -34,7 +34,7 @@ extern "C" {
  * of the draft from 0, end being the byte after; size counts the record and all beneath it.
  *
  * The first line is the program's, kind 41, written 29: its place is the whole draft, which may be empty, and its size is
- * the number of lines. Its children are the items in the order of the draft, functions, kind 01, and type items, kind 42,
+ * the number of lines. Its children are the items in the order of the draft, functions, kind 1, and type items, kind 42,
  * written 2A. A draft without items has the program's line alone.
  *
  * A refused draft has one line: kind 00, the place twice, the number of the refusal as low, high 0, size 1. The place

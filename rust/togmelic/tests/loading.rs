@@ -167,6 +167,7 @@ fn files() {
     assert_refused(&program("0000", "0000", "00000000", "000A"), 60, 17, 0);
     assert_refused(&program("0000", "0022", "00000001", "000A"), 60, 17, 0);
     assert_refused(&program("0000", "0022", "00000000", "0001"), 60, 17, 0);
+    assert_refused(b"29 0001 0002 00000000 00000000 0001\n", 6, 17, 0);
     // It is first, and once; a type item stands below it alone.
     assert_refused(&[LINES, EMPTY].concat(), 60, 17, 0);
     assert_refused(&[EMPTY, EMPTY].concat(), 60, 17, 0);
