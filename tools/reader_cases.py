@@ -198,8 +198,9 @@ def add_differences(cases):
         cases.add(draft)
     cases.add(";", tokens=2)
     cases.add_bodies("fold(x)", "assert(x)")
-    for draft in ("pub ^type A=b;", "^use a::b;", "^mod m{}", "^enum E{}", "type ^Either=b;"):
+    for draft in ("pub ^type a=b;", "type ^List=b;", "^use a::b;", "^mod a{}", "^enum a{}"):
         cases.add_refused(8, draft, ["file"])
+    cases.add_refused(5, '^simc"*";')
 
 
 def add_built_in_arms(cases):

@@ -4,7 +4,7 @@
 tools/refusals.py [LISTING [LOAD]]; the first program lists the draft on its standard input, by default target/bin/listing, the second, c/load.c, loads a
 listing, by default target/load.
 A section `## N: title` has drafts, each a line `Draft:` with a code span or a `sh` block that writes it, and a `text` block with its line.
-`Call:` stands for a case of crates/reader_cases, which lends `read` its buffers. `Listing:`, or `Listing, with N words:`, has a `sh` block that writes a
+`Call:` stands for a case of crates/reader_cases, which lends `read` and `read_file` their buffers. `Listing:`, or `Listing, with N words:`, has a `sh` block that writes a
 listing, and a `text` block with what the second program says. `Smallest: N bytes` is the length of the next draft or listing.
 """
 import re, subprocess, sys
@@ -16,7 +16,8 @@ CASES = ROOT / "crates/reader_cases"
 ENTRY = re.compile(r"""^(?:
       Smallest:[ ](?P<bytes>[\d,]+)[ ]byte
     | Draft:(?:[ ]`(?P<span>[^`\n]+)`\n|\n\n```sh\n(?P<command>[^`]+)```\n)\n```text\n(?P<line>[^`]+)```$
-    | Call:[ ]`read`[ ]with[ ]draft[ ]`(?P<lent>[^`\n]+)`,[ ](?P<tokens>\d+)[ ]words[ ]for[ ]tokens,[ ](?P<tree>\d+)[ ]words[ ]for[ ]the[ ]tree\n\n
+    | Call:[ ]`(?P<entry>read|read_file)`[ ]with[ ](?:draft[ ]`(?P<lent>[^`\n]+)`|the[ ]empty[ ]draft),[ ]
+      (?P<tokens>\d+)[ ]words[ ]for[ ]tokens,[ ](?P<tree>\d+)[ ]words[ ]for[ ]the[ ]tree\n\n
       ```text\nRefused[ ]{[ ]number:[ ](?P<number>\d+),[ ]place:[ ](?P<place>\d+)[ ]}\n```$
     | Listing(?:,[ ]with[ ](?P<words>\d+)[ ]words)?:\n\n```sh\n(?P<writer>[^`]+)```\n\n```text\n(?P<said>[^`]+)```$
     )""", re.M | re.X)
@@ -38,13 +39,14 @@ def draft_fault(number, found, draft):
 
 
 def answers():
-    """The answer of `read` to each case, by the words of its two buffers and its draft."""
+    """The answers to each case, by the entry, the words of its two buffers and its draft."""
     stream, found = (CASES / "stdin").read_bytes(), {}
-    results = re.findall(rb"^function (.*)$", (CASES / "stdout").read_bytes(), re.M)
-    for result in results:
+    results = re.findall(rb"^function (.*)\nfile (.*)$", (CASES / "stdout").read_bytes(), re.M)
+    for function, file in results:
         sizes, _, stream = stream.partition(b"\n")
         tokens, tree, _, length = map(int, sizes.split())
-        found[tokens, tree, stream[:length]] = result
+        found["read", tokens, tree, stream[:length]] = function
+        found["read_file", tokens, tree, stream[:length]] = file
         stream = stream[length + 1:]
     if stream:
         sys.exit("refusals: failed: crates/reader_cases has more cases than answers")
@@ -52,11 +54,11 @@ def answers():
 
 
 def call_fault(number, found, draft, results):
-    """What is wrong with a call of `read`, if anything."""
+    """What is wrong with a call of `read` or `read_file`, if anything."""
     expected = b"refused %d %d zeros" % (int(found["number"]), int(found["place"]))
     if int(found["number"]) != number:
         return f"the call has number {found['number']}"
-    answer = results.get((int(found["tokens"]), int(found["tree"]), draft), b"no such case")
+    answer = results.get((found["entry"], int(found["tokens"]), int(found["tree"]), draft), b"no such case")
     return "" if answer == expected else f"crates/reader_cases, {draft}: {answer}, the document has {expected}"
 
 
@@ -74,7 +76,7 @@ def draft_of(found):
     command = found["command"] or found["writer"]
     if command:
         return subprocess.run(["sh", "-c", command], cwd=ROOT, check=True, capture_output=True).stdout
-    return (found["span"] or found["lent"]).encode()
+    return (found["span"] or found["lent"] or "").encode()
 
 
 def entry_fault(number, found, draft, results):
