@@ -1,6 +1,6 @@
 #!/usr/bin/env python3
-"""Compares the definition of the answer (crates/grammar) with the partner (rust/partner) on random drafts, and on array lengths around the largest 64-bit
-number, every byte of the listing.
+"""Compares the definition of the answer (crates/grammar) with the partner (rust/partner) on random drafts, on array lengths around the largest 64-bit
+number and on small files, every byte of the listing.
 
 antt computes the definition: the drafts with the partner's listings become one more file of specs/ in a copy of the repository, and the
 check there refuses it if one of them differs.
@@ -24,6 +24,14 @@ def lengths():
     array = f"[b;{LARGEST + 1}]"
     drafts += [f"fn f(a:{name}){{}}" for name in (f"[{array};0]", f"[[b;0];{LARGEST + 1}]", f"List<{array},3>", f"[List<b,3>;{LARGEST + 1}]")]
     drafts += [f"fn f(){{match <{array}>::into(){{}}}}", f"fn f(){{<{array}>::into(match x{{}})}}", f"fn f()->{array}{{"]
+    return [draft.encode() for draft in drafts]
+
+
+def files():
+    """Files of no item, of one and of several; then names and pieces that are refused."""
+    drafts = ["", " //a\n", "type A=u8;", "type A=u8; fn f(){}", "fn f(){}type A=[A;2];pub fn g(){}", "type fold=_;type Left=fold;", 30 * "type A=A;"]
+    drafts += [f"type {name}=A;" for name in ("u8", "u256", "bool", "List", "Either", "Pubkey", "TokenAmount1", "match", "true")]
+    drafts += ["pub type A=u8;", "fn f(){};", "type A=u8", "type A u8;", "type A=List<u8,3>;", f"type A=[u8;{LARGEST + 1}];fn f(){{match x{{}}}}"]
     return [draft.encode() for draft in drafts]
 
 
@@ -63,8 +71,8 @@ def main():
     partner, seed, count, length = sys.argv[1], sys.argv[2], int(sys.argv[3]), int(sys.argv[4])
     with tempfile.TemporaryDirectory() as folder:
         work = pathlib.Path(folder)
-        drafts = lengths()
-        for kind in ("shaped", "damaged", "tokens"):
+        drafts = lengths() + files()
+        for kind in ("shaped", "damaged", "tokens", "files", "damaged-files"):
             stream = subprocess.run([sys.executable, root / "rust/partner/drafts.py", seed, str(20 * count), kind], capture_output=True, check=True).stdout
             drafts += list(dict.fromkeys(d for d in cases(stream) if len(d) <= length))[:count]
         stream = b"".join(b"%d\n%s" % (len(d), d) for d in drafts)
