@@ -1,5 +1,6 @@
 #!/usr/bin/env python3
-"""Compares the LL(1) table of tools/grammar.py with a direct reading of document 01, "Well-shaped drafts".
+"""Compares the LL(1) table of tools/grammar.py with a direct reading of document 01, "Well-shaped drafts", and document 02, order 3: for one function, and
+for a file.
 
     tools/compare_grammar.py [DRAFTS [SEED [DEPTH]]]
 
@@ -18,8 +19,12 @@ import grammar as generated  # noqa: E402
 # ------------------------------------------------------------------------------------------------ the tokens, as texts
 RESERVED = "unwrap_left unwrap_right array_fold for_while is_none unwrap assert panic match into fold dbg raw_hash".split()
 WORDS = "Left Right Some None Either Option List".split()
+TYPES = ["bool"] + ["u" + str(2 ** k) for k in range(9)] + (
+    "Ctx8 Pubkey Message Message64 Signature Scalar Fe Ge Gej Point Height Time Distance Duration Lock Outpoint Confidential1 ExplicitAsset Asset1 "
+    "ExplicitAmount Amount1 ExplicitNonce Nonce TokenAmount1"
+).split()
 KINDS = ("pub use as fn let type mod const match enum crate simc -> :: : ; , = => ( ) [ ] { } < >").split()
-NAMES = ["x", "_"] + WORDS + [w for w in RESERVED if w != "match"]
+NAMES = ["x", "_"] + WORDS + [w for w in RESERVED if w != "match"] + TYPES
 TEXTS = ([k for k in KINDS if k != "simc"] + ["1", "0x1", "0b1", "jet::j", "witness::W", "param::P", "assert!", "panic!", "dbg!", "list!", "false", "true"] + NAMES)
 
 
@@ -32,6 +37,8 @@ def class_of(text):
     for first, group in ((57, ["assert!", "panic!", "dbg!", "list!"]), (61, ["false", "true"])):
         if text in group:
             return first + group.index(text)
+    if text in TYPES:
+        return 63 + TYPES.index(text)
     if text in KINDS:
         return 1 + KINDS.index(text)
     for number, start in ((33, "jet::"), (34, "witness::"), (35, "param::"), (29, "0x"), (30, "0b"), (28, "1")):
@@ -47,6 +54,7 @@ TERMINALS = {
     "identifier": set(NAMES),
     "function-name": set(NAMES) - set(RESERVED),
     "called-name": set(NAMES) - set(RESERVED) - {"None"},  # `None` is itself unless `::` follows
+    "alias-name": set(NAMES) - set(TYPES) - {"Either", "Option", "List"},  # any not in `ALIAS_RESERVED`
     "decimal": {"1"}, "digits": {"1", "0x1", "0b1"}, "jet": {"jet::j"}, "witness": {"witness::W"}, "parameter": {"param::P"},
     "boolean": {"true", "false"},
 }
@@ -73,6 +81,8 @@ Head     = Wrapped '(' Pair ')' | 'None' | 'true' | 'false' | Path | Path '(' Pa
 Wrapped  = 'Left' | 'Right' | 'Some'
 Pair     = Pattern ':' Type
 Pairs    = Pair | Pairs ',' Pair
+File     = Item*
+Item     = Function | 'type' alias-name '=' Type ';'
 """
 
 
@@ -109,15 +119,15 @@ DIRECT = direct_rules()
 class Earley:
     """Sets of items (rule, place in it, origin); a list of tokens can be continued as long as the last set is not empty."""
 
-    def __init__(self):
-        self.nullable = set()
+    def __init__(self, start):
+        self.start, self.nullable = start, set()
         while True:
             more = {n for n, alternatives in DIRECT.items() if any(all(x in self.nullable for x in a) for a in alternatives)}
             if more == self.nullable:
                 break
             self.nullable = more
         self.sets, self.waiting = [], []
-        self.close({("Function", i, 0, 0) for i in range(len(DIRECT["Function"]))})
+        self.close({(start, i, 0, 0) for i in range(len(DIRECT[start]))})
 
     def close(self, items):
         here, waiting, todo, at = set(items), {}, list(items), len(self.sets)
@@ -159,19 +169,25 @@ class Earley:
         del self.waiting[length + 1:]
 
     def whole(self):
-        return any(n == "Function" and d == len(DIRECT[n][a]) and o == 0 for n, a, d, o in self.sets[-1])
+        return any(n == self.start and d == len(DIRECT[n][a]) and o == 0 for n, a, d, o in self.sets[-1])
 
 
 # ------------------------------------------------------------------------------------------------ the table
-_, SHAPES, TABLE = generated.load()
+GRAMMAR, SHAPES, TABLE = generated.load()
+# The two starts, with what the table has for each.
+STARTS = {"Function": ("child", GRAMMAR.value("function")), "File": GRAMMAR.value("file")}
 USED = set()  # the alternatives that were taken at a token that they may begin with
 
 
 class Machine:
     """The predictive machine over the table, as theory's Machine.antt has it. Its state is the symbols left to read."""
 
-    def __init__(self, stack=(("n", 0),)):
+    def __init__(self, stack):
         self.stack = stack
+
+    @classmethod
+    def at(cls, start):
+        return cls((("n", TABLE.means.index(STARTS[start])),))
 
     def settle(self, c):
         stack = list(self.stack)
@@ -193,8 +209,8 @@ class Machine:
         return self.settle(0) == []
 
 
-def by_table(texts):
-    m = Machine()
+def by_table(start, texts):
+    m = Machine.at(start)
     for p, text in enumerate(texts):
         n = m.next(class_of(text))
         if n is None:
@@ -238,6 +254,8 @@ def draft(rng, name, budget):
 
 
 def damaged(rng, texts):
+    if not texts:
+        return [rng.choice(TEXTS)], 0
     out, i = list(texts), rng.randrange(len(texts))
     way = rng.randrange(6)
     if way == 0:
@@ -257,11 +275,12 @@ def damaged(rng, texts):
 
 
 class Compared:
-    def __init__(self):
-        self.lists = self.accepted = self.refused = self.at_end = 0
+    def __init__(self, start):
+        self.start, self.lists = start, 0
+        self.accepted = self.refused = self.at_end = 0
 
     def one(self, texts, direct):
-        table = by_table(texts)
+        table = by_table(self.start, texts)
         if table != direct:
             print("difference:", " ".join(texts), "\n  document:", direct, "\n  table:   ", table)
             sys.exit(1)
@@ -271,9 +290,9 @@ class Compared:
         self.refused += direct is not None and direct < len(texts)
 
 
-def random_drafts(count, seed, compared):
+def random_drafts(start, count, seed):
     """Drafts made from the direct reading, each with four damaged copies, of which what is the same is read once."""
-    rng, earley = random.Random(seed), Earley()
+    rng, earley, compared = random.Random(seed), Earley(start), Compared(start)
 
     def verdict(texts, kept):
         earley.cut(kept)
@@ -283,7 +302,7 @@ def random_drafts(count, seed, compared):
         return None if earley.whole() else len(texts)
 
     for _ in range(count):
-        texts = draft(rng, "Function", rng.randint(6, 160))
+        texts = draft(rng, start, rng.randint(6, 160))
         compared.one(texts, verdict(texts, 0))
         for _ in range(4):
             other, kept = damaged(rng, texts)
@@ -292,18 +311,21 @@ def random_drafts(count, seed, compared):
                 same += 1
             compared.one(other, verdict(other, same))
             verdict(texts, same)
+    return compared
 
 
+# Where to go on from: in a function, and in a file besides.
 BEGINNINGS = ["", "fn x ( x :", "fn x ( ) {", "fn x ( ) { let", "fn x ( ) { match x {", "fn x ( ) { match x { Left", "fn x ( ) { match x { x :: x (",
               "fn x ( ) { match x { None => 1 ,", "fn x ( ) { match x { None => { }", "fn x ( ) { match x { None =>", "fn x ( ) { x ::", "fn x ( ) { fold ::",
               "fn x ( ) { is_none :: < x", "fn x ( ) { for_while :: <", "fn x ( ) -> List <", "fn x ( ) { ( x", "fn x ( ) { list!", "fn x ( ) { < x"]
+ITEMS = ["type", "type x", "type x =", "type x = x", "type x = x ;", "fn x ( ) { }", "type x = x ; fn x ( ) { }", "pub"]
 
 
-def all_ways(depth):
+def all_ways(start, beginnings, depth):
     """From each beginning, every list of up to so many tokens more that can be continued, and every token after it."""
     lists = 0
-    for beginning in BEGINNINGS:
-        earley, m = Earley(), Machine()
+    for beginning in beginnings:
+        earley, m = Earley(start), Machine.at(start)
         for text in beginning.split():
             assert earley.push(text)
             m = m.next(class_of(text))
@@ -333,11 +355,12 @@ def main():
     count = int(sys.argv[1]) if len(sys.argv) > 1 else 4000
     seed = int(sys.argv[2]) if len(sys.argv) > 2 else 1
     depth = int(sys.argv[3]) if len(sys.argv) > 3 else 1
-    compared = Compared()
-    lists = all_ways(depth)
-    print(f"{lists} lists from {len(BEGINNINGS)} beginnings, all ways to go on by {depth + 1} tokens: no difference")
-    random_drafts(count, seed, compared)
-    print(f"{compared.lists} random lists: {compared.accepted} accepted, {compared.refused} refused at a token, {compared.at_end} at the end: no difference")
+    for start, beginnings in (("Function", BEGINNINGS), ("File", BEGINNINGS + ITEMS)):
+        lists = all_ways(start, beginnings, depth)
+        print(f"{start}: {lists} lists from {len(beginnings)} beginnings, all ways to go on by {depth + 1} tokens: no difference")
+        compared = random_drafts(start, count, seed)
+        told = f"{compared.accepted} accepted, {compared.refused} refused at a token, {compared.at_end} at the end"
+        print(f"{start}: {compared.lists} random lists: {told}: no difference")
     print(f"{len(USED)} of the table's {sum(map(len, TABLE.rules))} alternatives were taken")
 
 

@@ -1,7 +1,8 @@
 // Reads and lists the drafts that its input gives, with buffers of the lengths that each case asks.
 // A case: a line with the words of the token buffer, the words of the tree buffer, the bytes of the byte buffer and the bytes of the
-// draft, one space between; then the draft and a line end. Written are both answers, whether an accepted draft's records own its
-// tokens, whether what is behind the results is zero, and the lines of the listing.
+// draft, one space between; then the draft and a line end. Written are the answers of all three entries: whether an accepted draft's records own its
+// tokens, whether what is behind the results is zero, whether the words of one function are those of the file behind its first record, and the lines of
+// the listing.
 ghost use mathlib.Core.Path.{_≡_};
 ghost use Prim.Native.Nat.{_+_, _≤_, _<_};
 ghost use lib.ListN.{length};
@@ -85,10 +86,22 @@ fn write_number(n: usize) {
 
 fn write_zeros(all: bool) {
     if all {
-        io::write_all(STDOUT_FILENO, b" zeros\n");
+        io::write_all(STDOUT_FILENO, b" zeros");
     } else {
-        io::write_all(STDOUT_FILENO, b" NOT ZERO\n");
+        io::write_all(STDOUT_FILENO, b" NOT ZERO");
     }
+}
+
+fn write_same(all: bool) {
+    if all {
+        io::write_all(STDOUT_FILENO, b" same");
+    } else {
+        io::write_all(STDOUT_FILENO, b" NOT SAME");
+    }
+}
+
+fn end_line() {
+    io::write_all(STDOUT_FILENO, b"\n");
 }
 
 fn write_owned(all: bool) {
@@ -99,13 +112,28 @@ fn write_owned(all: bool) {
     }
 }
 
+// Whether an accepted draft's records own its tokens, at the entry for files or for one function.
+fn owned_at(draft: &[u8], tokens: &[u32], tree: &[u32], file: bool) -> bool {
+    if file {
+        return owned::file_owned(draft, tokens, tree);
+    }
+    owned::owned(draft, tokens, tree)
+}
+
 // What is found of an accepted draft; numbers that the buffers cannot hold are wrong at once.
-fn write_accepted(draft: &[u8], tokens: &[u32], count: usize, tree: &[u32], records: usize) {
+fn write_accepted(
+    draft: &[u8],
+    tokens: &[u32],
+    count: usize,
+    tree: &[u32],
+    records: usize,
+    file: bool,
+) {
     if count <= tokens.len() / text::TOKEN_WORDS {
         if records <= tree.len() / text::RECORD_WORDS {
             let e = text::TOKEN_WORDS * count;
             let f = text::RECORD_WORDS * records;
-            let good = owned::owned(draft, &tokens[..e], &tree[..f]);
+            let good = owned_at(draft, &tokens[..e], &tree[..f], file);
             write_owned(good);
             write_zeros(zeros(tokens, e) && zeros(tree, f));
             return;
@@ -115,28 +143,68 @@ fn write_accepted(draft: &[u8], tokens: &[u32], count: usize, tree: &[u32], reco
     write_zeros(false);
 }
 
-// The answer of the reader, and what is found of it.
-fn write_reading(draft: &[u8], tokens: &mut [u32], tree: &mut [u32]) {
+// The answer of one of the reader's two entries.
+fn read_at(draft: &[u8], tokens: &mut [u32], tree: &mut [u32], file: bool) -> Reading {
+    if file {
+        return reader::read_file(draft, tokens, tree);
+    }
+    reader::read(draft, tokens, tree)
+}
+
+// The answer, and what is found of it; whether it is accepted.
+fn write_reading(draft: &[u8], tokens: &mut [u32], tree: &mut [u32], file: bool) -> bool {
     fill(tokens);
     fill(tree);
-    let reading = reader::read(draft, tokens, tree);
+    let reading = read_at(draft, tokens, tree, file);
     match reading {
         Reading::Accepted {
             tokens: count,
             records,
         } => {
-            io::write_all(STDOUT_FILENO, b"accepted");
+            io::write_all(STDOUT_FILENO, b" accepted");
             write_number(count);
             write_number(records);
-            write_accepted(draft, tokens, count, tree, records);
+            write_accepted(draft, tokens, count, tree, records, file);
+            true
         }
         Reading::Refused { number, place } => {
-            io::write_all(STDOUT_FILENO, b"refused");
+            io::write_all(STDOUT_FILENO, b" refused");
             write_number(number as usize);
             write_number(place);
             write_zeros(zeros(tokens, 0) && zeros(tree, 0));
+            false
         }
     }
+}
+
+// Whether the words of one function are those of the file behind its first record, as far as there are both.
+fn same_below(one: &[u32], whole: &[u32]) -> bool {
+    let mut i: usize = 0;
+    let mut j = text::RECORD_WORDS;
+    while j < whole.len() {
+        if i >= one.len() {
+            return true;
+        }
+        if one[i] != whole[j] {
+            return false;
+        }
+        i += 1;
+        j += 1;
+    }
+    true
+}
+
+// The answers of the two entries.
+fn write_readings(draft: &[u8], tokens: &mut [u32], one: &mut [u32], whole: &mut [u32]) {
+    io::write_all(STDOUT_FILENO, b"function");
+    let first = write_reading(draft, tokens, one, false);
+    end_line();
+    io::write_all(STDOUT_FILENO, b"file");
+    let second = write_reading(draft, tokens, whole, true);
+    if first && second {
+        write_same(same_below(one, whole));
+    }
+    end_line();
 }
 
 // The answer of the entry for C, and the lines that it wrote.
@@ -146,6 +214,7 @@ fn write_listing(draft: &[u8], out: &mut [u8]) {
     io::write_all(STDOUT_FILENO, b"listed");
     write_number(used);
     write_zeros(used <= out.len() && zero_bytes(out, used));
+    end_line();
     if used <= out.len() {
         io::write_all(STDOUT_FILENO, &out[..used]);
     }
@@ -156,9 +225,15 @@ fn write_case(draft: &[u8], words: usize, records: usize, bytes: usize)
     requires { ⌜ (words ≤ 8192) × (records ≤ 16384) × (bytes ≤ 80000) ⌝ }
 {
     let mut tokens = token_buffer();
-    let mut tree = tree_buffer();
+    let mut one = tree_buffer();
+    let mut whole = tree_buffer();
     let mut out = byte_buffer();
-    write_reading(draft, &mut tokens[..words], &mut tree[..records]);
+    write_readings(
+        draft,
+        &mut tokens[..words],
+        &mut one[..records],
+        &mut whole[..records],
+    );
     write_listing(draft, &mut out[..bytes]);
 }
 

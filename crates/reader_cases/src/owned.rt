@@ -1,4 +1,4 @@
-// Whether the records of an accepted draft own its tokens (document 01, "Records and the marks they own"), by trying every place.
+// Whether the records of an accepted draft own its tokens (document 01, "Records and the marks they own"; document 02, order 3), by trying every place.
 // A record owns what its place holds and no child's does. `TOKEN_WORDS` a token and `RECORD_WORDS` a record, with no words behind them.
 // Check 1: one record alone owns each token; no other that holds it has as few bytes; its kind may own the token's class.
 // Check 2: a child is of a kind that its record may hold, and in its place; the children's sizes and one more are the record's size.
@@ -250,14 +250,8 @@ fn counts_agree(tokens: &[u32], tree: &[u32]) -> bool {
     left == 0
 }
 
-// Whether all four checks hold, and the first record's size is the number of records.
-pub(crate) fn owned(draft: &[u8], tokens: &[u32], tree: &[u32]) -> bool {
-    if tree.len() < RECORD_WORDS {
-        return false;
-    }
-    if wide(tree[5]) != tree.len() / RECORD_WORDS {
-        return false;
-    }
+// Whether all four checks hold of trees side by side.
+fn trees_owned(draft: &[u8], tokens: &[u32], tree: &[u32]) -> bool {
     if !records_fit(tree) {
         return false;
     }
@@ -265,4 +259,43 @@ pub(crate) fn owned(draft: &[u8], tokens: &[u32], tree: &[u32]) -> bool {
         return false;
     }
     counts_agree(tokens, tree)
+}
+
+// Whether they hold of one tree: the first record's size is the number of records.
+pub(crate) fn owned(draft: &[u8], tokens: &[u32], tree: &[u32]) -> bool {
+    if tree.len() < RECORD_WORDS {
+        return false;
+    }
+    if wide(tree[5]) != tree.len() / RECORD_WORDS {
+        return false;
+    }
+    trees_owned(draft, tokens, tree)
+}
+
+// Whether the first record is that of a file of so many bytes, and counts all records.
+fn program_first(tree: &[u32], bytes: usize) -> bool
+    requires { ⌜ recWide ≤ length (now tree) ⌝ }
+{
+    if tree[0] != kind::PROGRAM || tree[1] != 0 || wide(tree[2]) != bytes {
+        return false;
+    }
+    tree[3] == 0 && tree[4] == 0 && wide(tree[5]) == tree.len() / RECORD_WORDS
+}
+
+// Whether the records of an accepted file own its tokens: the first, which is no other's kind, owns none and holds its items; the four checks hold of all
+// others.
+pub(crate) fn file_owned(draft: &[u8], tokens: &[u32], tree: &[u32]) -> bool {
+    if tree.len() < RECORD_WORDS {
+        return false;
+    }
+    if !program_first(tree, draft.len()) {
+        return false;
+    }
+    if !children_fit(tree, 0) {
+        return false;
+    }
+    if owned_by(tokens, tree, 0) != 0 {
+        return false;
+    }
+    trees_owned(draft, tokens, &tree[RECORD_WORDS..])
 }
