@@ -103,7 +103,7 @@ def after(child, a):
 
 # ---------------------------------------------------------------------------------------------- the table
 values = Values([(os.path.join(ROOT, name + ".antt"), short) for name, short in SOURCES])
-FORMS, CATEGORIES, PARTNERS = values.value("forms"), values.value("categories"), values.value("arm.partners")
+FORMS, CATEGORIES, PARTNERS = values.value("allForms"), values.value("categories"), values.value("arm.partners")
 NAME, ARM, NUMBER, MATCH, LAST = (values.value("kind." + n) for n in ("Name", "BuiltinArm", "Number", "Match", "Last"))
 ARMS = 1 + max(max(p) for p in PARTNERS)
 # A child for each cue, kind and low: any other; one of each category; an arm by its low; a number from 1 on that is a bound, and one that is none.

@@ -96,8 +96,8 @@ more-right cs cs′ ks ks′ = all-map go
     go (word c) t = has-right cs cs′ c t
     go (child k l h c) t = has-right ks ks′ k t
 
--- a sequence of a shape has only pieces of it
-spells-listed : {a : Shape} {w : List Sort} → Spells a w → All (λ s. T (listed (classesIn a) (kindsIn a) s)) w
+-- A sequence of a shape has only pieces of it.
+pub spells-listed : {a : Shape} {w : List Sort} → Spells a w → All (λ s. T (listed (classesIn a) (kindsIn a) s)) w
 unfolding gather
 spells-listed empty = nil
 spells-listed (one-mark c h) = h & nil

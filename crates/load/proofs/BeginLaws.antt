@@ -107,15 +107,15 @@ module _ (a low high x y z : ℕ) where
 
 -- What the table has of a kind.
 module _ (ns : List ℕ) (held : ns ≡ heads) (k : ℕ) where
-  pub asked-past : kind.Number < k → 0 ≡ askedOf k
+  pub asked-past : kind.Last < k → 0 ≡ askedOf k
   unfolding askedOf
   asked-past h = simp (le-ltb k kindsEnd h)
 
-  pub asked-is : k ≤ kind.Number → getD ns (begin.columns * k) 0 ≡ askedOf k
+  pub asked-is : k ≤ kind.Last → getD ns (begin.columns * k) 0 ≡ askedOf k
   unfolding askedOf
   asked-is h = ap (λ (l : List ℕ). getD l (begin.columns * k) 0) held ∙ simp (lt-ltb k kindsEnd (omega arith))
 
-  pub lows-are : k ≤ kind.Number → getD ns (begin.columns * k + 2) 0 ≡ lowsOf k
+  pub lows-are : k ≤ kind.Last → getD ns (begin.columns * k + 2) 0 ≡ lowsOf k
   unfolding lowsOf
   lows-are h = ap (λ (l : List ℕ). getD l (begin.columns * k + 2) 0) held ∙ simp (lt-ltb k kindsEnd (omega arith))
 
@@ -128,7 +128,7 @@ heads-long : length heads ≡ headCount
 unfolding heads
 heads-long = refl
 
-pub in-table : (k i : ℕ) → k ≤ kind.Number → i < lowsOf k → firstOf k + i < headCount
+pub in-table : (k i : ℕ) → k ≤ kind.Last → i < lowsOf k → firstOf k + i < headCount
 in-table k i h l =
     let t = all-count (λ j. leb (firstOf j + lowsOf j) (length heads)) kindsEnd 0 k states-stand (omega arith) (omega arith) in
     let q = leb→le (firstOf k + lowsOf k) (length heads) t in
@@ -146,7 +146,7 @@ started : (r k low high : ℕ) → r ≡ start k low high → Started r k low hi
 started r k low high e = (e, subst (λ (q : ℕ). q < stateCount) (sym e) (start-below k low high))
 
 module _ (k low high : ℕ) where
-  pub start-past : kind.Number < k → Started 0 k low high
+  pub start-past : kind.Last < k → Started 0 k low high
   unfolding start lowsOf
   start-past h = started 0 k low high (simp (le-ltb k kindsEnd h, le-ltb (which (askedOf k) low) 0 (omega arith)))
 
@@ -183,5 +183,5 @@ pub agreed-is : {r : Bool} {a : ℕ} (k low high x y z : ℕ) → a ≡ askedOf 
 agreed-is k low high x y z e is = is ∙ ap (λ (b : ℕ). agrees b low high x y z) e
 
 -- A state of a kind stands in the table.
-pub in-rows : (k : ℕ) → k ≤ kind.Number → {n i f : ℕ} → n ≡ lowsOf k → i < n → f ≡ firstOf k → f + i < headCount
+pub in-rows : (k : ℕ) → k ≤ kind.Last → {n i f : ℕ} → n ≡ lowsOf k → i < n → f ≡ firstOf k → f + i < headCount
 in-rows k h {n} {i} {f} e l g = let t = in-table k i h (omega arith) in omega arith

@@ -1,21 +1,22 @@
 -- What the code finds of each record, against the test of the definition.
 -- Assumes nothing.
-use mathlib.Core.Bool.{Bool, true, false, _&&_, not}
+use mathlib.Core.Bool.{Bool, true, false, _&&_, _||_, not}
 use mathlib.Core.List.{List, [], _∷_}
 use mathlib.Core.Path.{_≡_, refl, sym, ap, _∙_, subst}
 use Prim.Native.Nat.{ℕ, zero, suc, _+_, _-_, _<_, _≤_}
 use native.Mathlib.Omega.{arith}
 use native.Mathlib.Decide.{decLt}
-use borrow.Author.Tests.{lt-ltb}
+use borrow.Author.Tests.{eq-eqb, ne-eqb, lt-ltb}
 use lib.Dec.{T, eqb, ltb, leb}
 use lib.ListN.{length, getD}
 use Rattle.text.specs.Table.{is-true, is-false, pair}
 use Rattle.own.specs.Tree.{Rec}
 use Rattle.own.specs.Flat.{blank, children}
+use Rattle.own.specs.Kinds as kind
 use Rattle.kinds.specs.Shape.{halfRange}
 use Rattle.kinds.specs.Fields.{halves}
-use Rattle.load.specs.Function.{Right, isTop, OneFunction}
-use Rattle.load.specs.FunctionTest.{oneFunction, one-exactly}
+use Rattle.load.specs.Function.{Right, isTop, Whole}
+use Rattle.load.specs.FunctionTest.{placed, placed-exactly, isWhole, whole-exactly}
 use Rattle.load.specs.children.Run.{ended}
 use Rattle.load.specs.children.Begin.{agrees, askedOf, start}
 use Rattle.load.specs.check.Stands.{stands, stands-exactly, stands-each}
@@ -46,6 +47,25 @@ module _ (r : Rec) (s : Seen) {w : Walked} (done : w ≡ Done s) {e : Bool} (its
   pub verdict-not : e ≡ false → false ≡ verdict r w
   verdict-not p = so false p
 
+-- Which records may be tops, and whether a record is placed.
+module _ (r : Rec) where
+  pub top-function : r .kind ≡ kind.Function → true ≡ isTop r
+  top-function e = simp (eq-eqb (r .kind) kind.Function e)
+
+  pub top-program : (r .kind ≡ kind.Function → ⊥) → r .kind ≡ kind.Program → eqb (r .start) 0 ≡ isTop r
+  top-program n e = simp (ne-eqb (r .kind) kind.Function n, eq-eqb (r .kind) kind.Program e)
+
+  pub top-other : (r .kind ≡ kind.Function → ⊥) → (r .kind ≡ kind.Program → ⊥) → eqb (r .kind) kind.Program ≡ isTop r
+  top-other n m = simp (ne-eqb (r .kind) kind.Function n, ne-eqb (r .kind) kind.Program m)
+
+  pub placed-program : r .kind ≡ kind.Program → true ≡ placed r
+  unfolding placed
+  placed-program e = simp (eq-eqb (r .kind) kind.Program e)
+
+  pub placed-other : (r .kind ≡ kind.Program → ⊥) → ltb (r .start) (r .stop) ≡ placed r
+  unfolding placed
+  placed-other n = simp (ne-eqb (r .kind) kind.Program n)
+
 -- Whether a record stands in the list with all that it counts, and is right.
 module _ (rs : List Rec) (j : ℕ) (r : Rec) (its : r ≡ getD rs j blank) where
   standing : T (stands rs j) → (j + r .size ≤ length rs) × Right r (children rs j)
@@ -62,21 +82,21 @@ module _ (rs : List Rec) (j : ℕ) (r : Rec) (its : r ≡ getD rs j blank) where
   pub stands-over : length rs - j < r .size → false ≡ stands rs j
   stands-over h = refuted (λ t. let a = standing t .0 in absurd (omega arith))
 
-  pub stands-place : r .stop ≤ r .start → false ≡ stands rs j
-  stands-place h = refuted (λ t. let a = standing t .1 .place in absurd (omega arith))
+  pub stands-place : {b : Bool} → b ≡ placed r → b ≡ false → false ≡ stands rs j
+  stands-place e f = refuted (λ t. subst T (sym e ∙ f) (placed-exactly r .1 (standing t .1 .place)))
 
   small : r .low < halfRange → r .high < halfRange → T (halves (r .low) (r .high))
   unfolding halves
   small a b = pair (ltb (r .low) halfRange) (ltb (r .high) halfRange) (subst T (sym (lt-ltb (r .low) halfRange a)) tt) (subst T (sym (lt-ltb (r .high) halfRange b)) tt)
 
-  pub stands-is : r .low < halfRange → r .high < halfRange → 0 < r .size → j + r .size ≤ length rs → r .start < r .stop → {q : ℕ} → q ≡ start (r .kind) (r .low) (r .high)
+  pub stands-is : r .low < halfRange → r .high < halfRange → 0 < r .size → j + r .size ≤ length rs → T (placed r) → {q : ℕ} → q ≡ start (r .kind) (r .low) (r .high)
       → {w : Walked} → w ≡ judge r (before r q) (children rs j) → {b : Bool} → b ≡ verdict r w → b ≡ stands rs j
   stands-is lo hi some room place {q} qs {w} ws {b} bs =
       let v = bs ∙ ap (verdict r) (ws ∙ ap (λ (x : ℕ). judge r (before r x) (children rs j)) qs) in
       v
       ∙ alike (verdict r (judge r (before r (start (r .kind) (r .low) (r .high))) (children rs j))) (stands rs j)
       (λ t.
-      let (counted, right) = found-right r (children rs j) (small lo hi) some place t in
+      let (counted, right) = found-right r (children rs j) (small lo hi) some (placed-exactly r .0 place) t in
       stands-exactly rs j .1 (record {
         room = subst (λ (x : Rec). j + x .size ≤ length rs) its room;
         some = counted;
@@ -90,13 +110,13 @@ Passing rs j = (i : ℕ) → i < j → T (stands rs i)
 
 -- Whether all records do, and the first is the top of them.
 module _ (rs : List Rec) where
-  whole : T (oneFunction rs) → OneFunction rs
-  whole t = one-exactly rs .0 t
+  whole : T (isWhole rs) → Whole rs
+  whole t = whole-exactly rs .0 t
 
-  refused : (OneFunction rs → ⊥) → false ≡ oneFunction rs
-  refused n = sym (is-false (oneFunction rs) (λ t. n (whole t)))
+  refused : (Whole rs → ⊥) → false ≡ isWhole rs
+  refused n = sym (is-false (isWhole rs) (λ t. n (whole t)))
 
-  pub one-none : {n : ℕ} → n ≡ length rs → n ≡ 0 → false ≡ oneFunction rs
+  pub one-none : {n : ℕ} → n ≡ length rs → n ≡ 0 → false ≡ isWhole rs
   one-none e z = refused (λ o. nothing rs (sym e ∙ z) (o .top))
     where
       nothing : (l : List Rec) → length l ≡ 0 → T (isTop (getD l 0 blank)) → ⊥
@@ -104,18 +124,18 @@ module _ (rs : List Rec) where
       nothing (x ∷ l) e t = absurd (omega arith)
 
   module _ (r : Rec) (its : r ≡ getD rs 0 blank) where
-    pub one-top : (b : Bool) → b ≡ isTop r → b ≡ false → false ≡ oneFunction rs
+    pub one-top : (b : Bool) → b ≡ isTop r → b ≡ false → false ≡ isWhole rs
     one-top b e f = refused (λ o. subst T (ap isTop (sym its) ∙ sym e ∙ f) (o .top))
 
-    pub one-size : {n : ℕ} → n ≡ length rs → (r .size ≡ n → ⊥) → false ≡ oneFunction rs
-    one-size e m = refused (λ o. m (ap (λ (x : Rec). x .size) its ∙ o .whole ∙ sym e))
+    pub one-size : {n : ℕ} → n ≡ length rs → (r .size ≡ n → ⊥) → false ≡ isWhole rs
+    one-size e m = refused (λ o. m (ap (λ (x : Rec). x .size) its ∙ o .counts-all ∙ sym e))
 
-    pub one-all : {n : ℕ} → n ≡ length rs → (b : Bool) → b ≡ isTop r → T b → r .size ≡ n → Passing rs n → true ≡ oneFunction rs
+    pub one-all : {n : ℕ} → n ≡ length rs → (b : Bool) → b ≡ isTop r → T b → r .size ≡ n → Passing rs n → true ≡ isWhole rs
     one-all e b is t size p =
-        sym (is-true (oneFunction rs) (one-exactly rs .1 (stands-each rs .1
+        sym (is-true (isWhole rs) (whole-exactly rs .1 (stands-each rs .1
         (subst T (is ∙ ap isTop its) t, ap (λ (x : Rec). x .size) (sym its) ∙ size ∙ e, λ j h. stands-exactly rs j .0 (p j (omega arith))))))
 
-  pub one-bad : {n : ℕ} (j : ℕ) → n ≡ length rs → j < n → {b : Bool} → b ≡ stands rs j → b ≡ false → false ≡ oneFunction rs
+  pub one-bad : {n : ℕ} (j : ℕ) → n ≡ length rs → j < n → {b : Bool} → b ≡ stands rs j → b ≡ false → false ≡ isWhole rs
   one-bad j e h is f = refused (λ o. subst T (sym is ∙ f) (stands-exactly rs j .1 (stands-each rs .0 o .2 j (omega arith))))
 
 -- What the loop over the records keeps: those before stand, and are right.

@@ -17,7 +17,7 @@ use Rattle.own.specs.Arms as arm
 use Rattle.kinds.specs.Groups.{categorySet}
 use Rattle.kinds.specs.Shape.{number}
 use Rattle.load.specs.children.Cue as cue
-use Rattle.load.specs.children.Cue.{placeFrom, categoryBits, kindCue, armCue, numberCue, refined, cue}
+use Rattle.load.specs.children.Cue.{categoryCount, placeFrom, categoryBits, kindCue, armCue, numberCue, refined, cue}
 
 -- arms
 pub arm-none : (low : ℕ) → low ≡ 0 → cue.Arm ≡ armCue low
@@ -47,12 +47,12 @@ module _ (n : ℕ) {b : Bool} (is : b ≡ boundOk (Number n)) where
   number-size e z = simp (sym is ∙ e, lt-ltb 0 n (omega arith))
 
 -- The cue of the category at a place, by its bit.
-places-right : T (all (λ i. eqb (placeFrom cue.Name categoryBits (2 ^ i)) (suc i)) (span 0 9))
+places-right : T (all (λ i. eqb (placeFrom cue.Name categoryBits (2 ^ i)) (suc i)) (count categoryCount 0))
 unfolding all placeFrom count span
 places-right = tt
 
 abbrev plain : ℕ → Bool
-plain i = ltb i 10 && (not (eqb (suc i) cue.Arm) && not (eqb (suc i) cue.Zero))
+plain i = ltb i categoryCount && (not (eqb (suc i) cue.Arm) && not (eqb (suc i) cue.Zero))
 
 -- A number is none of a list, the last arm of a `match` first; the bits of the categories so.
 abbrev pub NoneOf : List ℕ → ℕ → Type 0
@@ -60,7 +60,7 @@ NoneOf [] x = Unit {0}
 NoneOf (a ∷ l) x = NoneOf l x × (x ≡ a → ⊥)
 
 abbrev pub bitsDown : List ℕ
-bitsDown = 2 ^ 9 ∷ 2 ^ 8 ∷ 2 ^ 7 ∷ 2 ^ 6 ∷ 2 ^ 5 ∷ 2 ^ 4 ∷ 2 ^ 3 ∷ 2 ^ 2 ∷ 2 ^ 1 ∷ 2 ^ 0 ∷ []
+bitsDown = 2 ^ 11 ∷ 2 ^ 10 ∷ 2 ^ 9 ∷ 2 ^ 8 ∷ 2 ^ 7 ∷ 2 ^ 6 ∷ 2 ^ 5 ∷ 2 ^ 4 ∷ 2 ^ 3 ∷ 2 ^ 2 ∷ 2 ^ 1 ∷ 2 ^ 0 ∷ []
 
 none-has : (l : List ℕ) (x : ℕ) → NoneOf l x → T (has l x) → ⊥
 unfolding has
@@ -76,20 +76,20 @@ unfolding all has span count
 bits-listed = tt
 
 module _ (k low high : ℕ) {s : ℕ} (is : s ≡ categorySet k) where
-  place : (i : ℕ) → i < 10 → s ≡ 2 ^ i → kindCue k ≡ suc i
+  place : (i : ℕ) → i < categoryCount → s ≡ 2 ^ i → kindCue k ≡ suc i
   unfolding kindCue span
   place i h e =
       ap (placeFrom cue.Name categoryBits) (sym is ∙ e)
-      ∙ eqb→eq (placeFrom cue.Name categoryBits (2 ^ i)) (suc i) (all-count (λ i. eqb (placeFrom cue.Name categoryBits (2 ^ i)) (suc i)) 10 0 i places-right (omega arith) (omega arith))
+      ∙ eqb→eq (placeFrom cue.Name categoryBits (2 ^ i)) (suc i) (all-count (λ i. eqb (placeFrom cue.Name categoryBits (2 ^ i)) (suc i)) categoryCount 0 i places-right (omega arith) (omega arith))
 
   pub plain-cue : (i : ℕ) → T (plain i) → s ≡ 2 ^ i → suc i ≡ cue k low high
   unfolding cue refined
   plain-cue i t e =
-      let a = ltb i 10 in
+      let a = ltb i categoryCount in
       let b = not (eqb (suc i) cue.Arm) in
       let c = not (eqb (suc i) cue.Zero) in
       let u = second-of a (b && c) t in
-      sym (ap (λ (x : ℕ). refined x low high) (place i (ltb→lt i 10 (first-of a (b && c) t)) e) ∙ simp (not-true (eqb (suc i) cue.Arm) (first-of b c u), not-true (eqb (suc i) cue.Zero) (second-of b c u)))
+      sym (ap (λ (x : ℕ). refined x low high) (place i (ltb→lt i categoryCount (first-of a (b && c) t)) e) ∙ simp (not-true (eqb (suc i) cue.Arm) (first-of b c u), not-true (eqb (suc i) cue.Zero) (second-of b c u)))
 
   pub arm-cue : {r : ℕ} → s ≡ 2 ^ 7 → r ≡ armCue low → r ≡ cue k low high
   unfolding cue refined

@@ -16,7 +16,7 @@ use Rattle.text.specs.Refusals as refusal
 use Rattle.text.specs.Widths.{recWide}
 use Rattle.own.specs.Words.{recWords}
 use Rattle.lines.specs.Lines.{widths, lineBytes}
-use Rattle.load.specs.FunctionTest.{oneFunction}
+use Rattle.load.specs.FunctionTest.{isWhole}
 use Rattle.load.specs.Load.{recordsOf, loadOf, contents, wordsOf}
 use Rattle.load.specs.Meant.{meant, returned}
 use Rattle.load.specs.Laws.{promised}
@@ -43,19 +43,19 @@ module _ (text : List ℕ) (room : ℕ) {ws : List ℕ} (held : ws ≡ widths) {
   unfolding loadOf
   load-bad h = (λ i. refused refusal.BadLine (its i)) ∙ simp (lt-ltb 0 (badLine widths text) (omega (arith, its)))
 
-  module _ (good : bad ≤ 0) {b : Bool} (one : b ≡ oneFunction (recordsIn ws text)) where
+  module _ (good : bad ≤ 0) {b : Bool} (one : b ≡ isWhole (recordsIn ws text)) where
     fine : ltb 0 (badLine widths text) ≡ false
     fine = le-ltb 0 (badLine widths text) (omega (arith, its))
 
-    function : b ≡ oneFunction (recordsOf text)
-    function = one ∙ ap (λ (x : List ℕ). oneFunction (recordsIn x text)) held
+    function : b ≡ isWhole (recordsOf text)
+    function = one ∙ ap (λ (x : List ℕ). isWhole (recordsIn x text)) held
 
     pub load-none : b ≡ false → refused refusal.NoFunction 0 ≡ loadOf text room
     unfolding loadOf
     load-none f = simp (fine, sym function ∙ f)
 
     module _ (yes : T b) {n : ℕ} (many : n ≡ length text / lineBytes) where
-      so : oneFunction (recordsOf text) ≡ true
+      so : isWhole (recordsOf text) ≡ true
       so = sym function ∙ passes b yes
         where
           passes : (x : Bool) → T x → x ≡ true
@@ -89,7 +89,7 @@ handed-refused text room {x = x} e r z = all-four text room x e (z ∙ ap (λ (a
 -- as many records as there are lines, which fit
 pub loaded-is : (text : List ℕ) (room n : ℕ) → accepted 0 n ≡ loadOf text room → (n ≡ length (recordsOf text)) × (recWide * n ≤ room)
 unfolding loadOf
-loaded-is text room n e = go (ltb 0 (badLine widths text)) (oneFunction (recordsOf text)) (ltb room (recWide * length (recordsOf text))) refl e
+loaded-is text room n e = go (ltb 0 (badLine widths text)) (isWhole (recordsOf text)) (ltb room (recWide * length (recordsOf text))) refl e
   where
     go : (a b s : Bool) → ltb room (recWide * length (recordsOf text)) ≡ s
         → accepted 0 n

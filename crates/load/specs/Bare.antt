@@ -1,4 +1,4 @@
--- The kinds table as a listing shows it: the marks left out, and a name without the class of its token (request 1). It is that of crate `kinds`;
+-- The kinds table as a listing shows it: the marks left out, and a name without the class of its token (order 1). It is that of crate `kinds`;
 -- nothing of it is said here.
 -- Assumes nothing.
 use mathlib.Core.List.{[], _∷_}

@@ -16,6 +16,7 @@ use Rattle.num.specs.Bound.{isBound}
 use Rattle.own.specs.Tree.{Node, roots, end, Rec, recordOf, tokens, all, records}
 use Rattle.own.specs.Flat.{blank, children}
 use Rattle.own.specs.Law.{Sort, word, child}
+use Rattle.own.specs.File.{program, filed}
 use Rattle.own.specs.Lists.{All, nil, _&_, all-concat, all-at, all-from}
 use Rattle.own.specs.Places.{bounded}
 use Rattle.own.specs.Owners.{no-node, kept}
@@ -26,8 +27,8 @@ use Rattle.kinds.specs.Families as family
 use Rattle.kinds.specs.Shape.{halfRange, number}
 use Rattle.kinds.specs.Fields as field
 use Rattle.kinds.specs.Fields.{Fields, counted, halves, holds}
-use Rattle.kinds.specs.Rules.{Form, forms}
-use Rattle.kinds.specs.Spelled.{formsOf}
+use Rattle.kinds.specs.Rules.{Form, forms, allForms}
+use Rattle.kinds.specs.Decide.{formsFor}
 use Rattle.kinds.specs.Ownership as kinds
 use Rattle.load.specs.Bare.{bare}
 use Rattle.load.specs.Function.{Fits, sizes, Right}
@@ -51,8 +52,8 @@ small (field.among ns) = lists.all (λ n. ltb n halfRange) ns
 abbrev smallForm : Form → Bool
 smallForm f = ltb (f .kind) (power kindDigits) && small (f .fields)
 
-all-small : T (lists.all smallForm forms)
-unfolding lists.all forms span count
+all-small : T (lists.all smallForm allForms)
+unfolding lists.all allForms forms span count
 all-small = tt
 
 counted-few : (ks : List ℕ) (w : List Sort) → counted ks w ≤ length w
@@ -102,9 +103,9 @@ children-few (p & h) = let k = children-few h in omega arith
 
 -- A right record of few children.
 right-small : (r : Rec) (cs : List Rec) → Right r cs → All Counts cs → r .size ≤ halfRange → (r .kind < power kindDigits) × (r .low < halfRange) × (r .high < halfRange)
-unfolding formsOf
+unfolding formsFor
 right-small r cs o some few =
-    from-some one (all-some smallForm all-small (some-keep (λ f. eqb (f .kind) (r .kind)) forms (o .formed)))
+    from-some one (all-some smallForm all-small (some-keep (λ f. eqb (f .kind) (r .kind)) allForms (o .formed)))
   where
     one : (f : Form) → T (smallForm f) × (T (eqb (f .kind) (r .kind)) × Fits (r .low) (r .high) cs f)
         → (r .kind < power kindDigits) × (r .low < halfRange) × (r .high < halfRange)
@@ -115,13 +116,17 @@ right-small r cs o some few =
         let q = holds-small (r .low) (r .high) (map bare cs) less (f .fields) (second-of a (small (f .fields)) s) (h .fields) in
         (omega (arith, eqb→eq (f .kind) (r .kind) e), q .0, q .1)
 
+-- A place that fits.
+abbrev Early : Rec → Type 0
+Early r = (r .start < power placeDigits) × (r .stop < power placeDigits)
+
 -- A record that stands in a list fits, if its place and the list do.
-pub record-fits : (rs : List Rec) (j : ℕ) → Stands rs j → getD rs j blank .stop < power placeDigits → length rs < power placeDigits → Fit widths (fields (getD rs j blank))
-record-fits rs j s h few =
+record-fits : (rs : List Rec) (j : ℕ) → Stands rs j → Early (getD rs j blank) → length rs < power placeDigits → Fit widths (fields (getD rs j blank))
+record-fits rs j s (b, e) few =
     let r = getD rs j blank in
     let m = s .room in
     let (k, l, i) = right-small r (children rs j) (s .right) (s .some) (omega arith) in
-    (k, (omega (arith, s .right .place), (h, (l, (i, (omega arith, tt))))))
+    (k, (b, (e, (l, (i, (omega arith, tt))))))
 
 -- The records of right trees fit, where the last token ends early and there are few.
 pub fitting : (ns : List Node) → kinds.Right ns → end 0 (tokens ns) < power placeDigits → length (tokens ns) < power placeDigits → Fitting widths (records ns)
@@ -132,6 +137,13 @@ fitting ns ok e few = all-from (records ns) blank each
         let fine = kinds.fine ns ok in
         let in-all : j < length (all ns) = omega (arith, length-map (all ns) recordOf) in
         let b = all-at j no-node in-all (all-concat (bounded (roots ns) 0 (ok .ordered) (fine .marked))) in
-        let stop : getD (records ns) j blank .stop < power placeDigits =
-        subst (λ (r : Rec). r .stop < power placeDigits) (sym (kept ns fine .stands j lt)) (omega (arith, b .high)) in
-        record-fits (records ns) j (stands ns ok j lt) stop (omega (arith, kinds.law-3 ns ok .few))
+        let early : Early (getD (records ns) j blank) = subst Early (sym (kept ns fine .stands j lt)) (omega (arith, b .some, b .high), omega (arith, b .high)) in
+        record-fits (records ns) j (stands ns ok j lt) early (omega (arith, kinds.law-3 ns ok .few))
+
+-- The records of a file of right trees fit, where its end does and there are fewer tokens.
+pub file-fitting : (ns : List Node) (len : ℕ) → kinds.Right ns → end 0 (tokens ns) ≤ len → len < power placeDigits → suc (length (tokens ns)) < power placeDigits
+    → Fitting widths (filed len (records ns))
+file-fitting ns len ok within e few =
+    let top : Fit widths (fields (program len (records ns))) =
+    (omega arith, (omega arith, (e, (omega arith, (omega arith, (omega (arith, kinds.law-3 ns ok .few), tt)))))) in
+    top & fitting ns ok (omega arith) (omega arith)

@@ -1,8 +1,9 @@
--- Request 1: which records "form one function by document 01's kinds table". Flat and local: each record by itself with its children, which the
--- sizes find.
+-- Which records a listing may have: order 1, that they "form one function by document 01's kinds table", and order 3, that it "takes both tops".
+-- Flat and local: each record by itself with its children, which the sizes find.
 -- Assumes nothing: these are definitions.
-use mathlib.Core.Bool.{Bool, not}
+use mathlib.Core.Bool.{Bool, _&&_, _||_, not}
 use mathlib.Core.List.{List, [], _∷_, map}
+use mathlib.Core.Logic.{_≢_}
 use mathlib.Core.Path.{_≡_}
 use Prim.Native.Nat.{ℕ, suc, _+_, _<_, _≤_}
 use lib.Dec.{T, eqb}
@@ -13,7 +14,8 @@ use Rattle.own.specs.Flat.{blank, children}
 use Rattle.own.specs.Lists.{All}
 use Rattle.own.specs.Kinds as kind
 use Rattle.kinds.specs.Rules.{Form}
-use Rattle.kinds.specs.Spelled.{formsOf, Written}
+use Rattle.kinds.specs.Decide.{formsFor}
+use Rattle.kinds.specs.Spelled.{Written}
 use Rattle.load.specs.Bare.{bare, bareForm}
 
 -- The children are those of this form of the kinds table, with this low and high: "children in the table's order, fields and arms that its rules and
@@ -38,22 +40,22 @@ pub record Inside (r c : Rec) : Type 0 where
 -- A record with its children:
 pub record Right (r : Rec) (cs : List Rec) : Type 0 where
   -- of one of the forms of its kind;
-  pub formed : Some (Fits (r .low) (r .high) cs) (formsOf (r .kind))
+  pub formed : Some (Fits (r .low) (r .high) cs) (formsFor (r .kind))
   -- "built-in arms as exchanged": no longer the other way round;
   pub exchanged : r .kind ≡ kind.Match → T (not (reversed (map alone cs)))
   -- "sizes that add up";
   pub adds : r .size ≡ suc (sizes cs)
-  -- "start before end";
-  pub place : r .start < r .stop
+  -- "start before end", and a program "empty or not";
+  pub place : r .kind ≢ kind.Program → r .start < r .stop
   -- "each child's place inside its parent's".
   pub inside : All (Inside r) cs
 
--- The tops that a listing may have: a function.
+-- "both tops": a function, or "a 41 starting at 0".
 abbrev pub isTop : Rec → Bool
-isTop r = eqb (r .kind) kind.Function
+isTop r = eqb (r .kind) kind.Function || (eqb (r .kind) kind.Program && eqb (r .start) 0)
 
--- "a listing whose records form one function": the first is the top, it counts all of them, and each is right with its children.
-pub record OneFunction (rs : List Rec) : Type 0 where
+-- "a listing whose records form one function", or one program: the first is the top, it counts all of them, and each is right with its children.
+pub record Whole (rs : List Rec) : Type 0 where
   pub top : T (isTop (getD rs 0 blank))
-  pub whole : getD rs 0 blank .size ≡ length rs
+  pub counts-all : getD rs 0 blank .size ≡ length rs
   pub each : (j : ℕ) → j < length rs → Right (getD rs j blank) (children rs j)

@@ -1,16 +1,18 @@
--- Every tree that the reader hands over may be loaded: the records of right trees are right as a listing shows them, and those of one function form
--- one function.
+-- Every tree that the reader hands over may be loaded: the records of right trees are right as a listing shows them, and those of one function, or of
+-- a file, are a whole.
 -- Assumes nothing.
 use mathlib.Core.Bool.{Bool, true, false, not}
 use mathlib.Core.List.{List, [], _∷_, map}
 use mathlib.Core.Path.{_≡_, refl, sym, ap, _∙_, subst}
-use Prim.Native.Nat.{ℕ, suc, _+_, _<_, _≤_}
+use Prim.Native.Nat.{ℕ, zero, suc, _+_, _<_, _≤_}
 use native.Mathlib.Omega.{arith}
-use lib.Dec.{T, eqb}
+use lib.Dec.{T}
 use lib.ListN.{length, getD, length-append, length-map, length-drop}
-use Rattle.own.specs.Tree.{Items, none, mark, sub, Node, node, roots, kids, partner, canonical, reversed, turned, exchange, arrange, nodes, below, Rec, recordOf, all, records}
+use Rattle.own.specs.Tree.{Items, none, mark, sub, Node, node, roots, kids, partner, canonical, reversed, turned, exchange, arrange, nodes, below, end, Rec, recordOf, tokens, all, records}
 use Rattle.own.specs.Flat.{blank, children}
-use Rattle.own.specs.Law.{Ordered, Canonical, Keeps}
+use Rattle.own.specs.Law.{Ordered, Canonical, sorts, Keeps}
+use Rattle.own.specs.File.{program, filed}
+use Rattle.own.specs.FileLaws.{its-children}
 use Rattle.own.specs.Lists.{All, nil, _&_, all-arrange, all-concat, all-at, arrange-map}
 use Rattle.own.specs.Words as own
 use Rattle.own.specs.WordLaws.{size-is}
@@ -20,12 +22,12 @@ use Rattle.own.specs.Shape.{leads-all, leads-at}
 use Rattle.own.specs.Rules.{each-all}
 use Rattle.own.specs.Owners.{no-node, kept}
 use Rattle.own.specs.Kinds as kind
-use Rattle.kinds.specs.Spelled.{Spelled}
+use Rattle.kinds.specs.Spelled.{Spelled, Program}
 use Rattle.kinds.specs.Ownership as kinds
-use Rattle.load.specs.Function.{alone, sizes, Inside, Right, OneFunction}
+use Rattle.load.specs.Function.{alone, sizes, Inside, Right, Whole}
 use Rattle.load.specs.check.Parts.{Counts}
 use Rattle.load.specs.check.Stands.{Stands}
-use Rattle.load.specs.HandedForms.{formed}
+use Rattle.load.specs.HandedForms.{formed, formed-program}
 
 -- Sizes add up, in either arrangement.
 sizes-kids : (is : Items) → sizes (map recordOf (kids is)) ≡ own.sizes is
@@ -100,7 +102,7 @@ module _ (ns : List Node) (ok : kinds.Right ns) (j : ℕ) (lt : j < length (reco
             (not-reversed (getD (records ns) j blank .start) (getD (records ns) j blank .stop) (children (records ns) j)
             (kinds.law-3 ns ok .canonical j lt (ap (λ r. r .kind) its ∙ q)));
         adds = adds n;
-        place = place .some;
+        place = λ _. place .some;
         inside = subst (All (Inside (recordOf n))) (sym (arrange-map recordOf turn (kids (n .items))))
             (all-arrange turn (inside-kids (recordOf n) (recordOf n .start) (kids (n .items)) (omega arith) ordered));
       } in
@@ -110,11 +112,45 @@ module _ (ns : List Node) (ok : kinds.Right ns) (j : ℕ) (lt : j < length (reco
         right = rw (its, kin) its-right;
       }
 
--- The records of one function form one function.
-pub one-function : (n : Node) → n .kind ≡ kind.Function → kinds.Right (n ∷ []) → OneFunction (records (n ∷ []))
+-- The records of one function are a whole.
+pub one-function : (n : Node) → n .kind ≡ kind.Function → kinds.Right (n ∷ []) → Whole (records (n ∷ []))
 one-function n e ok =
     record {
-      top = subst (λ (k : ℕ). T (eqb k kind.Function)) (sym e) tt;
-      whole = omega (arith, length-map (all (n ∷ [])) recordOf, length-append (nodes n) []);
+      top = rw e tt;
+      counts-all = omega (arith, length-map (all (n ∷ [])) recordOf, length-append (nodes n) []);
       each = λ j lt. stands (n ∷ []) ok j lt .right;
     }
+
+-- Right trees that are items, none of whose tokens ends past a file of so many bytes.
+module _ (ns : List Node) (len : ℕ) (ok : kinds.Right ns) (within : end 0 (tokens ns) ≤ len) (items : Program (sorts (roots ns))) where
+  abbrev top : Rec
+  top = program len (records ns)
+
+  abbrev rs : List Rec
+  rs = filed len (records ns)
+
+  kin : children rs 0 ≡ map recordOf (kids (roots ns))
+  kin = its-children Spelled Program ns (kinds.fine ns ok) (ok .spelled) len within items
+
+  -- The record of the program counts them as a node above them would.
+  top-adds : top .size ≡ suc (sizes (map recordOf (kids (roots ns))))
+  unfolding turned
+  top-adds = let e = adds (node kind.Program 0 0 (roots ns)) in omega (arith, e, length-map (all ns) recordOf)
+
+  top-right : Right top (map recordOf (kids (roots ns)))
+  top-right =
+      record {
+        formed = formed-program ns items;
+        exchanged = λ q. absurd (omega arith);
+        adds = top-adds;
+        place = λ n. absurd (n refl);
+        inside = inside-kids top 0 (kids (roots ns)) (omega arith) (subst (Ordered 0 len) kin (kinds.law-3-file ns len ok within items .ordered));
+      }
+
+  -- The records of the file are a whole.
+  pub whole-file : Whole (filed len (records ns))
+  whole-file = record { top = tt; counts-all = omega arith; each = each }
+    where
+      each : (j : ℕ) → j < length rs → Right (getD rs j blank) (children rs j)
+      each zero lt = subst (Right top) (sym kin) top-right
+      each (suc j) lt = stands ns ok j (omega arith) .right

@@ -7,8 +7,8 @@ use Prim.Native.Nat.{ℕ, _+_}
 use lib.Dec.{T, eqb, eqb→eq}
 use Rattle.text.specs.Table.{first-of}
 use Rattle.text.specs.Lists.{has, Some, here, there}
-use Rattle.text.specs.ListLaws.{only-one, some-map}
-use Rattle.own.specs.Tree.{Items, none, mark, sub, Node, kids, reversed, turned, exchange, arrange, below, recordOf}
+use Rattle.text.specs.ListLaws.{only-one, some-map, some-keep, keep-some}
+use Rattle.own.specs.Tree.{Items, none, mark, sub, Node, node, roots, kids, reversed, turned, exchange, arrange, below, recordOf}
 use Rattle.own.specs.Law.{Sort, word, child, sorts, Keeps}
 use Rattle.own.specs.Lists.{arrange-map}
 use Rattle.own.specs.Kinds as kind
@@ -19,8 +19,9 @@ use Rattle.kinds.specs.Shape as shape
 use Rattle.kinds.specs.Shape.{Part, fits, Shape, _▸_, many, Spells, empty, one-mark, one-part, seq, left, right, stop, more}
 use Rattle.kinds.specs.Fields as fields
 use Rattle.kinds.specs.Fields.{Fields, counted, holds}
-use Rattle.kinds.specs.Rules.{Form, forms, the, expression, braces, arms, partners}
-use Rattle.kinds.specs.Spelled.{formsOf, Written, Spelled}
+use Rattle.kinds.specs.Rules.{Form, form, forms, allForms, the, expression, braces, arms, partners, program}
+use Rattle.kinds.specs.Decide.{formsFor}
+use Rattle.kinds.specs.Spelled.{formsOf, Written, Spelled, Program}
 use Rattle.load.specs.Bare.{bare, barePart, bareShape}
 use Rattle.load.specs.Function.{Fits}
 
@@ -133,11 +134,22 @@ formed-turned n e s =
     subst (λ (k : ℕ). Some (Fits (n .low) (n .high) (map recordOf (exchange cs))) (formsOf k)) (sym e)
     (here {l = []} (record { fields = f .fields; shape = subst (Spells _) (sym x) (match-turned (f .shape)) }))
 
+-- The forms of a kind that the rule has are among all of its forms.
+of-all : {P : Form → Type 0} (k : ℕ) → Some P (formsOf k) → Some P (formsFor k)
+unfolding formsOf formsFor allForms
+of-all k s = keep-some (λ f. eqb (f .kind) k) (there (some-keep (λ f. eqb (f .kind) k) forms s))
+
 -- A node that keeps the rule of its kind is, as it is handed over, of one of the forms of its kind.
-pub formed : (n : Node) → Keeps Spelled n → Some (Fits (n .low) (n .high) (map recordOf (below n))) (formsOf (n .kind))
+pub formed : (n : Node) → Keeps Spelled n → Some (Fits (n .low) (n .high) (map recordOf (below n))) (formsFor (n .kind))
 unfolding turned
-formed n s = go (turned (n .kind) (n .items)) refl
+formed n s = of-all (n .kind) (go (turned (n .kind) (n .items)) refl)
   where
     go : (b : Bool) → turned (n .kind) (n .items) ≡ b → Some (Fits (n .low) (n .high) (map recordOf (arrange b (kids (n .items))))) (formsOf (n .kind))
     go true e = formed-turned n (eqb→eq (n .kind) kind.Match (first-of (eqb (n .kind) kind.Match) (reversed (kids (n .items))) (subst T (sym e) tt))) s
     go false e = some-map (bare-written n) s
+
+-- Items side by side are of the form of a program.
+pub formed-program : (ns : List Node) → Program (sorts (roots ns)) → Some (Fits 0 0 (map recordOf (kids (roots ns)))) (formsFor kind.Program)
+unfolding formsFor allForms forms holds
+formed-program ns p =
+    here {l = []} (bare-written (node kind.Program 0 0 (roots ns)) (form kind.Program fields.plain program) (record { fields = tt; shape = p }))

@@ -1,5 +1,5 @@
--- Listings with known results: the example of document 01, and what request 1 says of others, as one list and one proof by computation. Refusals are in
--- the papers' figures, so that the names for them are tested too.
+-- Listings with known results: the example of document 01, and what orders 1 and 3 say of others, as one list and one proof by computation. Refusals
+-- are in the papers' figures, so that the names for them are tested too.
 -- Assumes nothing.
 use mathlib.Core.List.{List, [], _∷_, _++_, map}
 use mathlib.Core.Path.{_≡_, refl}
@@ -16,10 +16,10 @@ use Rattle.num.specs.Bound.{isBound}
 use Rattle.kinds.specs.Derive as derive
 use Rattle.kinds.specs.Shape as shape
 use Rattle.kinds.specs.Fields.{counted, halves, holds}
-use Rattle.kinds.specs.Rules.{forms}
-use Rattle.kinds.specs.Spelled.{formsOf}
+use Rattle.kinds.specs.Rules.{forms, allForms}
+use Rattle.kinds.specs.Decide.{formsFor}
 use Rattle.load.specs.Bare.{barePart, bareShape}
-use Rattle.load.specs.FunctionTest.{fits, inside, right, oneFunction}
+use Rattle.load.specs.FunctionTest.{fits, inside, placed, right, isWhole}
 use Rattle.load.specs.listing.Read.{placeIn, digitOf, areDigits, numberOf, inForm, valuesOf, badFrom, badLine, valuesIn, recordsIn}
 use Rattle.load.specs.Load.{loadOf}
 
@@ -63,7 +63,7 @@ paper =
 abbrev unexchanged : List String
 unexchanged = take 5 paper ++ (drop 7 paper ++ take 2 (drop 5 paper))
 
--- and `fn f(){fold::<g,4>(x)}`.
+-- `fn f(){fold::<g,4>(x)}`,
 abbrev folded : List String
 folded =
     "01 0000 0016 00000000 00000000 0007"
@@ -75,10 +75,30 @@ folded =
     ∷ "1D 0013 0014 00000000 00000000 0001"
     ∷ []
 
+-- and a file, `type A=u8;fn f(){}`: the program, a type item, a function.
+abbrev file : List String
+file =
+    "29 0000 0012 00000000 00000000 0007"
+    ∷ "2A 0000 000A 00000000 00000000 0003"
+    ∷ "02 0005 0006 00000000 00000000 0001"
+    ∷ "07 0007 0009 00000008 00000000 0001"
+    ∷ "01 000A 0012 00000000 00000000 0003"
+    ∷ "02 000D 000E 00000000 00000000 0001"
+    ∷ "12 0010 0012 00000000 00000000 0001"
+    ∷ []
+
+abbrev typeItem : List String
+typeItem = take 3 (drop 1 file)
+
 abbrev known : List Case
 known =
     whole paper 54 (accepted 0 9)
     ∷ whole folded 60 (accepted 0 7)
+    -- a file, its items in either order, and files without any
+    ∷ whole file 42 (accepted 0 7)
+    ∷ whole (take 1 file ++ (drop 4 file ++ typeItem)) 60 (accepted 0 7)
+    ∷ whole ("29 0000 0000 00000000 00000000 0001" ∷ []) 6 (accepted 0 1)
+    ∷ whole ("29 0000 4000 00000000 00000000 0001" ∷ []) 60 (accepted 0 1)
     -- 16: a small letter; a line that is cut, or has no LF; a byte over
     ∷ whole (put 4 "1d 000D 000E 00000000 00000000 0001" paper) 60 (refused 16 5)
     ∷ behind (take 8 paper) "18 0015 0016 00000000 000" (refused 16 9)
@@ -98,8 +118,20 @@ known =
     ∷ whole (put 6 "18 001E 001E 00000000 00000000 0001" paper) 60 (refused 17 0)
     ∷ whole (put 8 "18 000E 0016 00000000 00000000 0001" paper) 60 (refused 17 0)
     ∷ whole (put 8 "18 0015 0018 00000000 00000000 0001" paper) 60 (refused 17 0)
+    -- a program that starts later, empty or not; a type item as the top; a program in a program, a type item in a function, a name in a program;
+    ∷ whole ("29 0001 0001 00000000 00000000 0001" ∷ []) 60 (refused 17 0)
+    ∷ whole ("29 0001 0012 00000000 00000000 0004" ∷ drop 4 file) 60 (refused 17 0)
+    ∷ whole typeItem 60 (refused 17 0)
+    ∷ whole ("29 0000 0012 00000000 00000000 0008" ∷ file) 60 (refused 17 0)
+    ∷ whole ("01 0000 0012 00000000 00000000 0006" ∷ "02 000D 000E 00000000 00000000 0001" ∷ (typeItem ++ drop 6 file)) 60 (refused 17 0)
+    ∷ whole ("29 0000 0012 00000000 00000000 0002" ∷ "02 000D 000E 00000000 00000000 0001" ∷ []) 60 (refused 17 0)
+    -- a program with a low, one that ends before its items, a type item without bytes
+    ∷ whole (put 0 "29 0000 0012 00000001 00000000 0007" file) 60 (refused 17 0)
+    ∷ whole (put 0 "29 0000 0011 00000000 00000000 0007" file) 60 (refused 17 0)
+    ∷ whole ("29 0000 0000 00000000 00000000 0004" ∷ "2A 0000 0000 00000000 00000000 0003" ∷ "02 0000 0000 00000000 00000000 0001" ∷ "04 0000 0000 00000000 00000000 0001" ∷ []) 60 (refused 17 0)
     -- 18: a word too few; and "tested in this order"
     ∷ whole paper 53 (refused 18 0)
+    ∷ whole file 41 (refused 18 0)
     ∷ whole unexchanged 53 (refused 17 0)
     ∷ whole (put 0 "1" unexchanged) 53 (refused 16 1)
     ∷ []
@@ -107,6 +139,6 @@ known =
 -- The definitions agree with the papers.
 pub known-agree : map (λ k. loadOf (k .text) (k .room)) known ≡ map (λ k. k .result) known
 unfolding ascii asciiFrom has all some count span partner canonical upperHex isBound derive.blank derive.dead derive.then derive.either derive.isMark
-    derive.isPart derive.after derive.spells shape.number shape.fits counted halves holds forms formsOf barePart bareShape fits inside right
-    oneFunction placeIn digitOf areDigits numberOf inForm valuesOf badFrom badLine valuesIn recordsIn loadOf
+    derive.isPart derive.after derive.spells shape.number shape.fits counted halves holds forms allForms formsFor barePart bareShape fits inside placed right
+    isWhole placeIn digitOf areDigits numberOf inForm valuesOf badFrom badLine valuesIn recordsIn loadOf
 known-agree = refl

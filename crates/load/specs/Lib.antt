@@ -3,6 +3,7 @@ pub mod Function
 pub mod FunctionTest
 pub mod children
 pub mod check
+pub mod Tops
 pub mod HandedForms
 pub mod Handed
 pub mod listing

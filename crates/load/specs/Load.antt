@@ -1,4 +1,4 @@
--- What `load` hands over of a listing, for a buffer of so many words (request 1).
+-- What `load` hands over of a listing, for a buffer of so many words (order 1).
 -- Assumes nothing: these are definitions. What they come to, in the request's own terms, is `Loads` of Promised.antt.
 use mathlib.Core.Bool.{cond}
 use mathlib.Core.List.{List, _++_}
@@ -12,7 +12,7 @@ use Rattle.own.specs.Tree.{Rec}
 use Rattle.own.specs.Words.{recWords}
 use Rattle.lines.specs.Lines.{widths}
 use Rattle.load.specs.listing.Read.{badLine, recordsIn}
-use Rattle.load.specs.FunctionTest.{oneFunction}
+use Rattle.load.specs.FunctionTest.{isWhole}
 
 -- The records of a listing, if all of its lines are of the form.
 abbrev pub recordsOf : List ℕ → List Rec
@@ -22,7 +22,7 @@ recordsOf text = recordsIn widths text
 unfoldable pub loadOf : List ℕ → ℕ → Answer
 loadOf text room =
     cond (ltb 0 (badLine widths text)) (refused refusal.BadLine (badLine widths text))
-    (cond (oneFunction (recordsOf text))
+    (cond (isWhole (recordsOf text))
     (cond (ltb room (recWide * length (recordsOf text))) (refused refusal.NoLoadRoom 0) (accepted 0 (length (recordsOf text))))
     (refused refusal.NoFunction 0))
 

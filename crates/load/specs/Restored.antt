@@ -13,7 +13,7 @@ use Rattle.own.specs.WordLaws.{recs-length}
 use Rattle.lines.specs.Lines.{widths, lines}
 use Rattle.lines.specs.Written.{held, linesIn}
 use Rattle.load.specs.listing.InForm.{Fitting}
-use Rattle.load.specs.Function.{OneFunction}
+use Rattle.load.specs.Function.{Whole}
 use Rattle.load.specs.Load.{loadOf, wordsOf}
 use Rattle.load.specs.Promised.{loaded}
 use Rattle.load.specs.Laws.{Taken, row-only, accepted-taken, load-then-write, write-then-load}
@@ -30,7 +30,7 @@ load-then-list text room n e =
     let t = accepted-taken text room e in
     let rs = t .its in
     let rest = room - recWide * length rs in
-    let w = row-only text room (loaded rs (t .lists) (t .one) (t .fits)) .1 in
+    let w = row-only text room (loaded rs (t .lists) (t .whole) (t .fits)) .1 in
     let long : length (wordsOf text room) ≡ room =
     ap length w ∙ length-append (recWords rs) (replicate rest 0) ∙ room-is (words-long rs) (length-replicate rest 0) (t .fits) in
     let all : held (wordsOf text room) n ≡ n = all-held long (t .number) (t .fits) in
@@ -42,8 +42,8 @@ load-then-list text room n e =
     all-held : {l k : ℕ} → l ≡ room → n ≡ k → recWide * k ≤ room → min n (l / recWide) ≡ n
     all-held p q h = omega arith
 
--- Listing records that form one function and fit a line, and then loading, restores the same records.
-pub list-then-load : (words : List ℕ) (n : ℕ) → OneFunction (recs (held words n) words) → Fitting widths (recs (held words n) words) → (room : ℕ) → recWide * held words n ≤ room
+-- Listing records that are a whole and fit a line, and then loading, restores the same records.
+pub list-then-load : (words : List ℕ) (n : ℕ) → Whole (recs (held words n) words) → Fitting widths (recs (held words n) words) → (room : ℕ) → recWide * held words n ≤ room
     → (loadOf (linesIn words n) room ≡ accepted 0 (held words n))
     × (wordsOf (linesIn words n) room ≡ recWords (recs (held words n) words) ++ replicate (room - recWide * held words n) 0)
 unfolding linesIn

@@ -1,4 +1,4 @@
-// Whether the records of a listing form one function: each is read once for itself, and once as a child.
+// Whether the records of a listing are a whole function or program: each is read once for itself, and once as a child.
 ghost use mathlib.Core.Path.{_≡_};
 ghost use Prim.Native.Nat.{_<_};
 ghost use Rattle.load.specs.Function as function;
@@ -51,6 +51,16 @@ fn verdict(
     false
 }
 
+// Whether a record starts before it ends; a program may be empty.
+fn placed(r: Record) -> bool
+    ensures { λ b. ⌜ b ≡ test.placed (asRec r) ⌝ }
+{
+    if r.kind == kind::PROGRAM {
+        return true;
+    }
+    r.start < r.end
+}
+
 // Whether the record of line j, of n lines, stands in the listing with all that it counts, and is right.
 fn stands(
     digits: &[u8; BYTE_VALUES],
@@ -76,7 +86,7 @@ fn stands(
     if r.size as usize > n - j {
         return false;
     }
-    if r.start >= r.end {
+    if !placed(r) {
         return false;
     }
     let state = begin::start(heads, r.kind, r.low, r.high);
@@ -84,15 +94,18 @@ fn stands(
     verdict(heads, steps, r, walked)
 }
 
-// Whether a record may be the top of a listing: a function.
+// Whether a record may be the top of a listing: a function, or a program that starts at 0.
 fn is_top(r: Record) -> bool
     ensures { λ b. ⌜ b ≡ function.isTop (asRec r) ⌝ }
 {
-    r.kind == kind::FUNCTION
+    if r.kind == kind::FUNCTION {
+        return true;
+    }
+    r.kind == kind::PROGRAM && r.start == 0
 }
 
-// Whether the records of n lines form one function. The tables are held here and lent to every function.
-pub(crate) fn one_function(
+// Whether the records of n lines are a whole function or program. The tables are held here and lent to every function.
+pub(crate) fn is_whole(
     digits: &[u8; BYTE_VALUES],
     widths: &[usize],
     step: usize,
@@ -101,7 +114,7 @@ pub(crate) fn one_function(
 ) -> bool
     requires { ⌜ DigitTable (now digits) ⌝ }
     requires { ⌜ Listed (now widths) step (now text) n ⌝ }
-    ensures { λ b. ⌜ b ≡ test.oneFunction (recordsIn (now (widths .entry)) (now (text .entry))) ⌝ }
+    ensures { λ b. ⌜ b ≡ test.isWhole (recordsIn (now (widths .entry)) (now (text .entry))) ⌝ }
 {
     if n == 0 {
         return false;

@@ -29,15 +29,19 @@ const ENUM_ARM: usize = 9;
 
 const ZERO: usize = 10;
 
+const FUNCTION: usize = 11;
+
+const TYPE_ITEM: usize = 12;
+
 // The arms that rules name have the cues behind this one, by their low; then a number that is a bound, and any other number but 0.
-const ARMS: usize = ZERO;
+const ARMS: usize = TYPE_ITEM;
 
-const BOUND: usize = 17;
+const BOUND: usize = 19;
 
-const SIZE: usize = 18;
+const SIZE: usize = 20;
 
 // How many there are.
-pub(crate) const CUES: usize = 19;
+pub(crate) const CUES: usize = 21;
 
 // How many numbers a half of 32 bits may be.
 const HALF_RANGE: u64 = 1 << 32;
@@ -90,6 +94,8 @@ pub(crate) fn cue(kind: u32, low: u32, high: u32) -> usize
         part::BUILTIN_ARM => arm_cue(low),
         part::ENUM_ARM => ENUM_ARM,
         part::NUMBER => number_cue(number(low, high)),
+        part::FUNCTION_ITEM => FUNCTION,
+        part::TYPE_ITEM => TYPE_ITEM,
         _ => OTHER,
     }
 }

@@ -1,4 +1,4 @@
-// The reader of listings: from the lines to the records of one function, or one refusal.
+// The reader of listings: from the lines to the records of one function or one program, or one refusal.
 ghost use mathlib.Core.Path.{_≡_};
 ghost use lib.ListN.{length};
 ghost use Rattle.text.specs.Answers.{values};
@@ -40,7 +40,7 @@ fn answer(digits: &[u8; BYTE_VALUES], widths: &[usize], listing: &[u8], room: us
         };
     }
     let n = listing.len() / lines::LINE_BYTES;
-    if !check::one_function(digits, widths, lines::LINE_BYTES, listing, n) {
+    if !check::is_whole(digits, widths, lines::LINE_BYTES, listing, n) {
         return Loaded::Refused {
             number: refusal::NO_FUNCTION,
             line: 0,

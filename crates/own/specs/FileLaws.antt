@@ -41,7 +41,8 @@ module _ (R : Rule) (P : List Sort → Type 0) (ns : List Node) (fine : Fine ns)
   abbrev rs : List Rec
   rs = filed len (records ns)
 
-  its-children : children rs 0 ≡ map recordOf (kids (roots ns))
+  -- The children of the first record are those of the trees themselves.
+  pub its-children : children rs 0 ≡ map recordOf (kids (roots ns))
   its-children =
       ap (row (1 + length (records ns))) (take-all (1 + length (records ns) - 1) (records ns) (omega arith)) ∙ tops ns (1 + length (records ns)) (omega arith)
       ∙ ap (map recordOf) (sym (kids-roots ns))

@@ -9,7 +9,7 @@ use native.Mathlib.Omega.{arith}
 use lib.ListN.{length}
 use Rattle.text.specs.Answers.{Answer, accepted, refused, Values, values}
 use Rattle.own.specs.Tree.{Rec}
-use Rattle.load.specs.Function.{OneFunction}
+use Rattle.load.specs.Function.{Whole}
 use Rattle.load.specs.Load.{loadOf}
 use Rattle.load.specs.Laws.{Taken, accepted-taken}
 
@@ -26,8 +26,8 @@ abbrev pub Refusing : Answer → Type 0
 Refusing (accepted n m) = ⊥
 Refusing (refused c l) = Unit {0}
 
--- A function has a record,
-some-record : (rs : List Rec) → OneFunction rs → 0 < length rs
+-- A function or program has a record,
+some-record : (rs : List Rec) → Whole rs → 0 < length rs
 some-record [] o = absurd (o .top)
 some-record (r ∷ rs) o = omega arith
 
@@ -36,7 +36,7 @@ by-answer listing room (refused c l) e = (λ z. tt, λ u. refl)
 by-answer listing room (accepted n m) e = ((λ z. none (accepted-taken listing room e) z), λ u. absurd u)
   where
     none : Taken listing room m → m ≡ 0 → ⊥
-    none t z = let h = some-record (t .its) (t .one) in let k = t .number in omega arith
+    none t z = let h = some-record (t .its) (t .whole) in let k = t .number in omega arith
 
 -- so that 0 is returned exactly on a refusal.
 pub nothing-only : (listing : List ℕ) (room : ℕ) {n : ℕ} → n ≡ recordsLoaded listing room → (n ≡ 0) ↔ Refusing (loadOf listing room)

@@ -1,5 +1,5 @@
--- How the parts that records count lie in their list: where the first counts all of them and the sizes add up, each ends in it, and each counts
--- itself at least.
+-- How the parts that records count lie in their list: where the first counts all of them and the sizes add up, each ends in it, each counts itself at
+-- least, and each but the first is a child of one before it.
 -- Assumes nothing.
 use mathlib.Core.List.{List, [], _∷_}
 use mathlib.Core.Path.{_≡_, refl, sym, ap, _∙_, subst}
@@ -8,10 +8,15 @@ use native.Mathlib.Omega.{arith}
 use native.Mathlib.Decide.{decLt}
 use lib.ListN.{length, getD, take, drop, length-drop, length-take}
 use lib.Seq.{drop-cons, drop-drop, take-nil}
+use Rattle.text.specs.Lists.{Some, here, there}
 use Rattle.own.specs.Tree.{Rec}
 use Rattle.own.specs.Flat.{blank, row, headChildren, children}
 use Rattle.own.specs.Lists.{All, nil, _&_, all-from, all-take, all-drop}
 use Rattle.load.specs.Function.{sizes}
+
+-- A record is one of these.
+abbrev pub Among : Rec → List Rec → Type 0
+Among r cs = Some (λ c. c ≡ r) cs
 
 -- A record counts itself at least.
 abbrev pub Counts : Rec → Type 0
@@ -105,32 +110,55 @@ module _ (rs : List Rec) (adds : (j : ℕ) → j < length rs → getD rs j blank
   beneath : (j : ℕ) → j < length rs → j + at j ≤ length rs → sizes (left rs (j + 1) (at j - 1)) ≡ at j - 1
   beneath j h r = let a = adds j h in omega (arith, ap sizes (all-left rs j h (omega arith) r))
 
-  -- Each record among those left or beneath them ends in the list, where they fill what is left; f is enough to find it.
-  abbrev Room : ℕ → ℕ → ℕ → Type 0
-  Room f i n = n ≤ f → i + n ≤ length rs → sizes (left rs i n) ≡ n → (k : ℕ) → i ≤ k → k < i + n → k + at k ≤ length rs
+  -- Record k ends in the list, and is a child of one before it.
+  pub record Held (k : ℕ) : Type 0 where
+    pub room : k + at k ≤ length rs
+    pub parent : ℕ
+    pub before : parent < k
+    pub child : Among (getD rs k blank) (children rs parent)
 
-  left-room : (f i n : ℕ) → Room f i n
-  left-room zero i n l h e k m o = absurd (omega arith)
-  left-room (suc f) i n l h e k m o = go (decLt i k) (decLt k (i + at i)) (left-room f (i + 1) (at i - 1)) (left-room f (i + at i) (n - at i))
+  -- Each record among those left, children of the record p, or beneath them is held, where they fill what is left; f is enough to find it.
+  abbrev Holds : ℕ → ℕ → ℕ → ℕ → Type 0
+  Holds f p i n =
+      n ≤ f → i + n ≤ length rs → sizes (left rs i n) ≡ n → p < i → ((c : Rec) → Among c (left rs i n) → Among c (children rs p))
+      → (k : ℕ) → i ≤ k → k < i + n → Held k
+
+  left-held : (f p i n : ℕ) → Holds f p i n
+  left-held zero p i n l h e b c k m o = absurd (omega arith)
+  left-held (suc f) p i n l h e b c k m o = go (decLt i k) (decLt k (i + at i)) (left-held f i (i + 1) (at i - 1)) (left-held f p (i + at i) (n - at i))
     where
       x : Next i n
       x = next i n (omega arith) h e
 
-      go : Dec (i < k) → Dec (k < i + at i) → Room f (i + 1) (at i - 1) → Room f (i + at i) (n - at i) → k + at k ≤ length rs
-      go (no q) p r s = let y : i ≡ k = omega arith in subst (λ (j : ℕ). j + at j ≤ length rs) y (omega (arith, x .fits))
-      go (yes q) (yes p) r s =
-          let b = x .fits in
-          r (omega arith) (omega arith) (beneath i (omega arith) (omega arith)) k (omega arith) (omega arith)
-      go (yes q) (no p) r s =
-          let b = x .fits in
-          let a = x .some in
-          s (omega arith) (omega arith) (x .filled) k (omega arith) (omega arith)
+      first : left rs i n ≡ getD rs i blank ∷ left rs (i + at i) (n - at i)
+      first = left-next rs i n (omega arith) h (x .some) (x .fits)
 
-  -- Where the first counts all of them each ends in the list.
+      among : {r : Rec} → Among r (getD rs i blank ∷ left rs (i + at i) (n - at i)) → Among r (children rs p)
+      among {r} s = c r (subst (Among r) (sym first) s)
+
+      go : Dec (i < k) → Dec (k < i + at i) → Holds f i (i + 1) (at i - 1) → Holds f p (i + at i) (n - at i) → Held k
+      go (no q) t u v =
+          let y : i ≡ k = omega arith in
+          subst Held y (record { room = omega (arith, x .fits); parent = p; before = b; child = among (here refl) })
+      go (yes q) (yes t) u v =
+          let a = x .fits in
+          let d = all-left rs i (omega arith) (x .some) (omega arith) in
+          u (omega arith) (omega arith) (beneath i (omega arith) (omega arith)) (omega arith) (λ r s. subst (Among r) (sym d) s) k (omega arith) (omega arith)
+      go (yes q) (no t) u v =
+          let a = x .fits in
+          let d = x .some in
+          v (omega arith) (omega arith) (x .filled) (omega arith) (λ r s. among (there s)) k (omega arith) (omega arith)
+
+  -- Where the first counts all of them each but the first is held,
+  pub each-held : at 0 ≡ length rs → (k : ℕ) → 0 < k → k < length rs → Held k
+  each-held e k p h =
+      let d = all-left rs 0 (omega arith) (omega arith) (omega arith) in
+      left-held (length rs) 0 1 (at 0 - 1) (omega arith) (omega arith) (beneath 0 (omega arith) (omega arith)) (omega arith) (λ r s. subst (Among r) (sym d) s) k (omega arith) (omega arith)
+
+  -- and each ends in the list.
   pub each-room : at 0 ≡ length rs → (k : ℕ) → k < length rs → k + at k ≤ length rs
   each-room e zero h = omega arith
-  each-room e (suc k) h =
-      left-room (length rs) 1 (at 0 - 1) (omega arith) (omega arith) (beneath 0 (omega arith) (omega arith)) (suc k) (omega arith) (omega arith)
+  each-room e (suc k) h = each-held e (suc k) (omega arith) h .room
 
   -- Children are records of the list, and so count themselves.
   pub each-some : (k : ℕ) → All Counts (children rs k)

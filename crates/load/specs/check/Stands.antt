@@ -1,5 +1,5 @@
 -- What the code tests of each record: beside that it is right, that the part that it counts ends in the list and that its children count themselves at
--- least. Both follow where records form one function.
+-- least. Both follow where they are a whole function or program.
 -- Assumes nothing.
 use mathlib.Core.Bool.{Bool, _&&_}
 use mathlib.Core.List.{List}
@@ -13,7 +13,7 @@ use Rattle.text.specs.Exactly.{both, less, no-more}
 use Rattle.own.specs.Tree.{Rec}
 use Rattle.own.specs.Flat.{blank, children}
 use Rattle.own.specs.Lists.{All, all-exactly}
-use Rattle.load.specs.Function.{sizes, Right, isTop, OneFunction}
+use Rattle.load.specs.Function.{sizes, Right, isTop, Whole}
 use Rattle.load.specs.FunctionTest.{right, right-exactly}
 use Rattle.load.specs.check.Parts.{Counts, each-room, each-some}
 
@@ -38,12 +38,12 @@ stands-exactly rs j =
     (both some (right r cs) (all-exactly (λ c. ltb 0 (c .size)) (λ c. less 0 (c .size)) cs) (right-exactly r cs)) in
     (λ t. let (m, (s, h)) = e .0 t in record { room = m; some = s; right = h }, λ s. e .1 (s .room, (s .some, s .right)))
 
--- Where records form one function each stands there,
-each-stands : (rs : List Rec) → OneFunction rs → (j : ℕ) → j < length rs → Stands rs j
+-- Where records are a whole each stands there,
+each-stands : (rs : List Rec) → Whole rs → (j : ℕ) → j < length rs → Stands rs j
 each-stands rs o j h =
     let adds : (i : ℕ) → i < length rs → getD rs i blank .size ≡ suc (sizes (children rs i)) = λ i l. o .each i l .adds in
-    record { room = each-room rs adds (o .whole) j h; some = each-some rs adds j; right = o .each j h }
+    record { room = each-room rs adds (o .counts-all) j h; some = each-some rs adds j; right = o .each j h }
 
 -- so that to test this of each is to test that they do.
-pub stands-each : (rs : List Rec) → OneFunction rs ↔ (T (isTop (getD rs 0 blank)) × (getD rs 0 blank .size ≡ length rs) × ((j : ℕ) → j < length rs → Stands rs j))
-stands-each rs = (λ o. (o .top, o .whole, each-stands rs o), λ (t, w, f). record { top = t; whole = w; each = λ j h. f j h .right })
+pub stands-each : (rs : List Rec) → Whole rs ↔ (T (isTop (getD rs 0 blank)) × (getD rs 0 blank .size ≡ length rs) × ((j : ℕ) → j < length rs → Stands rs j))
+stands-each rs = (λ o. (o .top, o .counts-all, each-stands rs o), λ (t, w, f). record { top = t; counts-all = w; each = λ j h. f j h .right })

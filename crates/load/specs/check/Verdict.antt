@@ -2,6 +2,7 @@
 -- Assumes nothing.
 use mathlib.Core.Bool.{Bool, true, false, _&&_, cond, Bool·beq}
 use mathlib.Core.List.{List, [], _∷_, map}
+use mathlib.Core.Logic.{_≢_}
 use mathlib.Core.Path.{_≡_, refl, sym, ap, _∙_, subst}
 use Prim.Native.Nat.{ℕ, zero, suc, _+_, _-_, _<_, _≤_}
 use native.Mathlib.Omega.{arith}
@@ -154,7 +155,7 @@ module _ (r : Rec) (cs : List Rec) where
       (given (decided (r .low) (r .high) cs (r .kind) small (ok .formed) (ok .exchanged)))
 
   -- and what is found right is right.
-  pub found-right : T (halves (r .low) (r .high)) → 0 < r .size → r .start < r .stop → T (verdict r (judge r (before r (start (r .kind) (r .low) (r .high))) cs)) → All Counts cs × Right r cs
+  pub found-right : T (halves (r .low) (r .high)) → 0 < r .size → (r .kind ≢ kind.Program → r .start < r .stop) → T (verdict r (judge r (before r (start (r .kind) (r .low) (r .high))) cs)) → All Counts cs × Right r cs
   unfolding end q verdict
   found-right small some place v = go (judge r (before r q) cs) refl v
     where

@@ -12,7 +12,7 @@ use Rattle.num.specs.Bound.{isBound}
 use Rattle.kinds.specs.Shape.{number, fits, Shape, nothing, never}
 use Rattle.kinds.specs.Derive.{blank, dead, then, either, isMark, isPart, after}
 use Rattle.kinds.specs.Fields.{plain}
-use Rattle.kinds.specs.Rules.{Form, forms}
+use Rattle.kinds.specs.Rules.{Form, forms, allForms}
 use Rattle.kinds.specs.Rules as rules
 use Rattle.load.specs.Bare.{barePart, bareShape}
 use Rattle.load.specs.children.Tidy.{partLabel, label, first, second, equal, joined, chain, within, added, choice, tidy}
@@ -37,7 +37,7 @@ pub record Residual : Type 0 where
 -- The shape that is reached so, where these have been reached before.
 unfoldable pub reached : List Shape → Reach → Shape
 reached before table.dead = never
-reached before (form i) = tidy (laid (getD forms i (rules.form 0 plain nothing)))
+reached before (form i) = tidy (laid (getD allForms i (rules.form 0 plain nothing)))
 reached before (by p c) = tidy (after (rep c) (getD before p never))
 
 -- The shapes, one after the other, with their states.
@@ -63,5 +63,5 @@ right r =
 
 -- The table is right: one computation.
 pub table-right : T (all right residuals)
-unfolding right residuals build reached found entry evenIn even named kindCues cueKinds cueLows reaches states steps all some has count span number isBound fits blank dead then either isMark isPart after forms barePart bareShape laid partLabel label first second equal same joined chain within added choice tidy
+unfolding right residuals build reached found entry evenIn even named kindCues cueKinds cueLows reaches states steps all some has count span number isBound fits blank dead then either isMark isPart after forms allForms barePart bareShape laid partLabel label first second equal same joined chain within added choice tidy
 table-right = tt

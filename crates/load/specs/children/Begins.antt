@@ -22,8 +22,8 @@ use Rattle.kinds.specs.Shape.{number, fits}
 use Rattle.kinds.specs.Families as family
 use Rattle.kinds.specs.Fields as fields
 use Rattle.kinds.specs.Fields.{Fields, counted, halves, holds}
-use Rattle.kinds.specs.Rules.{Form, forms}
-use Rattle.kinds.specs.Spelled.{formsOf}
+use Rattle.kinds.specs.Rules.{Form, forms, allForms}
+use Rattle.kinds.specs.Decide.{formsFor}
 use Rattle.kinds.specs.Derive.{blank, dead, then, either, isMark, isPart, after}
 use Rattle.load.specs.Bare.{bare, barePart, bareShape}
 use Rattle.load.specs.children.Table.{stateCount, reaches, states, heads, cueKinds, cueLows}
@@ -86,8 +86,8 @@ formRight f =
     eqb (asked (f .fields)) (askedOf (f .kind))
     && all (λ i. ltb i (lowsOf (f .kind)) && found (stateOf (f .kind) i) (tidy (laid f))) (lowsFor (f .fields))
 
-pub forms-right : T (all formRight forms)
-unfolding formRight bits asked lowsFor askedOf lowsOf firstOf stateOf heads found residuals build reached reaches states cueKinds cueLows all some has count span number isBound fits blank dead then either isMark isPart after forms barePart bareShape laid partLabel label first second equal same joined chain within added choice tidy
+pub forms-right : T (all formRight allForms)
+unfolding formRight bits asked lowsFor askedOf lowsOf firstOf stateOf heads found residuals build reached reaches states cueKinds cueLows all some has count span number isBound fits blank dead then either isMark isPart after forms allForms barePart bareShape laid partLabel label first second equal same joined chain within added choice tidy
 forms-right = tt
 
 -- and each state of a kind but the dead one is that of a form that has the low.
@@ -95,10 +95,10 @@ unfoldable pub lowRight : ℕ → ℕ → Form → Bool
 lowRight k i f = eqb (asked (f .fields)) (askedOf k) && (has (lowsFor (f .fields)) i && found (stateOf k i) (tidy (laid f)))
 
 unfoldable pub kindRight : ℕ → Bool
-kindRight k = all (λ i. eqb (stateOf k i) 0 || some (lowRight k i) (formsOf k)) (count (lowsOf k) 0)
+kindRight k = all (λ i. eqb (stateOf k i) 0 || some (lowRight k i) (formsFor k)) (count (lowsOf k) 0)
 
 pub kinds-right : T (all kindRight (count kindsEnd 0))
-unfolding kindRight lowRight bits asked lowsFor askedOf lowsOf firstOf stateOf heads found residuals build reached reaches states cueKinds cueLows all some has count span number isBound fits blank dead then either isMark isPart after forms formsOf barePart bareShape laid partLabel label first second equal same joined chain within added choice tidy
+unfolding kindRight lowRight bits asked lowsFor askedOf lowsOf firstOf stateOf heads found residuals build reached reaches states cueKinds cueLows all some has count span number isBound fits blank dead then either isMark isPart after forms allForms formsFor barePart bareShape laid partLabel label first second equal same joined chain within added choice tidy
 kinds-right = tt
 
 -- A form that asks no more than low and high are has the state that the children begin in,
@@ -135,11 +135,11 @@ kind-right k = go (ltb k kindsEnd) refl
     go : (b : Bool) → ltb k kindsEnd ≡ b → T (kindRight k)
     go true e = all-count kindRight kindsEnd 0 k kinds-right (omega arith) (omega (arith, ltb-true k kindsEnd e))
     go false e =
-        subst (λ (n : ℕ). T (all (λ i. eqb (stateOf k i) 0 || some (lowRight k i) (formsOf k)) (count n 0)))
+        subst (λ (n : ℕ). T (all (λ i. eqb (stateOf k i) 0 || some (lowRight k i) (formsFor k)) (count n 0)))
         (sym (lows-past k (ltb-false k kindsEnd e))) tt
 
 -- and the children begin in the dead state, or in that of such a form.
-pub begins-out : (k low high : ℕ) → (start k low high ≡ 0) ⊎ Some (Begun k low high) (formsOf k)
+pub begins-out : (k low high : ℕ) → (start k low high ≡ 0) ⊎ Some (Begun k low high) (formsFor k)
 unfolding start kindRight lowRight asks
 begins-out k low high = go (ltb i (lowsOf k) && besides a low high) refl
   where
@@ -169,22 +169,22 @@ begins-out k low high = go (ltb i (lowsOf k) && besides a low high) refl
           state = subst (λ (p : ℕ). Has p (tidy (laid f))) (sym e) (has-found (stateOf k i) (tidy (laid f)) (second-of y z v));
         }
 
-    go : (b : Bool) → (ltb i (lowsOf k) && besides a low high) ≡ b → (cond b (stateOf k i) 0 ≡ 0) ⊎ Some (Begun k low high) (formsOf k)
+    go : (b : Bool) → (ltb i (lowsOf k) && besides a low high) ≡ b → (cond b (stateOf k i) 0 ≡ 0) ⊎ Some (Begun k low high) (formsFor k)
     go false e = inl refl
     go true e =
         let t : T (ltb i (lowsOf k) && besides a low high) = subst (λ (b : Bool). T b) (sym e) tt in
         let h = ltb→lt i (lowsOf k) (first-of (ltb i (lowsOf k)) (besides a low high) t) in
-        last (or-cases (eqb (stateOf k i) 0) (some (lowRight k i) (formsOf k))
-        (all-count (λ j. eqb (stateOf k j) 0 || some (lowRight k j) (formsOf k)) (lowsOf k) 0 i (kind-right k) (omega arith) (omega arith)))
+        last (or-cases (eqb (stateOf k i) 0) (some (lowRight k i) (formsFor k))
+        (all-count (λ j. eqb (stateOf k j) 0 || some (lowRight k j) (formsFor k)) (lowsOf k) 0 i (kind-right k) (omega arith) (omega arith)))
       where
-        last : T (eqb (stateOf k i) 0) ⊎ T (some (lowRight k i) (formsOf k)) → (stateOf k i ≡ 0) ⊎ Some (Begun k low high) (formsOf k)
+        last : T (eqb (stateOf k i) 0) ⊎ T (some (lowRight k i) (formsFor k)) → (stateOf k i ≡ 0) ⊎ Some (Begun k low high) (formsFor k)
         last (inl z) = inl (eqb→eq (stateOf k i) 0 z)
-        last (inr z) = inr (some-sound (lowRight k i) (begun (second-of (ltb i (lowsOf k)) (besides a low high) (subst (λ (b : Bool). T b) (sym e) tt)) (open-case e)) (formsOf k) z)
+        last (inr z) = inr (some-sound (lowRight k i) (begun (second-of (ltb i (lowsOf k)) (besides a low high) (subst (λ (b : Bool). T b) (sym e) tt)) (open-case e)) (formsFor k) z)
 
 -- It is a state of the table.
 pub start-below : (k low high : ℕ) → start k low high < stateCount
 start-below k low high = go (begins-out k low high)
   where
-    go : (start k low high ≡ 0) ⊎ Some (Begun k low high) (formsOf k) → start k low high < stateCount
+    go : (start k low high ≡ 0) ⊎ Some (Begun k low high) (formsFor k) → start k low high < stateCount
     go (inl e) = omega arith
     go (inr s) = from-some (λ f x. known-state (start k low high) (tidy (laid f)) (x .state)) s

@@ -6,13 +6,17 @@ use mathlib.Core.List.{List, [], _∷_, map}
 use Prim.Native.Nat.{ℕ, suc, _+_, _^_}
 use lib.Dec.{eqb, ltb, leb}
 use lib.ListN.{getD}
-use Rattle.text.specs.Lists.{span}
+use Rattle.text.specs.Lists.{count}
 use Rattle.num.specs.Bound.{isBound}
 use Rattle.own.specs.Law.{Sort, child}
 use Rattle.own.specs.Arms as arm
 use Rattle.kinds.specs.Groups.{categorySet}
 use Rattle.kinds.specs.Shape.{number}
 use Rattle.load.specs.children.Table.{cueKinds, cueLows}
+
+-- How many categories there are.
+abbrev pub categoryCount : ℕ
+categoryCount = 12
 
 -- Those that are spoken of, by name. An arm that a rule names has its low behind `Arms`; `Arm` is one of any other low, `Zero` the number 0.
 abbrev pub Other : ℕ
@@ -34,17 +38,17 @@ abbrev pub Zero : ℕ
 Zero = 10
 
 abbrev pub Arms : ℕ
-Arms = 10
+Arms = categoryCount
 
 abbrev pub Bound : ℕ
-Bound = 17
+Bound = 19
 
 abbrev pub Size : ℕ
-Size = 18
+Size = 20
 
 -- How many there are.
 abbrev pub cues : ℕ
-cues = 19
+cues = 21
 
 -- The cue of a category, which is its place among them from 1, by the bit that `categorySet` has for it.
 unfoldable pub placeFrom : ℕ → List ℕ → ℕ → ℕ
@@ -52,7 +56,7 @@ placeFrom i [] s = Other
 placeFrom i (a ∷ l) s = cond (eqb s a) i (placeFrom (suc i) l s)
 
 abbrev pub categoryBits : List ℕ
-categoryBits = map (λ i. 2 ^ i) (span 0 9)
+categoryBits = map (λ i. 2 ^ i) (count categoryCount 0)
 
 unfoldable pub kindCue : ℕ → ℕ
 kindCue k = placeFrom Name categoryBits (categorySet k)

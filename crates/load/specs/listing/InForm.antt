@@ -1,4 +1,4 @@
--- Lines of a form (document 01, "The listing program", and request 1): a line is that of a record, as crate `lines` writes it, where the digits hold
+-- Lines of a form (document 01, "The listing program", and order 1): a line is that of a record, as crate `lines` writes it, where the digits hold
 -- its numbers. Said of any list of widths.
 -- Assumes nothing: these are definitions.
 use mathlib.Core.List.{List, [], _∷_, _++_}

@@ -3,12 +3,15 @@
 use Rattle.load.proofs.WalkLines.{its-line, its-record}
 use Rattle.load.proofs.CheckLaws.{stands-none, stands-over, stands-place, stands-is}
 use native.Mathlib.Omega.{arith}
+use borrow.Author.Tests.{not-true}
+use Rattle.load.proofs.Told.{told-so}
 use borrow.Author.Needs.{needs}
 use Rattle.load.proofs.check.stands.Statement.{statement}
 use Rattle.load.proofs.check.stands.Tie as tie
 use Rattle.load.proofs.check.stands.Reads as reads
 use Rattle.load.proofs.check.stands.Lts as lts
 use Rattle.load.proofs.begin.start.Reads as start-reads
+use Rattle.load.proofs.check.placed.Reads as placed-reads
 use Rattle.load.proofs.check.verdict.Reads as verdict-reads
 use Rattle.load.proofs.record.record_at.Reads as record-at-reads
 use Rattle.load.proofs.walk.walk.Reads as walk-reads
@@ -31,8 +34,11 @@ sub-if2 c = search needs
 returns-2 : tie.Need-returns-2
 returns-2 c = stands-over _ _ _ (its-record (c .before .before .before .before .before .before .before .pre .1 .0) _ (c .before .before .before .before .before .before .before .pre .1 .1 .1 .1) (c .before .before .before .before .record-at .ensures)) (omega (arith, (c .before .before .before .before .before .before .before .pre .1 .0) .many, c .if2 .taken))
 
+placed-requires : tie.Need-placed-requires
+placed-requires c κs = tt
+
 returns-3 : tie.Need-returns-3
-returns-3 c = stands-place _ _ _ (its-record (c .before .before .before .before .before .before .before .before .before .pre .1 .0) _ (c .before .before .before .before .before .before .before .before .before .pre .1 .1 .1 .1) (c .before .before .before .before .before .before .record-at .ensures)) (c .if3 .taken)
+returns-3 c = stands-place _ _ _ (its-record (c .before .before .before .before .before .before .before .before .before .pre .1 .0) _ (c .before .before .before .before .before .before .before .before .before .pre .1 .1 .1 .1) (c .before .before .before .before .before .before .record-at .ensures)) (c .before .placed .ensures) (not-true _ (c .if3 .taken))
 
 start-requires : tie.Need-start-requires
 start-requires c κs = search needs
@@ -59,7 +65,7 @@ returns-4 c =
     (its-record (c .before .before .before .before .before .before .before .before .before .before .before .before .pre .1 .0) _ (c .before .before .before .before .before .before .before .before .before .before .before .before .pre .1 .1 .1 .1) (c .before .before .before .before .before .before .before .before .before .record-at .ensures))
     (omega arith) (omega arith) (omega (arith, c .before .before .before .before .before .before .before .if1 .left))
     (omega (arith, c .before .before .before .before .before .if2 .left, (c .before .before .before .before .before .before .before .before .before .before .before .before .pre .1 .0) .many, (c .before .before .before .before .before .before .before .before .before .before .before .before .pre .1 .1 .1 .1)))
-    (c .before .before .before .if3 .left) (c .before .before .start .ensures .0) (c .before .walk .ensures .0) (c .verdict .ensures)
+    (told-so (c .before .before .before .before .placed .result) (c .before .before .before .if3 .left) (c .before .before .before .before .placed .ensures)) (c .before .before .start .ensures .0) (c .before .walk .ensures .0) (c .verdict .ensures)
 
 pub stands-spec : {M : Type 1} → statement M
 stands-spec =
@@ -71,6 +77,7 @@ stands-spec =
     cast-if2
     sub-if2
     returns-2
+    placed-requires
     returns-3
     start-requires
     walk-requires

@@ -54,7 +54,13 @@ returns-10 : tie.Need-returns-10
 returns-10 c = number-cue _ _ _ (c .before .before .before .category .ensures) (c .before .before .match .keys10) (c .before .number .ensures) (c .number-cue .ensures)
 
 returns-11 : tie.Need-returns-11
-returns-11 c = other-cue _ _ _ (c .before .category .ensures) (c .match .rest)
+returns-11 c = plain-cue _ _ _ (c .before .category .ensures) 10 tt (c .match .keys11)
+
+returns-12 : tie.Need-returns-12
+returns-12 c = plain-cue _ _ _ (c .before .category .ensures) 11 tt (c .match .keys12)
+
+returns-13 : tie.Need-returns-13
+returns-13 c = other-cue _ _ _ (c .before .category .ensures) (c .match .rest)
 
 pub cue-spec : {M : Type 1} → statement M
 cue-spec =
@@ -74,4 +80,6 @@ cue-spec =
     returns-8
     returns-9
     returns-10
-    returns-11)
+    returns-11
+    returns-12
+    returns-13)

@@ -1,4 +1,4 @@
--- `one_function` meets its contract.
+-- `is_whole` meets its contract.
 -- Assumes nothing.
 use Rattle.load.proofs.CheckLaws.{Passing, passing-start, passing-more, all-passed, one-none, one-top, one-size, one-all, one-bad}
 use mathlib.Core.Path.{refl}
@@ -11,10 +11,10 @@ use borrow.Author.Needs.{needs}
 use native.Mathlib.Omega.{arith}
 use Prim.Native.Nat.{_-_, _≤_}
 use mathlib.Core.Path.{refl}
-use Rattle.load.proofs.check.one_function.Statement.{statement}
-use Rattle.load.proofs.check.one_function.Tie as tie
-use Rattle.load.proofs.check.one_function.Reads as reads
-use Rattle.load.proofs.check.one_function.Lts as lts
+use Rattle.load.proofs.check.is_whole.Statement.{statement}
+use Rattle.load.proofs.check.is_whole.Tie as tie
+use Rattle.load.proofs.check.is_whole.Reads as reads
+use Rattle.load.proofs.check.is_whole.Lts as lts
 use Rattle.load.proofs.begin.heads.Reads as heads-reads
 use Rattle.load.proofs.check.is_top.Reads as is-top-reads
 use Rattle.load.proofs.check.stands.Reads as stands-reads
@@ -86,8 +86,8 @@ returns-5 c =
     (told-so (c7 .is-top .result) (c6 .if2 .left) refl) (c4 .if3 .left)
     (all-passed _ (c .before .loop .inv .0) (c .loop-test .left) (c .before .loop .inv .1))
 
-pub one-function-spec : {M : Type 1} → statement M
-one-function-spec =
+pub is-whole-spec : {M : Type 1} → statement M
+is-whole-spec =
     tie.close
     (tie.spec
     Inv-loop
