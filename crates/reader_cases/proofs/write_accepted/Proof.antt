@@ -13,14 +13,14 @@ mul-e c = search needs
 mul-f : tie.Need-mul-f
 mul-f c = search needs
 
-slice-aggregate-owned : tie.Need-slice-aggregate-owned
-slice-aggregate-owned c = sym (length-take-le _ _ (omega arith))
+slice-aggregate-owned-at : tie.Need-slice-aggregate-owned-at
+slice-aggregate-owned-at c = sym (length-take-le _ _ (omega arith))
 
-slice-aggregate-owned-2 : tie.Need-slice-aggregate-owned-2
-slice-aggregate-owned-2 c = sym (length-take-le _ _ (omega arith))
+slice-aggregate-owned-at-2 : tie.Need-slice-aggregate-owned-at-2
+slice-aggregate-owned-at-2 c = sym (length-take-le _ _ (omega arith))
 
-owned-requires : tie.Need-owned-requires
-owned-requires c κs = search needs
+owned-at-requires : tie.Need-owned-at-requires
+owned-at-requires c κs = search needs
 
 write-owned-requires : tie.Need-write-owned-requires
 write-owned-requires c κs = search needs
@@ -52,9 +52,9 @@ write-accepted-spec =
     (tie.spec
     mul-e
     mul-f
-    slice-aggregate-owned
-    slice-aggregate-owned-2
-    owned-requires
+    slice-aggregate-owned-at
+    slice-aggregate-owned-at-2
+    owned-at-requires
     write-owned-requires
     zeros-requires
     zeros-requires-2

@@ -13,23 +13,32 @@ token-buffer-requires c κs = search needs
 tree-buffer-requires : tie.Need-tree-buffer-requires
 tree-buffer-requires c κs = search needs
 
+tree-buffer-requires-2 : tie.Need-tree-buffer-requires-2
+tree-buffer-requires-2 c κs = search needs
+
 byte-buffer-requires : tie.Need-byte-buffer-requires
 byte-buffer-requires c κs = search needs
 
 array-borrow-prefix-tokens : tie.Need-array-borrow-prefix-tokens
 array-borrow-prefix-tokens c = search needs
 
-slice-aggregate-write-reading : tie.Need-slice-aggregate-write-reading
-slice-aggregate-write-reading c = sym (length-take-le _ _ (omega arith))
+slice-aggregate-write-readings : tie.Need-slice-aggregate-write-readings
+slice-aggregate-write-readings c = sym (length-take-le _ _ (omega arith))
 
-array-borrow-prefix-tree : tie.Need-array-borrow-prefix-tree
-array-borrow-prefix-tree c = search needs
+array-borrow-prefix-one : tie.Need-array-borrow-prefix-one
+array-borrow-prefix-one c = search needs
 
-slice-aggregate-write-reading-2 : tie.Need-slice-aggregate-write-reading-2
-slice-aggregate-write-reading-2 c = sym (length-take-le _ _ (omega arith))
+slice-aggregate-write-readings-2 : tie.Need-slice-aggregate-write-readings-2
+slice-aggregate-write-readings-2 c = sym (length-take-le _ _ (omega arith))
 
-write-reading-requires : tie.Need-write-reading-requires
-write-reading-requires c κs = search needs
+array-borrow-prefix-whole : tie.Need-array-borrow-prefix-whole
+array-borrow-prefix-whole c = search needs
+
+slice-aggregate-write-readings-3 : tie.Need-slice-aggregate-write-readings-3
+slice-aggregate-write-readings-3 c = sym (length-take-le _ _ (omega arith))
+
+write-readings-requires : tie.Need-write-readings-requires
+write-readings-requires c κs = search needs
 
 array-borrow-prefix-out : tie.Need-array-borrow-prefix-out
 array-borrow-prefix-out c = search needs
@@ -49,12 +58,15 @@ write-case-spec =
     (tie.spec
     token-buffer-requires
     tree-buffer-requires
+    tree-buffer-requires-2
     byte-buffer-requires
     array-borrow-prefix-tokens
-    slice-aggregate-write-reading
-    array-borrow-prefix-tree
-    slice-aggregate-write-reading-2
-    write-reading-requires
+    slice-aggregate-write-readings
+    array-borrow-prefix-one
+    slice-aggregate-write-readings-2
+    array-borrow-prefix-whole
+    slice-aggregate-write-readings-3
+    write-readings-requires
     array-borrow-prefix-out
     slice-aggregate-write-listing
     write-listing-requires

@@ -28,6 +28,9 @@ zero-bytes-requires c κs = search needs
 write-zeros-requires : tie.Need-write-zeros-requires
 write-zeros-requires c κs = search needs
 
+end-line-requires : tie.Need-end-line-requires
+end-line-requires c κs = search needs
+
 slice-reshare-prefix-write-all : tie.Need-slice-reshare-prefix-write-all
 slice-reshare-prefix-write-all c = search needs
 
@@ -60,6 +63,7 @@ write-listing-spec =
     write-number-requires
     zero-bytes-requires
     write-zeros-requires
+    end-line-requires
     slice-reshare-prefix-write-all
     slice-aggregate-write-all-2
     write-all-requires-2
