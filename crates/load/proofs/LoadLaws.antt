@@ -47,16 +47,16 @@ module _ (text : List ℕ) (room : ℕ) {ws : List ℕ} (held : ws ≡ widths) {
     fine : ltb 0 (badLine widths text) ≡ false
     fine = le-ltb 0 (badLine widths text) (omega (arith, its))
 
-    function : b ≡ isWhole (recordsOf text)
-    function = one ∙ ap (λ (x : List ℕ). isWhole (recordsIn x text)) held
+    whole : b ≡ isWhole (recordsOf text)
+    whole = one ∙ ap (λ (x : List ℕ). isWhole (recordsIn x text)) held
 
     pub load-none : b ≡ false → refused refusal.NoFunction 0 ≡ loadOf text room
     unfolding loadOf
-    load-none f = simp (fine, sym function ∙ f)
+    load-none f = simp (fine, sym whole ∙ f)
 
     module _ (yes : T b) {n : ℕ} (many : n ≡ length text / lineBytes) where
       so : isWhole (recordsOf text) ≡ true
-      so = sym function ∙ passes b yes
+      so = sym whole ∙ passes b yes
         where
           passes : (x : Bool) → T x → x ≡ true
           passes true t = refl

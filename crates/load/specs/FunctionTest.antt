@@ -1,4 +1,4 @@
--- Whether records are those of a whole function or program, as a test that antt computes; it agrees with `Whole`.
+-- Whether records form a whole function or program, as a test that antt computes; it agrees with `Whole`.
 -- Assumes nothing.
 use mathlib.Core.Bool.{Bool, true, false, _&&_, _||_, not}
 use mathlib.Core.List.{List, map}
@@ -79,7 +79,7 @@ right-exactly r cs =
       λ h. e .1 (h .formed, (h .exchanged, (h .adds, (h .place, h .inside)))),
     )
 
--- The test passes exactly where the records are a whole.
+-- The test passes exactly where the records form a whole.
 pub whole-exactly : (rs : List Rec) → T (isWhole rs) ↔ Whole rs
 unfolding isWhole
 whole-exactly rs =

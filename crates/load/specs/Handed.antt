@@ -1,5 +1,5 @@
 -- Every tree that the reader hands over may be loaded: the records of right trees are right as a listing shows them, and those of one function, or of
--- a file, are a whole.
+-- a file, form a whole.
 -- Assumes nothing.
 use mathlib.Core.Bool.{Bool, true, false, not}
 use mathlib.Core.List.{List, [], _∷_, map}
@@ -112,7 +112,7 @@ module _ (ns : List Node) (ok : kinds.Right ns) (j : ℕ) (lt : j < length (reco
         right = rw (its, kin) its-right;
       }
 
--- The records of one function are a whole.
+-- The records of one function form a whole.
 pub one-function : (n : Node) → n .kind ≡ kind.Function → kinds.Right (n ∷ []) → Whole (records (n ∷ []))
 one-function n e ok =
     record {
@@ -147,7 +147,7 @@ module _ (ns : List Node) (len : ℕ) (ok : kinds.Right ns) (within : end 0 (tok
         inside = inside-kids top 0 (kids (roots ns)) (omega arith) (subst (Ordered 0 len) kin (kinds.law-3-file ns len ok within items .ordered));
       }
 
-  -- The records of the file are a whole.
+  -- The records of the file form a whole.
   pub whole-file : Whole (filed len (records ns))
   whole-file = record { top = tt; counts-all = omega arith; each = each }
     where

@@ -25,7 +25,7 @@ use Rattle.load.specs.FunctionTest.{isWhole, whole-exactly}
 use Rattle.load.specs.Load.{recordsOf, contents, loadOf, wordsOf}
 use Rattle.load.specs.Promised.{Lists, Loads, bad-line, not-whole, no-room, loaded}
 
--- A listing of n records that are a whole function or program, for which there is room.
+-- A listing of n records that form a whole function or program, for which there is room.
 pub record Taken (text : List ℕ) (room n : ℕ) : Type 0 where
   pub its : List Rec
   pub lists : Lists text its

@@ -42,7 +42,7 @@ load-then-list text room n e =
     all-held : {l k : ℕ} → l ≡ room → n ≡ k → recWide * k ≤ room → min n (l / recWide) ≡ n
     all-held p q h = omega arith
 
--- Listing records that are a whole and fit a line, and then loading, restores the same records.
+-- Listing records that form a whole and fit a line, and then loading, restores the same records.
 pub list-then-load : (words : List ℕ) (n : ℕ) → Whole (recs (held words n) words) → Fitting widths (recs (held words n) words) → (room : ℕ) → recWide * held words n ≤ room
     → (loadOf (linesIn words n) room ≡ accepted 0 (held words n))
     × (wordsOf (linesIn words n) room ≡ recWords (recs (held words n) words) ++ replicate (room - recWide * held words n) 0)

@@ -1,4 +1,4 @@
--- How the code tests that records are a whole function or program: each record with one walk over its children.
+-- How the code tests that records form a whole function or program: each record with one walk over its children.
 pub mod Parts
 pub mod Stands
 pub mod Judge

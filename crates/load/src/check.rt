@@ -1,4 +1,4 @@
-// Whether the records of a listing are a whole function or program: each is read once for itself, and once as a child.
+// Whether the records of a listing form a whole function or program: each is read once for itself, and once as a child.
 ghost use mathlib.Core.Path.{_≡_};
 ghost use Prim.Native.Nat.{_<_};
 ghost use Rattle.load.specs.Function as function;
@@ -104,7 +104,7 @@ fn is_top(r: Record) -> bool
     r.kind == kind::PROGRAM && r.start == 0
 }
 
-// Whether the records of n lines are a whole function or program. The tables are held here and lent to every function.
+// Whether the records of n lines form a whole function or program. The tables are held here and lent to every function.
 pub(crate) fn is_whole(
     digits: &[u8; BYTE_VALUES],
     widths: &[usize],

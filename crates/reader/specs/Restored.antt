@@ -84,7 +84,7 @@ records-fit en draft tw rw n m a = subst (Fitting widths) (are-read en draft tw 
         file-fitting (trees wholeFile draft tw rw n m a) (length draft) (are-right wholeFile draft tw rw n m a) (inside wholeFile draft tw rw n m a)
         (omega (arith, a .shaped .within .short)) (few a)
 
--- and are a whole function or program.
+-- and form a whole function or program.
 pub records-form : (en : Entry) (draft : List ℕ) (tw rw n m : ℕ) → Accepted en draftLimits draft tw rw n m → Whole (recordsRead en draftLimits draft tw)
 records-form en draft tw rw n m a = subst Whole (are-read en draft tw rw n m a) (go en a)
   where

@@ -1,5 +1,5 @@
 -- What the code tests of each record: beside that it is right, that the part that it counts ends in the list and that its children count themselves at
--- least. Both follow where they are a whole function or program.
+-- least. Both follow where they form a whole.
 -- Assumes nothing.
 use mathlib.Core.Bool.{Bool, _&&_}
 use mathlib.Core.List.{List}
@@ -38,7 +38,7 @@ stands-exactly rs j =
     (both some (right r cs) (all-exactly (λ c. ltb 0 (c .size)) (λ c. less 0 (c .size)) cs) (right-exactly r cs)) in
     (λ t. let (m, (s, h)) = e .0 t in record { room = m; some = s; right = h }, λ s. e .1 (s .room, (s .some, s .right)))
 
--- Where records are a whole each stands there,
+-- Where records form a whole each stands there,
 each-stands : (rs : List Rec) → Whole rs → (j : ℕ) → j < length rs → Stands rs j
 each-stands rs o j h =
     let adds : (i : ℕ) → i < length rs → getD rs i blank .size ≡ suc (sizes (children rs i)) = λ i l. o .each i l .adds in

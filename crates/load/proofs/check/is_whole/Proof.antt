@@ -2,7 +2,6 @@
 -- Assumes nothing.
 use Rattle.load.proofs.CheckLaws.{Passing, passing-start, passing-more, all-passed, one-none, one-top, one-size, one-all, one-bad}
 use mathlib.Core.Path.{refl}
-use Rattle.load.proofs.CheckLaws.{Passing, passing-start, passing-more, all-passed, one-none, one-top, one-size, one-all, one-bad}
 use Rattle.load.proofs.WalkLines.{first-line, first-record}
 use borrow.Author.Tests.{not-true}
 use Rattle.load.proofs.Told.{told-so}
@@ -10,7 +9,6 @@ use Rattle.load.specs.listing.Read.{recordsIn}
 use borrow.Author.Needs.{needs}
 use native.Mathlib.Omega.{arith}
 use Prim.Native.Nat.{_-_, _≤_}
-use mathlib.Core.Path.{refl}
 use Rattle.load.proofs.check.is_whole.Statement.{statement}
 use Rattle.load.proofs.check.is_whole.Tie as tie
 use Rattle.load.proofs.check.is_whole.Reads as reads
