@@ -59,13 +59,7 @@ fn read_as(draft: &[u8], tokens: &mut [u32], tree: &mut [u32], file: bool) -> Re
 }
 
 // The answer of the parser over the tokens that were lexed; on a refusal the tokens are cleared too.
-fn parsed(
-    draft: &[u8],
-    tokens: &mut [u32],
-    count: usize,
-    tree: &mut [u32],
-    file: bool,
-) -> Reading
+fn parsed(draft: &[u8], tokens: &mut [u32], count: usize, tree: &mut [u32], file: bool) -> Reading
     requires { ⌜ lexedOf draftLimits (now draft) (length (now tokens)) ≡ accepted count 0 ⌝ }
     requires { ⌜ now tokens ≡ bufferOf draftLimits (now draft) (length (now tokens)) ⌝ }
     ensures answer { λ r. ⌜ meant r ≡ answer (entryOf file) draftLimits (now (draft .entry)) (length (now (tokens .entry))) (length (now (tree .entry))) ⌝ }
