@@ -206,7 +206,7 @@ def add_calls(cases):
 
 
 def add_tops(cases):
-    """17: "a listing whose records form one function": no line, a refusal's line, two functions, another top, kinds that the table has not."""
+    """17: "a listing whose records form one function", or one program: no line, a refusal's line, two functions, another top, kinds that the table has not."""
     cases.refuse(NOT_ONE_TREE, 0, b"")
     cases.refuse(NOT_ONE_TREE, 0, b"00 000B 000B 00000008 00000000 0001\n")
     cases.refuses(function().records() + function().records(), function().records() + VALUE.records(), VALUE, EMPTY, function().records()[1:])

@@ -144,7 +144,7 @@ unfoldable pub hashes : List Hash
 hashes =
     {(" ∷" + chr(10) + "    ").join(f"record {{ size = {size}; second = {m[0]}; before = {m[1]}; last = {m[2]} }}" for size, m in hashes)} ∷ []
 
--- which of them a word of a table has
+-- which of them a word of a table has: of RULE_WORDS, the last table, those that begin with a capital have one, those that do not have the next
 unfoldable pub hashFor : ℕ → List ℕ → ℕ
 hashFor t w = cond (eqb t {rules}) (cond (ltb (getD w 0 0) {SMALL}) {rules} {rules + 1}) t
 """

@@ -335,7 +335,7 @@ reserved = unwrap-left ∷ unwrap-right ∷ array-fold ∷ for-while ∷ is-none
 abbrev pub identifiers : list.List ℕ
 identifiers = functionNames ++ reserved
 
--- "A type's own name may not be in `ALIAS_RESERVED`" (document 02, order 3): the classes of names that are not.
+-- "A type's own name may not be in `ALIAS_RESERVED`" (document 02, order 3): the classes of names that are not,
 abbrev pub aliasNames : list.List ℕ
 aliasNames = Ident ∷ Left ∷ Right ∷ Some ∷ None ∷ reserved
 

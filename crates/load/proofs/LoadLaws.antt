@@ -50,7 +50,7 @@ module _ (text : List ℕ) (room : ℕ) {ws : List ℕ} (held : ws ≡ widths) {
     whole : b ≡ isWhole (recordsOf text)
     whole = one ∙ ap (λ (x : List ℕ). isWhole (recordsIn x text)) held
 
-    pub load-none : b ≡ false → refused refusal.NoFunction 0 ≡ loadOf text room
+    pub load-none : b ≡ false → refused refusal.NotWhole 0 ≡ loadOf text room
     unfolding loadOf
     load-none f = simp (fine, sym whole ∙ f)
 
@@ -93,7 +93,7 @@ loaded-is text room n e = go (ltb 0 (badLine widths text)) (isWhole (recordsOf t
   where
     go : (a b s : Bool) → ltb room (recWide * length (recordsOf text)) ≡ s
         → accepted 0 n
-        ≡ cond a (refused refusal.BadLine (badLine widths text)) (cond b (cond s (refused refusal.NoLoadRoom 0) (accepted 0 (length (recordsOf text)))) (refused refusal.NoFunction 0))
+        ≡ cond a (refused refusal.BadLine (badLine widths text)) (cond b (cond s (refused refusal.NoLoadRoom 0) (accepted 0 (length (recordsOf text)))) (refused refusal.NotWhole 0))
         → (n ≡ length (recordsOf text)) × (recWide * n ≤ room)
     go true b s q e = let z : _≡_ {A = ℕ} 0 1 = cc in absurd (omega arith)
     go false false s q e = let z : _≡_ {A = ℕ} 0 1 = cc in absurd (omega arith)

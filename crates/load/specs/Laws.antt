@@ -39,7 +39,7 @@ Accepts text room (refused c l) = Unit {0}
 
 -- The answer where no line is bad, by the two tests that are left.
 abbrev judged : List Rec → Bool → Bool → Answer
-judged rs one short = cond one (cond short (refused refusal.NoLoadRoom 0) (accepted 0 (length rs))) (refused refusal.NoFunction 0)
+judged rs one short = cond one (cond short (refused refusal.NoLoadRoom 0) (accepted 0 (length rs))) (refused refusal.NotWhole 0)
 
 module _ (text : List ℕ) (room : ℕ) where
   behind-bad : {i : ℕ} → Bad widths text i → (loadOf text room ≡ refused refusal.BadLine (suc i)) × (wordsOf text room ≡ replicate room 0)

@@ -24,7 +24,7 @@ loadOf text room =
     cond (ltb 0 (badLine widths text)) (refused refusal.BadLine (badLine widths text))
     (cond (isWhole (recordsOf text))
     (cond (ltb room (recWide * length (recordsOf text))) (refused refusal.NoLoadRoom 0) (accepted 0 (length (recordsOf text))))
-    (refused refusal.NoFunction 0))
+    (refused refusal.NotWhole 0))
 
 -- "a refusal zeroes every buffer lent for writing", "zeros follow what is written"
 abbrev pub contents : Answer → List Rec → ℕ → List ℕ

@@ -25,7 +25,7 @@ pub data Loads (text : List ℕ) (room : ℕ) : Answer → List ℕ → Type 0 w
   bad-line : (rs : List Rec) (rest : List ℕ) → Fitting widths rs → text ≡ lines rs ++ rest → 0 < length rest → (Begins widths rest → ⊥)
       → Loads text room (refused refusal.BadLine (suc (length rs))) (replicate room 0)
   -- 17: "when the lines do not form one such function", nor a program; zeros
-  not-whole : (rs : List Rec) → Lists text rs → (Whole rs → ⊥) → Loads text room (refused refusal.NoFunction 0) (replicate room 0)
+  not-whole : (rs : List Rec) → Lists text rs → (Whole rs → ⊥) → Loads text room (refused refusal.NotWhole 0) (replicate room 0)
   -- 18: "when the record buffer is too short"; zeros
   no-room : (rs : List Rec) → Lists text rs → Whole rs → room < recWide * length rs → Loads text room (refused refusal.NoLoadRoom 0) (replicate room 0)
   -- "the six-word records out, with the number of records", "zeros follow what is written"

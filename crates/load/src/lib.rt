@@ -42,7 +42,7 @@ fn answer(digits: &[u8; BYTE_VALUES], widths: &[usize], listing: &[u8], room: us
     let n = listing.len() / lines::LINE_BYTES;
     if !check::is_whole(digits, widths, lines::LINE_BYTES, listing, n) {
         return Loaded::Refused {
-            number: refusal::NO_FUNCTION,
+            number: refusal::NOT_WHOLE,
             line: 0,
         };
     }

@@ -1,4 +1,4 @@
--- What `togmelic_load` hands over (request 1) besides the words of the buffer, which are those of `load`: the number of records; and the number and the line of
+-- What `togmelic_load` hands over (order 1) besides the words of the buffer, which are those of `load`: the number of records; and the number and the line of
 -- the refusal, 0 and 0 where the listing is loaded.
 -- Assumes nothing.
 use mathlib.Core.List.{List, [], _∷_}

@@ -1,4 +1,4 @@
--- Every draft that is accepted, listed and loaded, gives back its records word for word (request 1); one that is refused gives back none.
+-- Every draft that is accepted, listed and loaded, gives back its records word for word (order 1); one that is refused gives back none.
 -- Assumes nothing.
 use mathlib.Core.List.{List, [], _∷_, _++_}
 use mathlib.Core.Path.{_≡_, refl, sym, ap, ap₂, subst, _∙_}
@@ -129,7 +129,7 @@ module _ (en : Entry) (draft : List ℕ) (tw size : ℕ) where
 
   -- and it is the top of nothing: a draft that is refused gives back nothing.
   pub refusal-loads : (c p : ℕ) → answer en draftLimits draft tw size ≡ refused c p → (room : ℕ)
-      → (loadOf listingBy room ≡ refused refusal.NoFunction 0) × (wordsOf listingBy room ≡ replicate room 0)
+      → (loadOf listingBy room ≡ refused refusal.NotWhole 0) × (wordsOf listingBy room ≡ replicate room 0)
   unfolding listing refusalRec
   refusal-loads c p e room =
       let (x, y) = row-fits (refused-exactly en draftLimits draft tw size c p .0 e) (place-within en draftLimits draft tw size c p e) in

@@ -1,6 +1,6 @@
 // Reads and lists the drafts that its input gives, with buffers of the lengths that each case asks.
 // A case: a line with the words of the token buffer, the words of the tree buffer, the bytes of the byte buffer and the bytes of the
-// draft, one space between; then the draft and a line end. Written are the answers of all three entries: whether an accepted draft's records own its
+// draft, one space between; then the draft and a line end. Written are the answers of all three entries, whether an accepted draft's records own its
 // tokens, whether what is behind the results is zero, whether the words of one function are those of the file behind its first record, and the lines of
 // the listing.
 ghost use mathlib.Core.Path.{_≡_};

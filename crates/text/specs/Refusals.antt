@@ -59,8 +59,8 @@ NoRoom = 15
 abbrev pub BadLine : ℕ
 BadLine = 16
 
-abbrev pub NoFunction : ℕ
-NoFunction = 17
+abbrev pub NotWhole : ℕ
+NotWhole = 17
 
 abbrev pub NoLoadRoom : ℕ
 NoLoadRoom = 18
@@ -84,7 +84,7 @@ inOrder = TooLong ∷ (ofBytes ++ (TooMany ∷ TooDeep ∷ Misshapen ∷ (ofShap
 
 -- Those of a listing: "they are tested in this order".
 abbrev pub ofListings : List ℕ
-ofListings = BadLine ∷ NoFunction ∷ NoLoadRoom ∷ []
+ofListings = BadLine ∷ NotWhole ∷ NoLoadRoom ∷ []
 
 -- no number stands twice
 abbrev pub distinct : List ℕ → Bool

@@ -47,8 +47,8 @@ pub const NO_ROOM: u32 = 15;
 // of a listing: a line is not of the 36-byte form
 pub const BAD_LINE: u32 = 16;
 
-// the lines do not form one function
-pub const NO_FUNCTION: u32 = 17;
+// the lines form neither a whole function nor a whole program
+pub const NOT_WHOLE: u32 = 17;
 
 // record buffer under six words a record
 pub const NO_LOAD_ROOM: u32 = 18;

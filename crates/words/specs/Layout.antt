@@ -41,6 +41,6 @@ hashes =
     record { size = 64; second = 39; before = 10; last = 27 } ∷
     record { size = 64; second = 6; before = 0; last = 13 } ∷ []
 
--- which of them a word of a table has
+-- which of them a word of a table has: of RULE_WORDS, the last table, those that begin with a capital have one, those that do not have the next
 unfoldable pub hashFor : ℕ → List ℕ → ℕ
 hashFor t w = cond (eqb t 4) (cond (ltb (getD w 0 0) 97) 4 5) t

@@ -24,8 +24,8 @@ pub struct Record {
 impl Record {
     /// The kind of a function: an item, or the first record of a listing that is one function alone.
     pub const FUNCTION: u8 = 1;
-    /// The kind of the first record of a draft, which holds all the others. Its place is the whole draft, which may be
-    /// empty; no other record's is.
+    /// The kind of the first record of a draft, which holds all the others. Its place is the whole draft; it
+    /// alone may be empty.
     pub const PROGRAM: u8 = 41;
     /// The kind of a type item, `type A = u8;`, a child of the program: its own children are the name and the type.
     pub const TYPE_ITEM: u8 = 42;

@@ -48,33 +48,33 @@ shape-function m =
     let e = only-kind (n .place) (n .kind) (n .listed) in
     (n .within, n .whole ∙ ap (λ (k : ℕ). sub k (n .within) nil) e, subst (λ (k : ℕ). Match shapes (bodyOf shapes k) (n .within)) e (n .body))
 
--- a node, or the items of a file; `file` is the part of this number
+-- An expression whose items are nodes alone: a child, or the items of a file. `file` is the part of this number.
 abbrev theFile : ℕ
 theFile = 5
 
-isTop : Ex → Bool
-isTop eps = false
-isTop (mark c) = false
-isTop (child C) = true
-isTop (part P) = eqb P theFile
-isTop (seq e f) = false
-isTop (or e f) = false
-isTop (many e) = false
-isTop (list e c) = false
-isTop (tail e c) = false
+isNodes : Ex → Bool
+isNodes eps = false
+isNodes (mark c) = false
+isNodes (child C) = true
+isNodes (part P) = eqb P theFile
+isNodes (seq e f) = false
+isNodes (or e f) = false
+isNodes (many e) = false
+isNodes (list e c) = false
+isNodes (tail e c) = false
 
 no-choice : {A : Type 0} {α : List Ex} (i : ℕ) → getElem? {A = List Ex} [] i ≡ some α → A
 no-choice i h = let z : _≡_ {A = ℕ} 0 1 = cc in absurd (omega arith)
 
-file-choice : (i : ℕ) (α : List Ex) → getElem? (choices shapes file) i ≡ some α → T (all isTop α)
-unfolding choices shapes branches items all isTop
-file-choice zero α h = let q : [] ≡ α = cc in subst (λ (l : List Ex). T (all isTop l)) q tt
-file-choice (suc zero) α h = let q : child typeItem ∷ file ∷ [] ≡ α = cc in subst (λ (l : List Ex). T (all isTop l)) q tt
-file-choice (suc (suc zero)) α h = let q : child function ∷ file ∷ [] ≡ α = cc in subst (λ (l : List Ex). T (all isTop l)) q tt
+file-choice : (i : ℕ) (α : List Ex) → getElem? (choices shapes file) i ≡ some α → T (all isNodes α)
+unfolding choices shapes branches items all isNodes
+file-choice zero α h = let q : [] ≡ α = cc in subst (λ (l : List Ex). T (all isNodes l)) q tt
+file-choice (suc zero) α h = let q : child typeItem ∷ file ∷ [] ≡ α = cc in subst (λ (l : List Ex). T (all isNodes l)) q tt
+file-choice (suc (suc zero)) α h = let q : child function ∷ file ∷ [] ≡ α = cc in subst (λ (l : List Ex). T (all isNodes l)) q tt
 file-choice (suc (suc (suc i))) α h = no-choice i h
 
-top-choice : (e : Ex) (i : ℕ) (α : List Ex) → T (isTop e) → getElem? (choices shapes e) i ≡ some α → T (all isTop α)
-unfolding choices isTop
+top-choice : (e : Ex) (i : ℕ) (α : List Ex) → T (isNodes e) → getElem? (choices shapes e) i ≡ some α → T (all isNodes α)
+unfolding choices isNodes
 top-choice eps i α t h = absurd t
 top-choice (mark c) i α t h = absurd t
 top-choice (child C) i α t h = no-choice i h
@@ -85,22 +85,22 @@ top-choice (many e) i α t h = absurd t
 top-choice (list e c) i α t h = absurd t
 top-choice (tail e c) i α t h = absurd t
 
-tops-append : (α es : List Ex) → T (all isTop α) → T (all isTop es) → T (all isTop (α ++ es))
+tops-append : (α es : List Ex) → T (all isNodes α) → T (all isNodes es) → T (all isNodes (α ++ es))
 unfolding all
 tops-append [] es s t = t
-tops-append (e ∷ α) es s t = pair (isTop e) (all isTop (α ++ es)) (first-of (isTop e) (all isTop α) s) (tops-append α es (second-of (isTop e) (all isTop α) s) t)
+tops-append (e ∷ α) es s t = pair (isNodes e) (all isNodes (α ++ es)) (first-of (isNodes e) (all isNodes α) s) (tops-append α es (second-of (isNodes e) (all isNodes α) s) t)
 
-nodes-only : {es : List Ex} {r : Items} → Match shapes es r → T (all isTop es) → Nodes r
-unfolding all isTop
+nodes-only : {es : List Ex} {r : Items} → Match shapes es r → T (all isNodes es) → Nodes r
+unfolding all isNodes
 nodes-only m-end t = no-more
 nodes-only (m-word m) t = absurd t
 nodes-only (m-sub {k = k} {js = js} i h m m′) t = a-node k js (nodes-only m′ t)
 nodes-only (m-choice {e = e} {es = es} {α = α} i h m) t =
-    nodes-only m (tops-append α es (top-choice e i α (first-of (isTop e) (all isTop es) t) h) (second-of (isTop e) (all isTop es) t))
+    nodes-only m (tops-append α es (top-choice e i α (first-of (isNodes e) (all isNodes es) t) h) (second-of (isNodes e) (all isNodes es) t))
 
 -- A shape tree is nodes alone.
 pub shape-nodes : (en : Entry) {r : Items} → Shape en r → Nodes r
-unfolding all isTop
+unfolding all isNodes
 shape-nodes oneFunction m = nodes-only m tt
 shape-nodes wholeFile m = nodes-only m tt
 
