@@ -60,8 +60,9 @@ RULE_WORDS = RULE_NAMES ++ FUNCTION_RESERVED ++ MACROS ++ BOOLEANS ++ TYPE_NAMES
 -- src/str.rs, `ALIAS_RESERVED`: what no type item is named
 unfoldable pub ALIAS_RESERVED : List (List ℕ)
 ALIAS_RESERVED =
-    map ascii
-    ("Either" ∷ "Option" ∷ "bool" ∷ "List" ∷ "u128" ∷ "u256" ∷ "u16" ∷ "u32" ∷ "u64" ∷ "u1" ∷ "u2" ∷ "u4" ∷ "u8" ∷ "Ctx8" ∷ "Pubkey" ∷ "Message64" ∷ "Message" ∷ "Signature" ∷ "Scalar" ∷ "Fe" ∷ "Gej" ∷ "Ge" ∷ "Point" ∷ "Height" ∷ "Time" ∷ "Distance" ∷ "Duration" ∷ "Lock" ∷ "Outpoint" ∷ "Confidential1" ∷ "ExplicitAsset" ∷ "Asset1" ∷ "ExplicitAmount" ∷ "Amount1" ∷ "ExplicitNonce" ∷ "Nonce" ∷ "TokenAmount1" ∷ [])
+    map ascii ("Either" ∷ "Option" ∷ "bool" ∷ "List" ∷ "u128" ∷ "u256" ∷ "u16" ∷ "u32" ∷ "u64" ∷ "u1" ∷ "u2" ∷ "u4" ∷ "u8" ∷ [])
+    ++ map ascii
+    ("Ctx8" ∷ "Pubkey" ∷ "Message64" ∷ "Message" ∷ "Signature" ∷ "Scalar" ∷ "Fe" ∷ "Gej" ∷ "Ge" ∷ "Point" ∷ "Height" ∷ "Time" ∷ "Distance" ∷ "Duration" ∷ "Lock" ∷ "Outpoint" ∷ "Confidential1" ∷ "ExplicitAsset" ∷ "Asset1" ∷ "ExplicitAmount" ∷ "Amount1" ∷ "ExplicitNonce" ∷ "Nonce" ∷ "TokenAmount1" ∷ [])
 
 -- the words of each table
 unfoldable pub wordsOf : Table → List (List ℕ)

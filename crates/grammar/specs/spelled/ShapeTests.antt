@@ -86,4 +86,31 @@ unfolding shapes seen partShapes both kindsIn bodyShape exactIn formIn formsOf f
     shapeIn pieceIn tokenIn marksOf isPart kindsOf onlyKinds roleOf has span count fits free freeOf sure isThe lacks hasParts loneRow
     crowdedRow unroll judge opened lonelyRow classRow patternRow allBelow functionCase functionRow angledRow armRow placeIn typeName literalHead
     callHead wrapperHead aloneHead wrapsRow callsRow genericRow pathRow parensRow aloneRow plainRow nameRow nameRows foldNumber
-tests n = record { parameter = tt; tuple-type = tt; tuple-pattern = tt; array-pattern = tt; assignment = tt; array = tt; list = tt; function = tt; either-type = tt; option-type = tt; list-type = tt; type-name = tt; array-type = tt; pattern-name = tt; literal = tt; parens = tt; simple-call = tt; cast-call = tt; named = tt; bare = tt; typed = tt; for-while = tt; folding = tt; arm = tt; type-item = tt }
+tests n =
+    record {
+      parameter = tt;
+      tuple-type = tt;
+      tuple-pattern = tt;
+      array-pattern = tt;
+      assignment = tt;
+      array = tt;
+      list = tt;
+      function = tt;
+      either-type = tt;
+      option-type = tt;
+      list-type = tt;
+      type-name = tt;
+      array-type = tt;
+      pattern-name = tt;
+      literal = tt;
+      parens = tt;
+      simple-call = tt;
+      cast-call = tt;
+      named = tt;
+      bare = tt;
+      typed = tt;
+      for-while = tt;
+      folding = tt;
+      arm = tt;
+      type-item = tt;
+    }

@@ -53,7 +53,8 @@ mul-result c =
 add-result-2 : tie.Need-add-result-2
 add-result-2 c =
     let x : c .before .before .before .before .before .before .wide .result < 256 = omega (arith, c .before .before .before .before .before .before .wide .ensures, c .before .before .before .before .before .before .before .shared-slice-known2 .given 1) in
-    omega (arith, small (c .before .before .before .before .before .before .before .before .before .args .second) (c .before .before .before .before .before .before .wide .result) (c .before .before .before .before .before .before .before .before .before .pre .2) x, c .wide4 .ensures, c .before .shared-slice-known5 .given 0)
+    let u = small (c .before .before .before .before .before .before .before .before .before .args .second) (c .before .before .before .before .before .before .wide .result) (c .before .before .before .before .before .before .before .before .before .pre .2) x in
+    omega (arith, u, c .wide4 .ensures, c .before .shared-slice-known5 .given 0)
 
 mul-result-2 : tie.Need-mul-result-2
 mul-result-2 c =
@@ -64,7 +65,9 @@ add-result-3 : tie.Need-add-result-3
 add-result-3 c =
     let x : c .before .before .before .before .before .before .wide .result < 256 = omega (arith, c .before .before .before .before .before .before .wide .ensures, c .before .before .before .before .before .before .before .shared-slice-known2 .given 1) in
     let y : c .before .before .before .before .wide2 .result < 256 = omega (arith, c .before .before .before .before .wide2 .ensures, c .before .before .before .before .before .shared-slice-known3 .given (length (now (c .before .before .before .before .before .before .before .before .before .args .p)) - 2)) in
-    omega (arith, small (c .before .before .before .before .before .before .before .before .before .args .second) (c .before .before .before .before .before .before .wide .result) (c .before .before .before .before .before .before .before .before .before .pre .2) x, small (c .before .before .before .before .before .before .before .before .before .args .before) (c .before .before .before .before .wide2 .result) (c .before .before .before .before .before .before .before .before .before .pre .3) y, c .wide4 .ensures, c .before .shared-slice-known5 .given 0)
+    let u = small (c .before .before .before .before .before .before .before .before .before .args .second) (c .before .before .before .before .before .before .wide .result) (c .before .before .before .before .before .before .before .before .before .pre .2) x in
+    let v = small (c .before .before .before .before .before .before .before .before .before .args .before) (c .before .before .before .before .wide2 .result) (c .before .before .before .before .before .before .before .before .before .pre .3) y in
+    omega (arith, u, v, c .wide4 .ensures, c .before .shared-slice-known5 .given 0)
 
 mul-result-3 : tie.Need-mul-result-3
 mul-result-3 c =
@@ -76,7 +79,10 @@ add-result-4 c =
     let x : c .before .before .before .before .before .before .wide .result < 256 = omega (arith, c .before .before .before .before .before .before .wide .ensures, c .before .before .before .before .before .before .before .shared-slice-known2 .given 1) in
     let y : c .before .before .before .before .wide2 .result < 256 = omega (arith, c .before .before .before .before .wide2 .ensures, c .before .before .before .before .before .shared-slice-known3 .given (length (now (c .before .before .before .before .before .before .before .before .before .args .p)) - 2)) in
     let z : c .before .before .wide3 .result < 256 = omega (arith, c .before .before .wide3 .ensures, c .before .before .before .shared-slice-known4 .given (length (now (c .before .before .before .before .before .before .before .before .before .args .p)) - 1)) in
-    omega (arith, small (c .before .before .before .before .before .before .before .before .before .args .second) (c .before .before .before .before .before .before .wide .result) (c .before .before .before .before .before .before .before .before .before .pre .2) x, small (c .before .before .before .before .before .before .before .before .before .args .before) (c .before .before .before .before .wide2 .result) (c .before .before .before .before .before .before .before .before .before .pre .3) y, small (c .before .before .before .before .before .before .before .before .before .args .last) (c .before .before .wide3 .result) (c .before .before .before .before .before .before .before .before .before .pre .4) z, c .wide4 .ensures, c .before .shared-slice-known5 .given 0)
+    let u = small (c .before .before .before .before .before .before .before .before .before .args .second) (c .before .before .before .before .before .before .wide .result) (c .before .before .before .before .before .before .before .before .before .pre .2) x in
+    let v = small (c .before .before .before .before .before .before .before .before .before .args .before) (c .before .before .before .before .wide2 .result) (c .before .before .before .before .before .before .before .before .before .pre .3) y in
+    let w = small (c .before .before .before .before .before .before .before .before .before .args .last) (c .before .before .wide3 .result) (c .before .before .before .before .before .before .before .before .before .pre .4) z in
+    omega (arith, u, v, w, c .wide4 .ensures, c .before .shared-slice-known5 .given 0)
 
 returns : tie.Need-returns
 unfolding slotOf
