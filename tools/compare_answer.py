@@ -1,6 +1,6 @@
 #!/usr/bin/env python3
 """Compares the definition of the answer (crates/grammar) with the partner (rust/partner) on random drafts, on array lengths around the largest 64-bit
-number and on small files, every byte of the listing.
+number and on small files, each read as a file and as one function, every byte of the listing.
 
 antt computes the definition: the drafts with the partner's listings become one more file of specs/ in a copy of the repository, and the
 check there refuses it if one of them differs.
@@ -13,6 +13,9 @@ import collections, pathlib, shutil, subprocess, sys, tempfile
 root = pathlib.Path(__file__).resolve().parent.parent
 PROVED = ("rlib", "stamp")  # where rt keeps what it has proved
 LARGEST = 2 ** 64 - 1
+# Words and bytes enough for every draft: 2,048 tokens, and a record and a line more.
+LINES, LINE = 2049, 36
+TOKEN_SPACE, TREE_SPACE = 3 * 2048, 6 * LINES
 # Lengths that 64 bits hold, then those that they do not.
 LENGTHS = [0, "0_0", 2 ** 32, LARGEST - 1, LARGEST, f"00{LARGEST}", f"{LARGEST:_}_"]
 TOO_LARGE = [LARGEST + 1, LARGEST + 4, LARGEST + 5, 10 ** 20 - 1, 10 ** 20, f"00{LARGEST + 1}", f"{LARGEST + 1:_}_", 60 * "9"]
@@ -50,19 +53,43 @@ def numbers(bytes_):
     return " ∷ ".join([*map(str, bytes_), "[]"])
 
 
-def row(draft, listing):
-    if listing.startswith(b"00 "):
-        result = f"refusedWith {int(listing[13:21], 16)} {int(listing[3:7], 16)}"
-    else:
-        result = f"lists {len(listing)} ({numbers(listing)})"
-    return f"roomy ({numbers(draft)}) ({result})"
+def answers(drafts, partner):
+    """What the partner says of each draft, with words enough: its answers as one function and as a file, and its listing as a file."""
+    stream = b"".join(b"%d %d %d %d\n%s\n" % (TOKEN_SPACE, TREE_SPACE, LINE * LINES, len(d), d) for d in drafts)
+    out = subprocess.run([partner, "--cases"], input=stream, capture_output=True, check=True).stdout
+    found, i = [], 0
+    for _ in drafts:
+        lines = []
+        for name in (b"function", b"file", b"listed"):
+            j = out.index(b"\n", i)
+            words, i = out[i:j].split(), j + 1
+            if words[0] != name:
+                sys.exit(f"the partner's answer has {words[0].decode()} where {name.decode()} should stand")
+            lines.append(words[1:])
+        used = int(lines[2][0])
+        found.append((lines[0], lines[1], out[i:i + used]))
+        i += used
+    return found
 
 
-def spec(rows):
+def result(answer, listing):
+    if answer[0] == b"refused":
+        return f"refusedWith {int(answer[1])} {int(answer[2])}"
+    return f"lists {len(listing)} ({numbers(listing)})"
+
+
+def rows(draft, function, file, listing):
+    """The draft as a file, and as one function. The lines of a function are those of its file behind the first, where the words are the same."""
+    if function[0] == b"accepted" and file[-1] != b"same":
+        sys.exit(f"the partner's two trees differ: {draft!r}")
+    return [f"roomyFile ({numbers(draft)}) ({result(file, listing)})", f"roomy ({numbers(draft)}) ({result(function, listing[LINE:])})"]
+
+
+def spec(all_rows):
     text = "-- Drafts with the partner's answers.\n-- Assumes nothing.\nuse mathlib.Core.List.{List, [], _∷_, map}\nuse mathlib.Core.Path.{_≡_, refl}\n"
-    text += "use Rattle.grammar.specs.cases.Cases.{refusedWith, lists, Case, defined, roomy}\n"
-    for k in range(0, len(rows), 20):
-        text += f"\nunfoldable cases{k} : List Case\ncases{k} =\n    " + " ∷\n    ".join(rows[k:k + 20]) + " ∷ []\n"
+    text += "use Rattle.grammar.specs.cases.Cases.{refusedWith, lists, Case, defined, roomy, roomyFile}\n"
+    for k in range(0, len(all_rows), 20):
+        text += f"\nunfoldable cases{k} : List Case\ncases{k} =\n    " + " ∷\n    ".join(all_rows[k:k + 20]) + " ∷ []\n"
         text += f"\nagree{k} : map defined cases{k} ≡ map (λ (c : Case). c .result) cases{k}\nunfolding cases{k} defined\nagree{k} = refl\n"
     return text
 
@@ -75,8 +102,7 @@ def main():
         for kind in ("shaped", "damaged", "tokens", "files", "damaged-files"):
             stream = subprocess.run([sys.executable, root / "rust/partner/drafts.py", seed, str(20 * count), kind], capture_output=True, check=True).stdout
             drafts += list(dict.fromkeys(d for d in cases(stream) if len(d) <= length))[:count]
-        stream = b"".join(b"%d\n%s" % (len(d), d) for d in drafts)
-        listings = cases(subprocess.run([partner, "--many"], input=stream, capture_output=True, check=True).stdout)
+        said = answers(drafts, partner)
         copy = work / "copy"
         copy.mkdir()
         shutil.copy(root / "crates.txt", copy)
@@ -85,12 +111,13 @@ def main():
             if (root / "target" / proved).exists():
                 shutil.copytree(root / "target" / proved, copy / "target" / proved)
         specs = copy / "crates/grammar/specs"
-        (specs / "Partner.antt").write_text(spec([row(*c) for c in zip(drafts, listings)]))
+        (specs / "Partner.antt").write_text(spec([r for d, a in zip(drafts, said) for r in rows(d, *a)]))
         with (specs / "Lib.antt").open("a") as lib:
             lib.write("pub mod Partner\n")
         done = subprocess.run(["rt", "dev", "grammar"], cwd=copy, capture_output=True, text=True)
-    tally = collections.Counter("accepted" if not l.startswith(b"00 ") else str(int(l[13:21], 16)) for l in listings)
-    print(f"{len(drafts)} drafts by the partner's answer:", ", ".join(f"{k} {v}" for k, v in sorted(tally.items())))
+    for entry, name in enumerate(("function", "file")):
+        tally = collections.Counter("accepted" if a[entry][0] == b"accepted" else a[entry][1].decode() for a in said)
+        print(f"{len(drafts)} drafts as a {name}, by the partner's answer:", ", ".join(f"{k} {v}" for k, v in sorted(tally.items())))
     if done.returncode:
         print(*[l[:300] for l in (done.stdout + done.stderr).splitlines() if "error" in l][:5], sep="\n")
         sys.exit("the definition differs")

@@ -98,8 +98,11 @@ abbrev pub roomy : List ℕ → Result → Case
 roomy draft r = record { entry = oneFunction; limits = draftLimits; tokenSpace = tokWide * draftTokens; treeSpace = recWide * draftTokens; draft = draft; result = r }
 
 -- A file, with room for one record more.
+abbrev pub roomyFile : List ℕ → Result → Case
+roomyFile draft r = record { entry = wholeFile; limits = draftLimits; tokenSpace = tokWide * draftTokens; treeSpace = recWide * suc draftTokens; draft = draft; result = r }
+
 abbrev pub asFile : String → Result → Case
-asFile s r = record { entry = wholeFile; limits = draftLimits; tokenSpace = tokWide * draftTokens; treeSpace = recWide * suc draftTokens; draft = ascii s; result = r }
+asFile s r = roomyFile (ascii s) r
 
 -- A whole draft.
 abbrev pub whole : String → Result → Case
