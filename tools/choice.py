@@ -20,10 +20,12 @@ A_LINE = 16  # entries of a table on one line
 
 
 class Choice:
-    """One table: its name in the code and in the proofs, what it is about, and its alternatives from 1 on by name."""
+    """One table: its name in the code and in the proofs, what it is about, its alternatives from 1 on by name, and its entries up to the names of types."""
 
-    def __init__(self, code, proof, what, alternatives, entries):
-        self.code, self.proof, self.what, self.alternatives, self.entries = code, proof, what, alternatives, entries
+    def __init__(self, code, proof, what, alternatives, entries, type_names):
+        self.code, self.proof, self.what, self.alternatives, self.entries = code, proof, what, alternatives, entries[:type_names]
+        if len(set(entries[type_names:])) != 1:
+            raise SystemExit(f"{code}: the names of types lead to several alternatives")
 
 
 def choices():
@@ -47,14 +49,15 @@ def choices():
 
     if len(table.rules[number("head")]) != len(HEADS):
         raise SystemExit(f"an arm's head has {len(table.rules[number('head')])} alternatives: name each in HEADS")
-    return [
-        Choice("TYPES", "type", "A type", shapes_of("type"), [choose("type", c) for c in classes]),
-        Choice("PATTERNS", "pattern", "A pattern", shapes_of("pattern"), [choose("pattern", c) for c in classes]),
-        Choice("SINGLES", "single", "An expression that is no block", shapes_of("single"), [choose("single", c) for c in classes]),
-        Choice("NAMES", "name", "A name", ["ReservedName", "FunctionName"], [sort(c) for c in classes]),
-        Choice("ALIASES", "alias", "A type item's name", [], [choose("aliasName", c) for c in classes]),
-        Choice("HEADS", "head", "An arm's head, where an arm begins", HEADS, [choose("arm", c) and choose("head", c) for c in classes]),
+    names = [
+        ("TYPES", "type", "A type", shapes_of("type"), [choose("type", c) for c in classes]),
+        ("PATTERNS", "pattern", "A pattern", shapes_of("pattern"), [choose("pattern", c) for c in classes]),
+        ("SINGLES", "single", "An expression that is no block", shapes_of("single"), [choose("single", c) for c in classes]),
+        ("NAMES", "name", "A name", ["ReservedName", "FunctionName"], [sort(c) for c in classes]),
+        ("ALIASES", "alias", "A type item's name", [], [choose("aliasName", c) for c in classes]),
+        ("HEADS", "head", "An arm's head, where an arm begins", HEADS, [choose("arm", c) and choose("head", c) for c in classes]),
     ]
+    return len(classes), [Choice(*t, grammar.value("t.bool")) for t in names]
 
 
 def upper(name):
@@ -69,10 +72,11 @@ def byte(n):
     return f"\\x{n:02x}" if n else "\\0"
 
 
-def code(all_choices):
+def code(classes, all_choices):
     """The constants of choice.rt."""
     n = len(all_choices[0].entries)
-    out = f"// The classes are the numbers below this one.\nconst CLASSES: u32 = {n};\n\n"
+    out = f"// The classes are the numbers below this one.\nconst CLASSES: u32 = {classes};\n\n"
+    out += f"// Those from this one on are the names of types, which all lead to the same alternative; a table has an entry for each of the others.\nconst TYPE_NAMES: u32 = {n};\n\n"
     out += "// At a class that begins none of the alternatives.\npub(crate) const ABSENT: u32 = 0;\n\n"
     for t in all_choices:
         out += f"// {t.what}.\n"
@@ -107,9 +111,9 @@ def between_marks(text, new):
 
 
 def main():
-    all_choices = choices()
+    classes, all_choices = choices()
     rt = os.path.join(ROOT, "src", "choice.rt")
-    files = {rt: between_marks(open(rt).read(), code(all_choices)), os.path.join(ROOT, "specs", "Choice.antt"): names(all_choices),
+    files = {rt: between_marks(open(rt).read(), code(classes, all_choices)), os.path.join(ROOT, "specs", "Choice.antt"): names(all_choices),
              os.path.join(ROOT, "proofs", "choice", "Tables.antt"): lists(all_choices)}
     tables.keep(files, "tools/choice.py")
 

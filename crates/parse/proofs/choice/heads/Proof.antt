@@ -3,7 +3,7 @@
 use native.Mathlib.Omega.{arith}
 use borrow.Author.Needs.{needs}
 use Rattle.parse.proofs.choice.Tables.{head-choices}
-use Rattle.parse.proofs.choice.Checks.{head-small, head-at, head-past}
+use Rattle.parse.proofs.choice.Checks.{head-small, head-at, head-named, head-past}
 use Rattle.parse.proofs.choice.heads.Statement.{statement}
 use Rattle.parse.proofs.choice.heads.Tie as tie
 
@@ -19,7 +19,10 @@ unfolding head-choices
 returns c = head-at _ (c .if1 .taken)
 
 returns-2 : tie.Need-returns-2
-returns-2 c = head-past _ (c .if1 .left)
+returns-2 c = head-named _ (c .before .if1 .left) (c .if2 .taken)
+
+returns-3 : tie.Need-returns-3
+returns-3 c = head-past _ (c .if2 .left)
 
 pub heads-spec : {M : Type 1} → statement M
-heads-spec = tie.close (tie.spec array-read-result cast-result returns returns-2)
+heads-spec = tie.close (tie.spec array-read-result cast-result returns returns-2 returns-3)
