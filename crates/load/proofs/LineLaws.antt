@@ -40,14 +40,15 @@ module _ {text : List ℕ} {at n v i : ℕ} (x : Valued text at n v i) where
   pub valued-small : n ≤ halfDigits → i < n → v < power 7
   valued-small h k = omega (arith, number-below i (drop at text), power-le i 7 (omega arith), x .is)
 
-  pub valued-more : {d : ℕ} → d ≡ digitOf (getD text (at + i) 0) → i < n → Valued text at n (v * 16 + d % 16) (i + 1)
+  -- s is the number with room for a digit behind it
+  pub valued-more : {s d : ℕ} → s ≡ v * 16 → d ≡ digitOf (getD text (at + i) 0) → i < n → Valued text at n (s + d % 16) (i + 1)
   unfolding numberOf
-  valued-more {d} e h =
-      let s : suc i ≡ i + 1 = omega arith in
+  valued-more {s} {d} q e h =
+      let j : suc i ≡ i + 1 = omega arith in
       let g = e ∙ ap digitOf (sym (getD-drop at text i 0)) in
       record {
         within = omega arith;
-        is = omega (arith, x .is, g) ∙ ap (λ (k : ℕ). numberOf k (drop at text)) s;
+        is = omega (arith, x .is, g) ∙ ap (λ (k : ℕ). numberOf k (drop at text)) j;
       }
 
   pub valued-end : n ≤ i → v ≡ numberOf n (drop at text)

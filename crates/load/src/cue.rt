@@ -43,14 +43,14 @@ const SIZE: usize = 20;
 // How many there are.
 pub(crate) const CUES: usize = 21;
 
-// How many numbers a half of 32 bits may be.
-const HALF_RANGE: u64 = 1 << 32;
+// How many bits a half of a number has.
+const HALF_BITS: u64 = 32;
 
 // The 64-bit number that low and high hold together.
 pub(crate) fn number(low: u32, high: u32) -> u64
     ensures { λ r. ⌜ r ≡ number low high ⌝ }
 {
-    low as u64 + HALF_RANGE * (high as u64)
+    low as u64 + ((high as u64) << HALF_BITS)
 }
 
 // The cue of a built-in arm.

@@ -11,7 +11,10 @@ use crate::digits::BYTE_VALUES;
 use crate::digits::DIGITS;
 
 // The base of the digits, and what stands in the table for a byte that is none.
-const BASE: u32 = 16;
+const BASE: u32 = 1 << DIGIT_BITS;
+
+// How many bits a digit has.
+const DIGIT_BITS: u32 = 4;
 
 // The table by value. A constant is laid out anew wherever it is read, so a caller holds it once and lends it to every function.
 pub(crate) fn digit_table() -> [u8; BYTE_VALUES]
@@ -38,7 +41,7 @@ pub(crate) fn number(digits: &[u8; BYTE_VALUES], text: &[u8], at: usize, n: usiz
     let mut v = 0;
     let mut i = 0;
     while i < n {
-        v = v * BASE + digit(digits, text[at + i]) % BASE;
+        v = (v << DIGIT_BITS) + digit(digits, text[at + i]) % BASE;
         i += 1;
     }
     v

@@ -26,15 +26,22 @@ fn digit(b: u8) -> u8
     if b < b'0' { 0 } else { b - b'0' }
 }
 
-// One more digit after those of v.
+// The largest number of which ten times is one of 64 bits.
+const MOST_TENFOLD: u64 = u64::MAX / 10;
+
+// One more digit after those of v. Ten times v is eight and two times v: shifts and sums, on a core whose multiply is slow.
 fn push_digit(v: u64, d: u8) -> Value
     ensures { λ r. ⌜ r ≡ fitted (v * 10 + d) ⌝ }
 {
-    let d = d as u64;
-    if v > (u64::MAX - d) / 10 {
+    if v > MOST_TENFOLD {
         return Value::TooLarge;
     }
-    Value::Number(v * 10 + d)
+    let tenfold = (v << 3) + (v << 1);
+    let d = d as u64;
+    if d > u64::MAX - tenfold {
+        return Value::TooLarge;
+    }
+    Value::Number(tenfold + d)
 }
 
 // The number of a run; a run is left at the digit that makes it too large.

@@ -7,9 +7,6 @@ use Rattle.load.proofs.cue.number.Tie as tie
 use Rattle.load.proofs.cue.number.Reads as reads
 use Rattle.load.proofs.cue.number.Lts as lts
 
-mul-result : tie.Need-mul-result
-mul-result c = search needs
-
 add-result : tie.Need-add-result
 add-result c = search needs
 
@@ -18,4 +15,4 @@ unfolding shape.number
 returns c = search needs
 
 pub number-spec : {M : Type 1} → statement M
-number-spec = tie.close (tie.spec mul-result add-result returns)
+number-spec = tie.close (tie.spec add-result returns)

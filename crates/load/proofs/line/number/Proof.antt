@@ -16,9 +16,6 @@ abbrev μ-loop : tie.MeasureT-loop
 loop-holds : tie.Need-loop-holds Inv-loop μ-loop
 loop-holds c = valued-start _ _ _
 
-mul-v : tie.Need-mul-v Inv-loop μ-loop
-mul-v c = omega (arith, valued-small (c .before .loop .inv) (c .before .before .before .pre .1 .0) (c .loop-test .taken))
-
 add-digit : tie.Need-add-digit Inv-loop μ-loop
 add-digit c = search needs
 
@@ -38,7 +35,10 @@ loop-less : tie.Need-loop-less Inv-loop μ-loop
 loop-less c = search needs
 
 loop-again : tie.Need-loop-again Inv-loop μ-loop
-loop-again c = valued-more (c .before .before .before .loop .inv) (c .digit .ensures) (c .before .before .loop-test .taken)
+loop-again c =
+    let a = c .before .before .before .loop .inv in
+    let l = c .before .before .loop-test .taken in
+    valued-more a (omega (arith, valued-small a (c .before .before .before .before .before .pre .1 .0) l)) (c .digit .ensures) l
 
 returns : tie.Need-returns Inv-loop μ-loop
 returns c = valued-end (c .before .loop .inv) (c .loop-test .left)
@@ -50,7 +50,6 @@ number-spec =
     Inv-loop
     μ-loop
     loop-holds
-    mul-v
     add-digit
     shared-slice-read-digit
     digit-requires
