@@ -1,5 +1,6 @@
 pub mod Runs
 pub mod Reading
+pub mod Room
 pub mod Fill
 pub mod Base
 pub mod Ones

@@ -26,22 +26,25 @@ fn digit(b: u8) -> u8
     if b < b'0' { 0 } else { b - b'0' }
 }
 
-// The largest number of which ten times is one of 64 bits.
-const MOST_TENFOLD: u64 = u64::MAX / 10;
-
-// One more digit after those of v. Ten times v is eight and two times v: shifts and sums, on a core whose multiply is slow.
+// One more digit after those of v, with shifts, sums and differences only: eight times v, twice v and the digit are taken, one after the other, from the
+// room that 64 bits have. The compiler keeps this; of shifts that are only summed it makes a multiply.
 fn push_digit(v: u64, d: u8) -> Value
     ensures { λ r. ⌜ r ≡ fitted (v * 10 + d) ⌝ }
 {
-    if v > MOST_TENFOLD {
+    if v > u64::MAX / 8 {
         return Value::TooLarge;
     }
-    let tenfold = (v << 3) + (v << 1);
+    let room = u64::MAX - (v << 3);
+    let twofold = v << 1;
+    if twofold > room {
+        return Value::TooLarge;
+    }
+    let room = room - twofold;
     let d = d as u64;
-    if d > u64::MAX - tenfold {
+    if d > room {
         return Value::TooLarge;
     }
-    Value::Number(tenfold + d)
+    Value::Number(u64::MAX - (room - d))
 }
 
 // The number of a run; a run is left at the digit that makes it too large.
