@@ -1,19 +1,33 @@
 #!/usr/bin/env bash
 # All tests: generated files are what their scripts write, the layout, the grammar's table beside Earley's method, then `rt ci` (every crate proved, every
-# must-fail edit refused, every program run), then what stands on that: the definition of the answer beside the partner, the entry for C from C and from
-# Rust, the drafts and listings of docs/REFUSALS.md, the comparison of the library with the partner.
+# must-fail edit refused, every program run), then what stands on that: the machine code of the digit reader, the definition of the answer beside the
+# partner, the entry for C from C and from Rust, the drafts and listings of docs/REFUSALS.md, the comparison of the library with the partner.
 # The last line, 'N passed, 0 failed', is printed only where everything passed.
 set -euo pipefail
 cd "$(dirname "$0")/.."
 passed=0
 work=$(mktemp -d)
-trap 'rm -rf "$work"' EXIT
+beside=
+trap '[ -z "$beside" ] || kill "$beside" || true; rm -rf "$work"' EXIT
 log=$work/log
 
 run() {
     echo "test: $*"
     "$@" || { echo "test: failed: $*"; exit 1; }
     passed=$((passed + 1))
+}
+# Starts a command that takes one core, beside those that follow; `run finish` waits for it and shows what it wrote.
+start() {
+    echo "test: started: $*"
+    "$@" > "$work/beside" 2>&1 &
+    beside=$!
+}
+finish() {
+    local status=0
+    wait "$beside" || status=$?
+    beside=
+    cat "$work/beside"
+    return "$status"
 }
 
 for script in tools/words.py tools/words_cases.py tools/bytes.py tools/lexer_cases.py tools/grammar.py tools/choice.py tools/cycle.py tools/digits.py \
@@ -28,15 +42,20 @@ run "$work/rust/release/partner" --self-test
 run python3 tools/reader_cases.py --check --partner "$work/rust/release/partner"
 run python3 tools/load_cases.py --check --partner "$work/rust/release/partner"
 
-# The last line of rt ci is held back, and printed below with what passed here added.
+# The last line of rt ci is held back, and printed below with what passed here added. More edits at once than cores, since a row of them ends with its
+# slowest.
+export RT_JOBS=${RT_JOBS:-4}
 echo "test: rt ci"
 rt ci 2>&1 | tee "$log" | grep -vE '^[0-9]+ passed, [0-9]+ failed$' || { tail -n 1 "$log"; exit 1; }
 last=$(tail -n 1 "$log")
 [[ $last =~ ^([0-9]+)\ passed,\ 0\ failed$ ]] || { echo "test: failed: rt ci: $last"; exit 1; }
 passed=$((passed + BASH_REMATCH[1]))
 
-run python3 tools/compare_answer.py "$work/rust/release/partner" 1 150 200
+start python3 tools/compare_answer.py "$work/rust/release/partner" 1 150 200
+run rt staticlib num_speed
+run python3 tools/multiply.py target/staticlib/libnum_speed.a num_speed_number num_speed_digits
 run rt staticlib reader
 run bash tools/bindings.sh
 run bash tools/compare.sh
+run finish
 echo "$passed passed, 0 failed"
