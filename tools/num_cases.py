@@ -42,6 +42,9 @@ for n in [LARGEST - 1, LARGEST, LARGEST + 1, LARGEST + 4, LARGEST + 5]:
     number(str(n), str(n))
 for run in ["00018_446_744_073_709_551_615_", "00018_446_744_073_709_551_616_", "9" * 20, str(10**20)]:
     number(run, run)
+# One digit more where eight, ten or two times the digits before it come near the largest number, or pass it.
+for n in [10 * 2**60, 18 * 10**18, LARGEST - 6, LARGEST - 5, 20 * 10**18, 10 * 2**61 - 1, 10 * 2**61, 10 * 2**63]:
+    number(str(n), str(n))
 
 number("9000 zeros", "0" * 9000)
 number("8998 zeros, then 42", "0" * 8998 + "42")

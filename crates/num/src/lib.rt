@@ -31,7 +31,7 @@ fn digit(b: u8) -> u8
 fn push_digit(v: u64, d: u8) -> Value
     ensures { λ r. ⌜ r ≡ fitted (v * 10 + d) ⌝ }
 {
-    if v > u64::MAX / 8 {
+    if v > u64::MAX >> 3 {
         return Value::TooLarge;
     }
     let room = u64::MAX - (v << 3);
