@@ -2,9 +2,9 @@
 """No function of a library has a multiply or a divide in its machine code (document 02, order 4).
 
     tools/multiply.py ARCHIVE FUNCTION..    the FUNCTIONs must be in it, and nothing in it may multiply or divide, or call what could
-    tools/multiply.py --list ARCHIVE        every multiply and divide of the archive, under its function
+    tools/multiply.py --list ARCHIVE        every multiply and divide of the archive, after its function
 
-Before it says that there is none it must find those of two functions in C that have one. Needs objdump, nm and gcc.
+First it must find those of two functions in C. Needs objdump, nm and gcc.
 """
 import re
 import subprocess
@@ -12,9 +12,9 @@ import sys
 import tempfile
 
 # Whole numbers, floats and vectors; also what multiplies and adds at once.
-MULTIPLIES = re.compile(r"(v?p|v|f|i)?(mul|div)|v?pmadd|v?fn?m(add|sub)")
-# What the C library may be called for: clearing and moving bytes.
-CALLED = {"memset", "memcpy", "memmove"}
+MULTIPLIES = re.compile(r"mul|div|m(add|sub)|dpp|dpb|dpw")
+# What may be called outside: clearing bytes.
+CALLED = {"memset"}
 KNOWN = "unsigned long product(unsigned long a, unsigned long b) { return a * b; }\nunsigned long tenth(unsigned long a) { return a / 10; }\n"
 
 
@@ -28,23 +28,25 @@ def instructions(path):
     for line in output("objdump", "-d", "--no-show-raw-insn", path).splitlines():
         if start := re.fullmatch(r"[0-9a-f]+ <(.+)>:", line):
             name = start[1]
-            functions[name] = []
+            functions.setdefault(name, [])
         elif instruction := re.match(r"\s*[0-9a-f]+:\t(.+)", line):
             functions[name].append(instruction[1])
     return functions
 
 
 def found(functions):
-    return [(name, i) for name, body in functions.items() for i in body if MULTIPLIES.match(i.removeprefix("lock ").removeprefix("rep "))]
+    """The instructions that multiply or divide; the names of what is called are no part of one."""
+    return [(name, i) for name, body in functions.items() for i in body if MULTIPLIES.search(re.sub(r"<.*>", "", i))]
 
 
 def outside(path):
-    """What is called that the archive does not have."""
-    return {line.split()[-1] for line in output("nm", "-u", path).splitlines() if re.match(r"\s+[Uw] ", line)}
+    """What is called that the object or archive does not have."""
+    symbols = [line.split()[-2:] for line in output("nm", path).splitlines() if re.match(r"[0-9a-f ]{16} \w ", line)]
+    return {name for kind, name in symbols if kind in "Uw"} - {name for kind, name in symbols if kind not in "Uw"}
 
 
 def sees():
-    """The two functions in C, whose multiplies are found."""
+    """Whether the multiplies of the two functions in C are found."""
     with tempfile.TemporaryDirectory() as work:
         with open(f"{work}/known.c", "w") as file:
             file.write(KNOWN)
@@ -60,12 +62,11 @@ def main(words):
     if len(words) < 2:
         sys.exit(__doc__)
     archive, names = words[0], words[1:]
+    wrong = [] if sees() else ["the multiplies of two functions in C were not found"]
     functions = instructions(archive)
-    wrong = [f"{name}: {instruction}" for name, instruction in found(functions)]
+    wrong += [f"{name}: {instruction}" for name, instruction in found(functions)]
     wrong += [f"no function {name}" for name in names if not functions.get(name)]
     wrong += [f"calls {name}" for name in sorted(outside(archive) - CALLED)]
-    if not sees():
-        wrong.append("the multiplies of two functions in C were not found")
     for line in wrong:
         print(f"multiply: failed: {archive}: {line}")
     if not wrong:

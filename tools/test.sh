@@ -8,7 +8,7 @@ cd "$(dirname "$0")/.."
 passed=0
 work=$(mktemp -d)
 beside=
-trap '[ -z "$beside" ] || kill "$beside" || true; rm -rf "$work"' EXIT
+trap '[ -z "$beside" ] || kill -- "-$beside" 2> /dev/null || kill "$beside" || true; rm -rf "$work"' EXIT
 log=$work/log
 
 run() {
@@ -16,10 +16,11 @@ run() {
     "$@" || { echo "test: failed: $*"; exit 1; }
     passed=$((passed + 1))
 }
-# Starts a command that takes one core, beside those that follow; `run finish` waits for it and shows what it wrote.
+# Starts a command that takes one core, beside those that follow; `run finish NAME` waits for it and shows what it wrote. It has a process group of its
+# own, so that nothing of it is left where a test fails.
 start() {
     echo "test: started: $*"
-    "$@" > "$work/beside" 2>&1 &
+    TMPDIR=$work setsid "$@" > "$work/beside" 2>&1 &
     beside=$!
 }
 finish() {
@@ -57,5 +58,5 @@ run python3 tools/multiply.py target/staticlib/libnum_speed.a num_speed_number n
 run rt staticlib reader
 run bash tools/bindings.sh
 run bash tools/compare.sh
-run finish
+run finish tools/compare_answer.py
 echo "$passed passed, 0 failed"

@@ -15,10 +15,16 @@ count() {  # instructions of one run: which, places, times
     valgrind --tool=callgrind --callgrind-out-file=/dev/null "$work/digits" "$@" 2>&1 > /dev/null | sed -n 's/.*Collected : //p'
 }
 reading() {  # instructions of one reading: which, places
-    echo $((($(count "$1" "$2" 1100) - $(count "$1" "$2" 100)) / 1000))
+    local few many
+    few=$(count "$1" "$2" 100)
+    many=$(count "$1" "$2" 1100)
+    echo $(((many - few) / 1000))
 }
 printf '%-7s %12s %12s\n' places 'here, instr' 'Rust, instr'
 for places in $(seq 1 20); do
-    cmp <("$work/digits" here "$places" 1) <("$work/digits" rust "$places" 1)
-    printf '%-7d %12d %12d\n' "$places" "$(reading here "$places")" "$(reading rust "$places")"
+    said=$("$work/digits" here "$places" 1)
+    [ "$said" = "$("$work/digits" rust "$places" 1)" ]
+    here=$(reading here "$places")
+    rust=$(reading rust "$places")
+    printf '%-7d %12d %12d\n' "$places" "$here" "$rust"
 done

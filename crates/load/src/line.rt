@@ -10,11 +10,11 @@ ghost use Rattle.load.specs.listing.DigitLaws.{DigitTable, Short};
 use crate::digits::BYTE_VALUES;
 use crate::digits::DIGITS;
 
-// The base of the digits, and what stands in the table for a byte that is none.
-const BASE: u32 = 1 << DIGIT_BITS;
-
 // How many bits a digit has.
 const DIGIT_BITS: u32 = 4;
+
+// The base of the digits, and what stands in the table for a byte that is none.
+const BASE: u32 = 1 << DIGIT_BITS;
 
 // The table by value. A constant is laid out anew wherever it is read, so a caller holds it once and lends it to every function.
 pub(crate) fn digit_table() -> [u8; BYTE_VALUES]

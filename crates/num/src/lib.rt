@@ -26,8 +26,8 @@ fn digit(b: u8) -> u8
     if b < b'0' { 0 } else { b - b'0' }
 }
 
-// One more digit after those of v, with shifts, sums and differences only: eight times v, twice v and the digit are taken, one after the other, from the
-// room that 64 bits have. The compiler keeps this; of shifts that are only summed it makes a multiply.
+// One more digit after those of v, by shifts and differences: eight times v, twice v and the digit are taken, one after the other, from the room that 64
+// bits have. The plain sum of the shifts the optimiser turns into a multiply.
 fn push_digit(v: u64, d: u8) -> Value
     ensures { λ r. ⌜ r ≡ fitted (v * 10 + d) ⌝ }
 {

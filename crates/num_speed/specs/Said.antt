@@ -14,13 +14,13 @@ unfoldable pub flag : Bool → ℕ
 flag b = cond b 1 0
 
 -- The number, or 0 where it is too large.
-unfoldable pub held : Value → ℕ
-held (Number n) = n
-held TooLarge = 0
+unfoldable pub numberOrZero : Value → ℕ
+numberOrZero (Number n) = n
+numberOrZero TooLarge = 0
 
 -- Four words: the number, and whether it is a good length, a good size and a good bound.
 unfoldable pub saidOf : Value → List ℕ
-saidOf v = held v ∷ flag (lengthOk v) ∷ flag (sizeOk v) ∷ flag (boundOk v) ∷ []
+saidOf v = numberOrZero v ∷ flag (lengthOk v) ∷ flag (sizeOk v) ∷ flag (boundOk v) ∷ []
 
 -- How many digits were written; 0 where there was no room.
 unfoldable pub countOf : DigitText → ℕ

@@ -18,8 +18,8 @@ fn flag(b: bool) -> u64
 }
 
 // The number; 0 if it is too large.
-fn held(v: Value) -> u64
-    ensures { λ r. ⌜ r ≡ spec.held v ⌝ }
+fn number_or_zero(v: Value) -> u64
+    ensures { λ r. ⌜ r ≡ spec.numberOrZero v ⌝ }
 {
     match v {
         Value::Number(n) => n,
@@ -34,7 +34,7 @@ pub extern "C" fn num_speed_number(draft: &[u8], start: usize, end: usize, said:
 {
     let v = num::number(draft, start, end);
     *said = [
-        held(v),
+        number_or_zero(v),
         flag(num::is_length(v)),
         flag(num::is_size(v)),
         flag(num::is_bound(v)),

@@ -9,8 +9,8 @@ use Rattle.num_speed.proofs.num_speed_number.Tie as tie
 number-requires : tie.Need-number-requires
 number-requires c κs = search needs
 
-held-requires : tie.Need-held-requires
-held-requires c κs = search needs
+number-or-zero-requires : tie.Need-number-or-zero-requires
+number-or-zero-requires c κs = search needs
 
 is-length-requires : tie.Need-is-length-requires
 is-length-requires c κs = search needs
@@ -38,7 +38,7 @@ returns c =
     let length = size .before .before in
     let v = length .before .before in
     rw (
-      v .held .ensures,
+      v .number-or-zero .ensures,
       length .flag .ensures,
       length .before .is-length .ensures,
       size .flag2 .ensures,
@@ -53,7 +53,7 @@ num-speed-number-spec =
     tie.close
     (tie.spec
     number-requires
-    held-requires
+    number-or-zero-requires
     is-length-requires
     flag-requires
     is-size-requires
