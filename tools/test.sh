@@ -43,9 +43,7 @@ run "$work/rust/release/partner" --self-test
 run python3 tools/reader_cases.py --check --partner "$work/rust/release/partner"
 run python3 tools/load_cases.py --check --partner "$work/rust/release/partner"
 
-# The last line of rt ci is held back, and printed below with what passed here added. More edits at once than cores, since a row of them ends with its
-# slowest.
-export RT_JOBS=${RT_JOBS:-4}
+# The last line of rt ci is held back, and printed below with what passed here added.
 echo "test: rt ci"
 rt ci 2>&1 | tee "$log" | grep -vE '^[0-9]+ passed, [0-9]+ failed$' || { tail -n 1 "$log"; exit 1; }
 last=$(tail -n 1 "$log")
