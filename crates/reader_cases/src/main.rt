@@ -211,7 +211,7 @@ fn write_readings(draft: &[u8], tokens: &mut [u32], one: &mut [u32], whole: &mut
     end_line();
 }
 
-// The answer of the entry for C, and the lines that it wrote.
+// The answer of `list_draft`, and the lines that it wrote.
 fn write_listing(draft: &[u8], out: &mut [u8]) {
     fill_bytes(out);
     let used = reader::entry::list_draft(draft, out);
