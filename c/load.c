@@ -1,5 +1,5 @@
 /*
- * Loads the listing on standard input and writes its records, six decimal numbers a line, or its refusal. An argument is the number of words of the
+ * Loads the listing on standard input and writes its records, seven decimal numbers a line, or its refusal. An argument is the number of words of the
  * buffer that is lent; without it there is room for every line. The status is 1 where the listing is refused, and 2, with a line on standard error,
  * where there is no answer: the argument is no number, there is not enough memory, or a read or a write failed.
  * An example of togmelic_load, and the program of the tests of docs/REFUSALS.md.
@@ -77,7 +77,8 @@ int main(int argc, char **argv)
         return failed("reading failed");
     }
     if (argc <= 1) {
-        words_length = length / TOGMELIC_LINE * TOGMELIC_RECORD_WORDS;
+        /* Lines may be of either form, and of the shorter there are more. */
+        words_length = length / TOGMELIC_SHORT_LINE * TOGMELIC_RECORD_WORDS;
     }
     /* calloc, since it sees where the bytes are more than a size_t holds; and never 0 words, for which it may give NULL. */
     words = calloc(words_length > 0 ? words_length : 1, sizeof *words);

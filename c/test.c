@@ -1,24 +1,7 @@
-/* Calls the entries for C. Every expected line and word is written out from documents 01 and 02, and from RFC 3629. */
-#include <stdio.h>
-#include <string.h>
-
-#include "togmelic.h"
-
-static int checks, failures;
-
-#define CHECK(condition) check((condition), #condition, __FILE__, __LINE__)
-
-static void check(int holds, const char *condition, const char *file, int line)
-{
-    checks++;
-    if (!holds) {
-        failures++;
-        fprintf(stderr, "%s:%d: failed: %s\n", file, line, condition);
-    }
-}
+/* Calls togmelic_list. Every expected line is written out from documents 01 and 02, and from RFC 3629. */
+#include "check.h"
 
 /* The buffer that is lent, and bytes behind it that no call may touch. */
-enum { GUARD = 64, FILL = 0xAA };
 static unsigned char out[TOGMELIC_MOST_BYTES + GUARD];
 
 /* Whether so many bytes from a place on all have this value. */
@@ -51,30 +34,15 @@ static int listed(const char *draft, const char *lines)
 }
 
 static const char EXAMPLE[] = "fn f(){match b{true=>1,false=>2,}}";
-static const char EXAMPLE_LINES[] =
-    "29 0000 0022 00000000 00000000 000A\n"
-    "01 0000 0022 00000000 00000000 0009\n"
-    "02 0003 0004 00000000 00000000 0001\n"
-    "12 0006 0022 00000001 00000000 0007\n"
-    "23 0007 0021 00000000 00000000 0006\n"
-    "1D 000D 000E 00000000 00000000 0001\n"
-    "25 0017 0020 00000005 00000000 0002\n"
-    "18 001E 001F 00000000 00000000 0001\n"
-    "25 000F 0017 00000006 00000000 0002\n"
-    "18 0015 0016 00000000 00000000 0001\n";
-enum { EXAMPLE_COUNT = 10, EXAMPLE_BYTES = EXAMPLE_COUNT * TOGMELIC_LINE };
-
 /* Document 01: `fold(x)` in braces after the head is refused with 8 at 11. Document 02, order 3: an empty file is accepted. */
 static const char REFUSED[] = "fn f(){fold(x)}";
-static const char REFUSED_LINE[] = "00 000B 000B 00000008 00000000 0001\n";
-static const char EMPTY_LINE[] = "29 0000 0000 00000000 00000000 0001\n";
 
 static void test_constants(void)
 {
-    CHECK(TOGMELIC_LINE == 36);
+    CHECK(TOGMELIC_LINE == 41 && TOGMELIC_SHORT_LINE == 36);
     CHECK(TOGMELIC_MOST_LINES == 2049);
-    CHECK(TOGMELIC_MOST_BYTES == 73764);
-    CHECK(TOGMELIC_RECORD_WORDS == 6);
+    CHECK(TOGMELIC_MOST_BYTES == 84009);
+    CHECK(TOGMELIC_RECORD_WORDS == 7 && TOGMELIC_UP == 6);
     CHECK(TOGMELIC_FUNCTION == 1 && TOGMELIC_PROGRAM == 41 && TOGMELIC_TYPE_ITEM == 42);
     CHECK(sizeof(struct togmelic_refusal) == 2 * sizeof(size_t));
     CHECK(strlen(EXAMPLE_LINES) == EXAMPLE_BYTES);
@@ -92,9 +60,9 @@ static void test_answers(void)
     /* Nothing is kept from one call to the next. */
     CHECK(listed(EXAMPLE, EXAMPLE_LINES));
     /* Only the bytes that are lent are read: the first six are the head, which the end cuts off. */
-    CHECK(lists(EXAMPLE, 6, TOGMELIC_MOST_BYTES, "00 0006 0006 00000008 00000000 0001\n"));
+    CHECK(lists(EXAMPLE, 6, TOGMELIC_MOST_BYTES, "00 0006 0006 00000008 00000000 0001 0000\n"));
     /* A draft may hold a zero byte, which starts no lexeme. */
-    CHECK(lists("fn\0f(){}", 8, TOGMELIC_MOST_BYTES, "00 0002 0002 00000003 00000000 0001\n"));
+    CHECK(lists("fn\0f(){}", 8, TOGMELIC_MOST_BYTES, "00 0002 0002 00000003 00000000 0001 0000\n"));
 }
 
 static void test_lengths_of_out(void)
@@ -118,17 +86,17 @@ static const char *line_of_byte(int byte)
 {
     static const char in_tokens[] = "abcdefghijklmnopqrstuvwxyzABCDEFGHIJKLMNOPQRSTUVWXYZ_0123456789=:;,()[]{}<>";
     if (byte > 127) {
-        return "00 0000 0000 00000002 00000000 0001\n";
+        return "00 0000 0000 00000002 00000000 0001 0000\n";
     }
     if ((byte >= 9 && byte <= 13) || byte == 32) {
         /* Whitespace: a file without items, of one byte. */
-        return "29 0000 0001 00000000 00000000 0001\n";
+        return "29 0000 0001 00000000 00000000 0001 0000\n";
     }
     if (byte != 0 && strchr(in_tokens, byte) != NULL) {
         /* A token, but an item begins with `pub`, `fn` or `type`. */
-        return "00 0000 0000 00000008 00000000 0001\n";
+        return "00 0000 0000 00000008 00000000 0001 0000\n";
     }
-    return "00 0000 0000 00000003 00000000 0001\n";
+    return "00 0000 0000 00000003 00000000 0001 0000\n";
 }
 
 static void test_every_byte(void)
@@ -145,16 +113,16 @@ static void test_long_drafts(void)
 {
     static char draft[16385];
     memset(draft, ' ', sizeof draft);
-    CHECK(lists(draft, 16384, TOGMELIC_MOST_BYTES, "29 0000 4000 00000000 00000000 0001\n"));
-    CHECK(lists(draft, 16385, TOGMELIC_MOST_BYTES, "00 4000 4000 00000001 00000000 0001\n"));
+    CHECK(lists(draft, 16384, TOGMELIC_MOST_BYTES, "29 0000 4000 00000000 00000000 0001 0000\n"));
+    CHECK(lists(draft, 16385, TOGMELIC_MOST_BYTES, "00 4000 4000 00000001 00000000 0001 0000\n"));
     memcpy(draft, "fn f(){", 7);
     draft[16383] = '}';
     CHECK(lists(draft, 16384, TOGMELIC_MOST_BYTES,
-                "29 0000 4000 00000000 00000000 0004\n"
-                "01 0000 4000 00000000 00000000 0003\n"
-                "02 0003 0004 00000000 00000000 0001\n"
-                "12 0006 4000 00000000 00000000 0001\n"));
-    CHECK(lists(draft, 16385, TOGMELIC_MOST_BYTES, "00 4000 4000 00000001 00000000 0001\n"));
+                "29 0000 4000 00000000 00000000 0004 0000\n"
+                "01 0000 4000 00000000 00000000 0003 0001\n"
+                "02 0003 0004 00000000 00000000 0001 0001\n"
+                "12 0006 4000 00000000 00000000 0001 0002\n"));
+    CHECK(lists(draft, 16385, TOGMELIC_MOST_BYTES, "00 4000 4000 00000001 00000000 0001 0000\n"));
 }
 
 /*
@@ -164,30 +132,30 @@ static void test_long_drafts(void)
 static void test_lengths_of_arrays(void)
 {
     CHECK(listed("fn f()->[b;18446744073709551615]{}",
-                 "29 0000 0022 00000000 00000000 0006\n"
-                 "01 0000 0022 00000002 00000000 0005\n"
-                 "02 0003 0004 00000000 00000000 0001\n"
-                 "0B 0008 0020 FFFFFFFF FFFFFFFF 0002\n"
-                 "04 0009 000A 00000000 00000000 0001\n"
-                 "12 0020 0022 00000000 00000000 0001\n"));
+                 "29 0000 0022 00000000 00000000 0006 0000\n"
+                 "01 0000 0022 00000002 00000000 0005 0001\n"
+                 "02 0003 0004 00000000 00000000 0001 0001\n"
+                 "0B 0008 0020 FFFFFFFF FFFFFFFF 0002 0002\n"
+                 "04 0009 000A 00000000 00000000 0001 0001\n"
+                 "12 0020 0022 00000000 00000000 0001 0004\n"));
     CHECK(listed("fn f()->[b;00]{}",
-                 "29 0000 0010 00000000 00000000 0006\n"
-                 "01 0000 0010 00000002 00000000 0005\n"
-                 "02 0003 0004 00000000 00000000 0001\n"
-                 "0B 0008 000E 00000000 00000000 0002\n"
-                 "04 0009 000A 00000000 00000000 0001\n"
-                 "12 000E 0010 00000000 00000000 0001\n"));
-    CHECK(listed("fn f()->[b;18446744073709551616]{}", "00 000B 000B 00000013 00000000 0001\n"));
-    CHECK(listed("fn f()->[b;100000000000000000000]{}", "00 000B 000B 00000013 00000000 0001\n"));
-    CHECK(listed("fn f()->[b;0_18446744073709551616_]{}", "00 000B 000B 00000013 00000000 0001\n"));
+                 "29 0000 0010 00000000 00000000 0006 0000\n"
+                 "01 0000 0010 00000002 00000000 0005 0001\n"
+                 "02 0003 0004 00000000 00000000 0001 0001\n"
+                 "0B 0008 000E 00000000 00000000 0002 0002\n"
+                 "04 0009 000A 00000000 00000000 0001 0001\n"
+                 "12 000E 0010 00000000 00000000 0001 0004\n"));
+    CHECK(listed("fn f()->[b;18446744073709551616]{}", "00 000B 000B 00000013 00000000 0001 0000\n"));
+    CHECK(listed("fn f()->[b;100000000000000000000]{}", "00 000B 000B 00000013 00000000 0001 0000\n"));
+    CHECK(listed("fn f()->[b;0_18446744073709551616_]{}", "00 000B 000B 00000013 00000000 0001 0000\n"));
     /* Before 9 and after it, beneath a match without arms, and in a draft that is cut off. */
-    CHECK(listed("fn f()->List<[b;18446744073709551616],3>{}", "00 0010 0010 00000013 00000000 0001\n"));
-    CHECK(listed("fn f()->[List<b,3>;18446744073709551616]{}", "00 0010 0010 00000009 00000000 0001\n"));
-    CHECK(listed("fn f(){match <[b;18446744073709551616]>::into(){}}", "00 0007 0007 0000000B 00000000 0001\n"));
-    CHECK(listed("fn f()->[b;18446744073709551616]{", "00 0021 0021 00000008 00000000 0001\n"));
+    CHECK(listed("fn f()->List<[b;18446744073709551616],3>{}", "00 0010 0010 00000013 00000000 0001 0000\n"));
+    CHECK(listed("fn f()->[List<b,3>;18446744073709551616]{}", "00 0010 0010 00000009 00000000 0001 0000\n"));
+    CHECK(listed("fn f(){match <[b;18446744073709551616]>::into(){}}", "00 0007 0007 0000000B 00000000 0001 0000\n"));
+    CHECK(listed("fn f()->[b;18446744073709551616]{", "00 0021 0021 00000008 00000000 0001 0000\n"));
     /* A bound and a size that are too large keep their own numbers. */
-    CHECK(listed("fn f()->List<b,18446744073709551616>{}", "00 000F 000F 00000009 00000000 0001\n"));
-    CHECK(listed("fn f(){array_fold::<g,18446744073709551616>()}", "00 0016 0016 0000000A 00000000 0001\n"));
+    CHECK(listed("fn f()->List<b,18446744073709551616>{}", "00 000F 000F 00000009 00000000 0001 0000\n"));
+    CHECK(listed("fn f(){array_fold::<g,18446744073709551616>()}", "00 0016 0016 0000000A 00000000 0001 0000\n"));
 }
 
 /*
@@ -197,35 +165,35 @@ static void test_lengths_of_arrays(void)
 static void test_files(void)
 {
     CHECK(listed("type A=u8; fn f(){}\n",
-                 "29 0000 0014 00000000 00000000 0007\n"
-                 "2A 0000 000A 00000000 00000000 0003\n"
-                 "02 0005 0006 00000000 00000000 0001\n"
-                 "07 0007 0009 00000008 00000000 0001\n"
-                 "01 000B 0013 00000000 00000000 0003\n"
-                 "02 000E 000F 00000000 00000000 0001\n"
-                 "12 0011 0013 00000000 00000000 0001\n"));
+                 "29 0000 0014 00000000 00000000 0007 0000\n"
+                 "2A 0000 000A 00000000 00000000 0003 0001\n"
+                 "02 0005 0006 00000000 00000000 0001 0001\n"
+                 "07 0007 0009 00000008 00000000 0001 0002\n"
+                 "01 000B 0013 00000000 00000000 0003 0004\n"
+                 "02 000E 000F 00000000 00000000 0001 0001\n"
+                 "12 0011 0013 00000000 00000000 0001 0002\n"));
     CHECK(listed("//a\nfn f(){}pub fn f(){}",
-                 "29 0000 0018 00000000 00000000 0007\n"
-                 "01 0004 000C 00000000 00000000 0003\n"
-                 "02 0007 0008 00000000 00000000 0001\n"
-                 "12 000A 000C 00000000 00000000 0001\n"
-                 "01 000C 0018 00000001 00000000 0003\n"
-                 "02 0013 0014 00000000 00000000 0001\n"
-                 "12 0016 0018 00000000 00000000 0001\n"));
-    CHECK(listed("// no item\n", "29 0000 000B 00000000 00000000 0001\n"));
+                 "29 0000 0018 00000000 00000000 0007 0000\n"
+                 "01 0004 000C 00000000 00000000 0003 0001\n"
+                 "02 0007 0008 00000000 00000000 0001 0001\n"
+                 "12 000A 000C 00000000 00000000 0001 0002\n"
+                 "01 000C 0018 00000001 00000000 0003 0004\n"
+                 "02 0013 0014 00000000 00000000 0001 0001\n"
+                 "12 0016 0018 00000000 00000000 0001 0002\n"));
+    CHECK(listed("// no item\n", "29 0000 000B 00000000 00000000 0001 0000\n"));
     /* Only `pub fn`; a type has its name, `=`, a type and `;`; nothing stands behind a function. */
-    CHECK(listed("pub type A=u8;", "00 0004 0004 00000008 00000000 0001\n"));
-    CHECK(listed("type A=u8", "00 0009 0009 00000008 00000000 0001\n"));
-    CHECK(listed("type A u8;", "00 0007 0007 00000008 00000000 0001\n"));
-    CHECK(listed("type=u8;", "00 0004 0004 00000008 00000000 0001\n"));
-    CHECK(listed("fn f(){};", "00 0008 0008 00000008 00000000 0001\n"));
-    CHECK(listed("type u8=A;", "00 0005 0005 00000008 00000000 0001\n"));
-    CHECK(listed("type List=A;", "00 0005 0005 00000008 00000000 0001\n"));
-    CHECK(listed("fn f(){}type Pubkey=A;", "00 000D 000D 00000008 00000000 0001\n"));
+    CHECK(listed("pub type A=u8;", "00 0004 0004 00000008 00000000 0001 0000\n"));
+    CHECK(listed("type A=u8", "00 0009 0009 00000008 00000000 0001 0000\n"));
+    CHECK(listed("type A u8;", "00 0007 0007 00000008 00000000 0001 0000\n"));
+    CHECK(listed("type=u8;", "00 0004 0004 00000008 00000000 0001 0000\n"));
+    CHECK(listed("fn f(){};", "00 0008 0008 00000008 00000000 0001 0000\n"));
+    CHECK(listed("type u8=A;", "00 0005 0005 00000008 00000000 0001 0000\n"));
+    CHECK(listed("type List=A;", "00 0005 0005 00000008 00000000 0001 0000\n"));
+    CHECK(listed("fn f(){}type Pubkey=A;", "00 000D 000D 00000008 00000000 0001 0000\n"));
     /* The numbers of types, and the earliest place over all items. */
-    CHECK(listed("type A=List<u8,3>;", "00 000F 000F 00000009 00000000 0001\n"));
-    CHECK(listed("type A=[u8;18446744073709551616];", "00 000B 000B 00000013 00000000 0001\n"));
-    CHECK(listed("fn f(){match x{}}type A=List<u8,3>;", "00 0007 0007 0000000B 00000000 0001\n"));
+    CHECK(listed("type A=List<u8,3>;", "00 000F 000F 00000009 00000000 0001 0000\n"));
+    CHECK(listed("type A=[u8;18446744073709551616];", "00 000B 000B 00000013 00000000 0001 0000\n"));
+    CHECK(listed("fn f(){match x{}}type A=List<u8,3>;", "00 0007 0007 0000000B 00000000 0001 0000\n"));
 }
 
 /* Sequences at the bounds of RFC 3629, section 4: its ABNF has them, or it has not. */
@@ -247,7 +215,7 @@ static int judged(const char *before, const char *bytes, const char *behind, int
 {
     char draft[16], line[TOGMELIC_LINE + 1];
     sprintf(draft, "%s%s%s", before, bytes, behind);
-    sprintf(line, well_formed ? "29 0000 %04X 00000000 00000000 0001\n" : "00 0002 0002 00000015 00000000 0001\n", (unsigned)strlen(draft));
+    sprintf(line, well_formed ? "29 0000 %04X 00000000 00000000 0001 0000\n" : "00 0002 0002 00000015 00000000 0001 0000\n", (unsigned)strlen(draft));
     return listed(draft, line);
 }
 
@@ -260,51 +228,51 @@ static void test_comments(void)
     size_t at;
     int byte;
     CHECK(listed("/*\xCE\xB1*/fn f(){}",
-                 "29 0000 000E 00000000 00000000 0004\n"
-                 "01 0006 000E 00000000 00000000 0003\n"
-                 "02 0009 000A 00000000 00000000 0001\n"
-                 "12 000C 000E 00000000 00000000 0001\n"));
+                 "29 0000 000E 00000000 00000000 0004 0000\n"
+                 "01 0006 000E 00000000 00000000 0003 0001\n"
+                 "02 0009 000A 00000000 00000000 0001 0001\n"
+                 "12 000C 000E 00000000 00000000 0001 0002\n"));
     CHECK(listed("fn/*\xC5\x82*/f(){}//\xCE\xB1",
-                 "29 0000 0011 00000000 00000000 0004\n"
-                 "01 0000 000D 00000000 00000000 0003\n"
-                 "02 0008 0009 00000000 00000000 0001\n"
-                 "12 000B 000D 00000000 00000000 0001\n"));
-    CHECK(listed("//\x80", "00 0002 0002 00000015 00000000 0001\n"));
-    CHECK(listed("fn \xCE\xB1(){}", "00 0003 0003 00000002 00000000 0001\n"));
-    CHECK(listed("//\xCE\xB1\n\x80", "00 0005 0005 00000002 00000000 0001\n"));
-    CHECK(listed("/*\xCE\xB1*/\xCE\xB1", "00 0006 0006 00000002 00000000 0001\n"));
+                 "29 0000 0011 00000000 00000000 0004 0000\n"
+                 "01 0000 000D 00000000 00000000 0003 0001\n"
+                 "02 0008 0009 00000000 00000000 0001 0001\n"
+                 "12 000B 000D 00000000 00000000 0001 0002\n"));
+    CHECK(listed("//\x80", "00 0002 0002 00000015 00000000 0001 0000\n"));
+    CHECK(listed("fn \xCE\xB1(){}", "00 0003 0003 00000002 00000000 0001 0000\n"));
+    CHECK(listed("//\xCE\xB1\n\x80", "00 0005 0005 00000002 00000000 0001 0000\n"));
+    CHECK(listed("/*\xCE\xB1*/\xCE\xB1", "00 0006 0006 00000002 00000000 0001 0000\n"));
     /* A byte order mark before the draft, and in a comment. */
-    CHECK(listed("\xEF\xBB\xBF//", "00 0000 0000 00000002 00000000 0001\n"));
-    CHECK(listed("//\xEF\xBB\xBF", "29 0000 0005 00000000 00000000 0001\n"));
+    CHECK(listed("\xEF\xBB\xBF//", "00 0000 0000 00000002 00000000 0001 0000\n"));
+    CHECK(listed("//\xEF\xBB\xBF", "29 0000 0005 00000000 00000000 0001 0000\n"));
     /* `//` goes on behind NEL, LS, PS, VT and FF: `#` starts no lexeme. It ends before CR and LF. */
-    CHECK(listed("//\xC2\x85#", "29 0000 0005 00000000 00000000 0001\n"));
-    CHECK(listed("//\xE2\x80\xA8#", "29 0000 0006 00000000 00000000 0001\n"));
-    CHECK(listed("//\xE2\x80\xA9#", "29 0000 0006 00000000 00000000 0001\n"));
-    CHECK(listed("//\x0B#\x0C#", "29 0000 0006 00000000 00000000 0001\n"));
-    CHECK(listed("//\xCE\xB1\r#", "00 0005 0005 00000003 00000000 0001\n"));
-    CHECK(listed("//\xCE\xB1\n#", "00 0005 0005 00000003 00000000 0001\n"));
+    CHECK(listed("//\xC2\x85#", "29 0000 0005 00000000 00000000 0001 0000\n"));
+    CHECK(listed("//\xE2\x80\xA8#", "29 0000 0006 00000000 00000000 0001 0000\n"));
+    CHECK(listed("//\xE2\x80\xA9#", "29 0000 0006 00000000 00000000 0001 0000\n"));
+    CHECK(listed("//\x0B#\x0C#", "29 0000 0006 00000000 00000000 0001 0000\n"));
+    CHECK(listed("//\xCE\xB1\r#", "00 0005 0005 00000003 00000000 0001 0000\n"));
+    CHECK(listed("//\xCE\xB1\n#", "00 0005 0005 00000003 00000000 0001 0000\n"));
     /* The first byte of the sequence, not the one that is wrong in it; sequences from the comment's start. */
-    CHECK(listed("//\xCE\xB1\xCE", "00 0004 0004 00000015 00000000 0001\n"));
-    CHECK(listed("//\xE2\x80\xCE\xB1", "00 0002 0002 00000015 00000000 0001\n"));
-    CHECK(listed("/*\xCE\xB1\xB1*/", "00 0004 0004 00000015 00000000 0001\n"));
-    CHECK(listed("//\xCE\n\xB1", "00 0002 0002 00000015 00000000 0001\n"));
-    CHECK(listed("//\xCE\r", "00 0002 0002 00000015 00000000 0001\n"));
+    CHECK(listed("//\xCE\xB1\xCE", "00 0004 0004 00000015 00000000 0001 0000\n"));
+    CHECK(listed("//\xE2\x80\xCE\xB1", "00 0002 0002 00000015 00000000 0001 0000\n"));
+    CHECK(listed("/*\xCE\xB1\xB1*/", "00 0004 0004 00000015 00000000 0001 0000\n"));
+    CHECK(listed("//\xCE\n\xB1", "00 0002 0002 00000015 00000000 0001 0000\n"));
+    CHECK(listed("//\xCE\r", "00 0002 0002 00000015 00000000 0001 0000\n"));
     /* Comments inside one another, and one that is never closed: its opening is the earlier place. */
-    CHECK(listed("/*/*\xCE\xB1*/\xCE*/", "00 0008 0008 00000015 00000000 0001\n"));
-    CHECK(listed("/*\x80", "00 0000 0000 00000004 00000000 0001\n"));
-    CHECK(listed("/*\xCE\xB1/*\x80*/", "00 0000 0000 00000004 00000000 0001\n"));
-    CHECK(listed("/*\x80*//*", "00 0002 0002 00000015 00000000 0001\n"));
+    CHECK(listed("/*/*\xCE\xB1*/\xCE*/", "00 0008 0008 00000015 00000000 0001 0000\n"));
+    CHECK(listed("/*\x80", "00 0000 0000 00000004 00000000 0001 0000\n"));
+    CHECK(listed("/*\xCE\xB1/*\x80*/", "00 0000 0000 00000004 00000000 0001 0000\n"));
+    CHECK(listed("/*\x80*//*", "00 0002 0002 00000015 00000000 0001 0000\n"));
     /* Among 2 to 5 by earliest place, and before 8. */
-    CHECK(listed("#//\x80", "00 0000 0000 00000003 00000000 0001\n"));
-    CHECK(listed("//\x80\n#", "00 0002 0002 00000015 00000000 0001\n"));
-    CHECK(listed("simc//\x80", "00 0000 0000 00000005 00000000 0001\n"));
-    CHECK(listed("//\x80\nsimc", "00 0002 0002 00000015 00000000 0001\n"));
-    CHECK(listed("\x80//\x80", "00 0000 0000 00000002 00000000 0001\n"));
-    CHECK(listed("//\x80\n\x80", "00 0002 0002 00000015 00000000 0001\n"));
-    CHECK(listed(";//\x80", "00 0003 0003 00000015 00000000 0001\n"));
+    CHECK(listed("#//\x80", "00 0000 0000 00000003 00000000 0001 0000\n"));
+    CHECK(listed("//\x80\n#", "00 0002 0002 00000015 00000000 0001 0000\n"));
+    CHECK(listed("simc//\x80", "00 0000 0000 00000005 00000000 0001 0000\n"));
+    CHECK(listed("//\x80\nsimc", "00 0002 0002 00000015 00000000 0001 0000\n"));
+    CHECK(listed("\x80//\x80", "00 0000 0000 00000002 00000000 0001 0000\n"));
+    CHECK(listed("//\x80\n\x80", "00 0002 0002 00000015 00000000 0001 0000\n"));
+    CHECK(listed(";//\x80", "00 0003 0003 00000015 00000000 0001 0000\n"));
     /* A zero byte is a character of a comment. */
-    CHECK(lists("//\0\xCE\xB1", 5, TOGMELIC_MOST_BYTES, "29 0000 0005 00000000 00000000 0001\n"));
-    CHECK(lists("//\0\xB1", 4, TOGMELIC_MOST_BYTES, "00 0003 0003 00000015 00000000 0001\n"));
+    CHECK(lists("//\0\xCE\xB1", 5, TOGMELIC_MOST_BYTES, "29 0000 0005 00000000 00000000 0001 0000\n"));
+    CHECK(lists("//\0\xB1", 4, TOGMELIC_MOST_BYTES, "00 0003 0003 00000015 00000000 0001 0000\n"));
     for (at = 0; at < sizeof SEQUENCES / sizeof *SEQUENCES; at++) {
         const char *bytes = SEQUENCES[at].bytes;
         int well_formed = SEQUENCES[at].well_formed;
@@ -334,114 +302,9 @@ static void test_many_lines(void)
     }
     memcpy(draft + 2045, "){}", 3);
     CHECK(togmelic_list((const unsigned char *)draft, sizeof draft, out, used) == used);
-    CHECK(memcmp(out, "29 0000 0800 00000000 00000000 05FE\n01 0000 0800 00000000 000001FE 05FD\n", 2 * TOGMELIC_LINE) == 0);
+    CHECK(memcmp(out, "29 0000 0800 00000000 00000000 05FE 0000\n01 0000 0800 00000000 000001FE 05FD 0001\n", 2 * TOGMELIC_LINE) == 0);
+    CHECK(memcmp(out + used - TOGMELIC_LINE, "12 07FE 0800 00000000 00000000 0001 05FC\n", TOGMELIC_LINE) == 0);
     CHECK(lists(draft, sizeof draft, used - 1, ""));
-}
-
-/* The example's records: six words for each of its lines. */
-enum { EXAMPLE_WORDS = EXAMPLE_COUNT * TOGMELIC_RECORD_WORDS };
-static const uint32_t EXAMPLE_RECORDS[EXAMPLE_WORDS] = {
-    41, 0, 34, 0, 0, 10, /* program */
-    1, 0, 34, 0, 0, 9, /* function */
-    2, 3, 4, 0, 0, 1, /* name */
-    18, 6, 34, 1, 0, 7, /* block */
-    35, 7, 33, 0, 0, 6, /* match */
-    29, 13, 14, 0, 0, 1, /* variable */
-    37, 23, 32, 5, 0, 2, 24, 30, 31, 0, 0, 1, /* arm, decimal */
-    37, 15, 23, 6, 0, 2, 24, 21, 22, 0, 0, 1, /* arm, decimal */
-};
-static uint32_t words[2 * EXAMPLE_WORDS + GUARD];
-
-/* Whether a listing gets this answer in words_length words, prefilled: as many of the example's last records as there are lines where the number is 0. */
-static int loads(const char *listing, size_t listing_length, size_t words_length, size_t number, size_t line)
-{
-    struct togmelic_refusal refusal;
-    size_t at, count = number == 0 ? listing_length / TOGMELIC_LINE : 0, used = count * TOGMELIC_RECORD_WORDS;
-    memset(words, FILL, sizeof words);
-    memset(&refusal, FILL, sizeof refusal);
-    if (togmelic_load((const unsigned char *)listing, listing_length, words, words_length, &refusal) != count
-        || refusal.number != number || refusal.line != line
-        || memcmp(words, EXAMPLE_RECORDS + EXAMPLE_WORDS - used, used * sizeof *words) != 0) {
-        return 0;
-    }
-    for (at = used; at < words_length + GUARD && words[at] == (at < words_length ? 0 : 0xAAAAAAAA); at++) {
-    }
-    return at == words_length + GUARD;
-}
-
-/* The same for the example with one byte of a line, from 1, replaced. */
-static int loads_changed(size_t line, size_t column, int byte, size_t number, size_t bad_line)
-{
-    char listing[EXAMPLE_BYTES];
-    memcpy(listing, EXAMPLE_LINES, EXAMPLE_BYTES);
-    listing[TOGMELIC_LINE * (line - 1) + column] = (char)byte;
-    return loads(listing, EXAMPLE_BYTES, EXAMPLE_WORDS, number, bad_line);
-}
-
-static void test_loading(void)
-{
-    struct togmelic_refusal refusal;
-    size_t length;
-    size_t function_words = EXAMPLE_WORDS - TOGMELIC_RECORD_WORDS;
-    for (length = 0; length <= 2 * EXAMPLE_WORDS; length++) {
-        CHECK(loads(EXAMPLE_LINES, EXAMPLE_BYTES, length, length < EXAMPLE_WORDS ? 18 : 0, 0));
-        /* The function alone is taken too. */
-        CHECK(loads(EXAMPLE_LINES + TOGMELIC_LINE, EXAMPLE_BYTES - TOGMELIC_LINE, length, length < function_words ? 18 : 0, 0));
-    }
-    /* A part of a line is a bad line; whole lines are too few for the first record's size. */
-    for (length = 0; length < EXAMPLE_BYTES; length++) {
-        int whole = length % TOGMELIC_LINE == 0;
-        CHECK(loads(EXAMPLE_LINES, length, EXAMPLE_WORDS, whole ? 17 : 16, whole ? 0 : length / TOGMELIC_LINE + 1));
-    }
-    /* 16 goes before 17, and 17 before 18. */
-    CHECK(loads("\n", 1, 0, 16, 1));
-    CHECK(loads(REFUSED_LINE, TOGMELIC_LINE, 0, 17, 0));
-    CHECK(loads(NULL, 0, EXAMPLE_WORDS, 17, 0));
-    CHECK(togmelic_load(NULL, 0, NULL, 0, &refusal) == 0 && refusal.number == 17 && refusal.line == 0);
-    CHECK(togmelic_load((const unsigned char *)EXAMPLE_LINES, EXAMPLE_BYTES, NULL, 0, &refusal) == 0 && refusal.number == 18);
-    /* Arms belong together; sizes add up; a place begins before its end and lies inside its parent's; kinds are the table's. */
-    CHECK(loads_changed(7, 20, '6', 17, 0));
-    CHECK(loads_changed(5, 34, '5', 17, 0));
-    CHECK(loads_changed(3, 11, '3', 17, 0));
-    CHECK(loads_changed(6, 10, '2', 17, 0));
-    CHECK(loads_changed(6, 1, 'E', 17, 0));
-}
-
-/* The program: from 0, with low and high 0, first and once; its children are functions and type items, which stand nowhere else. */
-static void test_loading_files(void)
-{
-    struct togmelic_refusal refusal;
-    uint32_t one[TOGMELIC_RECORD_WORDS];
-    CHECK(loads_changed(1, 6, '1', 17, 0));
-    CHECK(loads_changed(1, 20, '1', 17, 0));
-    CHECK(loads_changed(1, 29, '1', 17, 0));
-    CHECK(loads_changed(1, 1, 'A', 17, 0));
-    CHECK(loads_changed(2, 1, '2', 17, 0));
-    CHECK(loads_changed(1, 34, '9', 17, 0));
-    CHECK(loads(EXAMPLE_LINES + 2 * TOGMELIC_LINE, EXAMPLE_BYTES - 2 * TOGMELIC_LINE, EXAMPLE_WORDS, 17, 0));
-    /* Empty, with any end, and one record long. */
-    CHECK(togmelic_load((const unsigned char *)EMPTY_LINE, TOGMELIC_LINE, one, TOGMELIC_RECORD_WORDS, &refusal) == 1);
-    CHECK(refusal.number == 0 && refusal.line == 0 && one[0] == TOGMELIC_PROGRAM && one[1] == 0 && one[2] == 0 && one[5] == 1);
-    CHECK(togmelic_load((const unsigned char *)"29 0000 FFFF 00000000 00000000 0001\n", TOGMELIC_LINE, one, TOGMELIC_RECORD_WORDS, &refusal) == 1);
-    CHECK(togmelic_load((const unsigned char *)EMPTY_LINE, TOGMELIC_LINE, one, TOGMELIC_RECORD_WORDS - 1, &refusal) == 0 && refusal.number == 18);
-    CHECK(togmelic_load((const unsigned char *)"29 0001 0002 00000000 00000000 0001\n", TOGMELIC_LINE, one, TOGMELIC_RECORD_WORDS, &refusal) == 0);
-    CHECK(togmelic_load((const unsigned char *)"2A 0000 0001 00000000 00000000 0001\n", TOGMELIC_LINE, one, TOGMELIC_RECORD_WORDS, &refusal) == 0);
-    CHECK(refusal.number == 17 && one[0] == 0 && one[5] == 0);
-}
-
-/* Every byte in every column of a line: only upper-case digits, and spaces and LF where they stand, are in form. */
-static void test_bytes_of_a_line(void)
-{
-    static const char form[] = "hh hhhh hhhh hhhhhhhh hhhhhhhh hhhh\n";
-    size_t column;
-    int byte;
-    for (column = 0; column < TOGMELIC_LINE; column++) {
-        for (byte = 0; byte < 256; byte++) {
-            int digit = byte != 0 && strchr("0123456789ABCDEF", byte) != NULL;
-            int bad = form[column] == 'h' ? !digit : byte != form[column];
-            CHECK(loads_changed(6, column, byte, 16, 6) == bad);
-        }
-    }
 }
 
 int main(void)
@@ -455,13 +318,5 @@ int main(void)
     test_files();
     test_comments();
     test_many_lines();
-    test_loading();
-    test_loading_files();
-    test_bytes_of_a_line();
-    if (failures > 0) {
-        fprintf(stderr, "c: %d of %d checks failed\n", failures, checks);
-        return 1;
-    }
-    printf("c: %d checks passed\n", checks);
-    return 0;
+    return finish("list");
 }

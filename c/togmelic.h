@@ -10,28 +10,34 @@ extern "C" {
 #endif
 
 /* Bytes of a line, its LF among them. */
-#define TOGMELIC_LINE 36
+#define TOGMELIC_LINE 41
+/* Bytes of a line as it was written before records had the way up; togmelic_load takes such lines too. */
+#define TOGMELIC_SHORT_LINE 36
 /* No draft has more lines: one for each of 2,048 tokens at most, and the program's. */
 #define TOGMELIC_MOST_LINES 2049
 /* A buffer of so many bytes is enough for every draft. */
 #define TOGMELIC_MOST_BYTES (TOGMELIC_LINE * TOGMELIC_MOST_LINES)
-/* Words of a record: kind, start, end, low, high, size. */
-#define TOGMELIC_RECORD_WORDS 6
+/* Words of a record: kind, start, end, low, high, size, and the way up, which togmelic_load explains. */
+#define TOGMELIC_RECORD_WORDS 7
+/* Which of them, from 0, is the way up. */
+#define TOGMELIC_UP 6
 /* Kinds of the records at the top: a function, a program, which is the record of a whole file, and a type item in it. */
 #define TOGMELIC_FUNCTION 1
 #define TOGMELIC_PROGRAM 41
 #define TOGMELIC_TYPE_ITEM 42
 
 /*
- * Lists a draft, a file of any number of functions and types: writes its lines into out and returns the bytes used, 36
+ * Lists a draft, a file of any number of functions and types: writes its lines into out and returns the bytes used, 41
  * times the lines.
  *
  * An accepted draft has one line a record, a parent before its children:
  *
- *     kind start end low high size
+ *     kind start end low high size up
  *
- * in 2, 4, 4, 8, 8 and 4 upper-case hexadecimal digits, one space between, LF after. Start and end are byte numbers
- * of the draft from 0, end being the byte after; size counts the record and all beneath it.
+ * in 2, 4, 4, 8, 8, 4 and 4 upper-case hexadecimal digits, one space between, LF after. Start and end are byte numbers
+ * of the draft from 0, end being the byte after; size counts the record and all beneath it. Up is the way up: the
+ * parent's line stands so many lines before this one, and only the first line, which has no parent, has 0. Lines stand
+ * in the order of the tree, in which the two arms of a match may be exchanged, so the way up is not told by places.
  *
  * Comments may hold any text in UTF-8, and everything else is ASCII. Places count bytes, not characters, also behind
  * such a comment. No start or end of a record cuts a character in two; the place of refusal 1, 16,384, may.
@@ -40,14 +46,14 @@ extern "C" {
  * the number of lines. Its children are the items in the order of the draft, functions, kind 1, and type items, kind 42,
  * written 2A. A draft without items has the program's line alone.
  *
- * A refused draft has one line: kind 00, the place twice, the number of the refusal as low, high 0, size 1. The place
+ * A refused draft has one line: kind 00, the place twice, the number of the refusal as low, high 0, size 1, up 0. The place
  * is a byte number, or the draft's length where something is missing at its end. The number is one of 1 to 14, or 19
  * for an array type whose length is over 18,446,744,073,709,551,615, or 21 for a comment that is not well-formed UTF-8
  * (RFC 3629), at the first byte of the bad sequence. docs/REFUSALS.md has them all.
  *
  * Every byte of out behind the lines is set to zero. The lines are no C string: where they fill out, no zero ends them.
  *
- * Returns 0 only where the lines do not fit; then every byte of out is zero. A refusal needs 36 bytes.
+ * Returns 0 only where the lines do not fit; then every byte of out is zero. A refusal needs 41 bytes.
  *
  * The draft may be any bytes of any length. Both lengths count bytes, and each pointer must be good for its length;
  * it may be NULL only where that length is 0. The two buffers must not overlap. The draft must not change during the
@@ -69,26 +75,43 @@ struct togmelic_refusal {
 
 /*
  * Loads a listing, which may have been kept without its draft: writes its records into words, one a line and in the
- * order of the lines, and returns how many there are. A record is six words, kind, start, end, low, high and size.
- * *refusal is then {0, 0}.
+ * order of the lines, and returns how many there are. A record is seven words, kind, start, end, low, high, size and the
+ * way up. *refusal is then {0, 0}.
+ *
+ * The way up says how many records back the parent of a record begins: records, not words. It is 0 for the first record,
+ * which nothing holds, and for no other. From the record with number at, counted from 0, this goes to each that holds it, its
+ * parent first and the first record last:
+ *
+ *     while (at != 0) {
+ *         at -= words[at * TOGMELIC_RECORD_WORDS + TOGMELIC_UP];
+ *         ...
+ *     }
+ *
+ * It ends, and stays in words, for every at that is less than the number of records.
  *
  * The first record is a program or a function, and its kind, words[0], tells which: TOGMELIC_PROGRAM in what
  * togmelic_list writes; TOGMELIC_FUNCTION in a listing of one function alone, such as those that were kept before files
  * were read.
  *
- * listing_length / TOGMELIC_LINE * TOGMELIC_RECORD_WORDS words are always enough; for what togmelic_list wrote,
- * TOGMELIC_MOST_LINES * TOGMELIC_RECORD_WORDS are. Any other listing that is taken has at most 65,535 lines, which is
- * what the four digits of a size can count.
+ * A listing has lines of 41 bytes, as togmelic_list writes them, or all its lines are of 36: those that were kept before
+ * records had the way up, five bytes shorter, with LF behind the size. The way up is worked out then, and the words are
+ * those of the same records in lines of 41.
+ *
+ * listing_length / TOGMELIC_SHORT_LINE * TOGMELIC_RECORD_WORDS words are always enough, for either form; for what
+ * togmelic_list wrote, TOGMELIC_MOST_LINES * TOGMELIC_RECORD_WORDS are. Any other listing that is taken has at most 65,535
+ * lines, which is what the four digits of a size can count.
  *
  * Only a listing whose records form one file or one function is taken. Else 0 is returned, and *refusal has the first
  * of these that is so:
  *
- *     16  a line is not of the form that togmelic_list writes, its 36th byte, LF, included; the line is the first such
+ *     16  a line is in neither form, its last byte, LF, included, or in another than the first line is; the line is the
+ *         first such. Lines are counted in the form of the first; where it is in neither, it is line 1 itself
  *     17  the lines form neither one file nor one function: there are none, or it is a refusal's line, or two listings
  *         stand one behind the other, or a record's kind, low, high and children are not as the kinds table has them,
  *         two built-in arms are not in the order Left, None or False first, a size is not one more than those of the
- *         children, a program does not start at 0, any other start is not before its end, or a child's place is not
- *         inside its parent's (docs/REFUSALS.md, 17)
+ *         children, a program does not start at 0, any other start is not before its end, a child's place is not inside
+ *         its parent's, or the way up in a line of 41 bytes does not lead to the parent, or is not 0 in the first line,
+ *         as where the lines of one function are cut out of those of its file (docs/REFUSALS.md, 17)
  *     18  words is too short
  *
  * No draft is at hand, so a listing may be taken that is not your draft's, or no draft's at all: an end may be up to

@@ -1,6 +1,6 @@
 #!/usr/bin/env bash
-# What stands around the proved code: the entries for C, called from C by c/test.c; the drafts and listings of docs/REFUSALS.md and README.md through the
-# listing program and c/load.c, and streams that fail.
+# What stands around the proved code: the entries for C, called from C by c/test.c and c/test_load.c; the drafts and listings of docs/REFUSALS.md and
+# README.md through the listing program and c/load.c, and streams that fail.
 # Needs crates/togmelic/out/libtogmelic.a (rt lib there) and crates/listing/out/listing (rt run or rt ci).
 set -euo pipefail
 cd "$(dirname "$0")/.."
@@ -10,11 +10,12 @@ trap 'rm -rf "$work"' EXIT
 for needed in crates/togmelic/out/libtogmelic.a crates/listing/out/listing; do
     [ -f "$needed" ] || { echo "bindings: failed: $needed is missing"; exit 1; }
 done
-for program in test load; do
+for program in test test_load load; do
     gcc -std=c99 -pedantic -Wall -Wextra -Werror -O2 -Ic -o "$work/$program" "c/$program.c" crates/togmelic/out/libtogmelic.a ||
         { echo "bindings: failed: c/$program.c does not compile"; exit 1; }
 done
 "$work/test" || { echo "bindings: failed: c/test.c"; exit 1; }
+"$work/test_load" || { echo "bindings: failed: c/test_load.c"; exit 1; }
 python3 tools/refusals.py crates/listing/out/listing "$work/load" || { echo "bindings: failed: tools/refusals.py"; exit 1; }
 python3 tools/readme.py crates/listing/out/listing "$work/load" || { echo "bindings: failed: tools/readme.py"; exit 1; }
 
@@ -45,5 +46,5 @@ done
 cmp "$work/out" <(crates/listing/out/listing < examples/escrow.simf) || { echo "bindings: failed: a draft in pieces"; exit 1; }
 # One of any length is read to its end: whoever writes it is not cut off.
 head -c 10000000 /dev/zero | crates/listing/out/listing > "$work/out"
-cmp "$work/out" <(echo "00 4000 4000 00000001 00000000 0001") || { echo "bindings: failed: a long draft"; exit 1; }
+cmp "$work/out" <(echo "00 4000 4000 00000001 00000000 0001 0000") || { echo "bindings: failed: a long draft"; exit 1; }
 echo "bindings: streams"

@@ -2,7 +2,7 @@
 # The proved reader, through its entry for C, beside the partner: builds the Rust workspace, runs the tests of the wrapper and of the partner,
 # then compares every byte of the answers to short strings, to UTF-8 in comments, good and bad, to drafts at the limits, to drafts with several refusals, to
 # files of up to 30 items and to random drafts, and every word of what is loaded from listings: of records with every few children, and of random drafts,
-# whole and damaged. Any step that fails ends it.
+# whole and damaged, in both forms of a line. Any step that fails ends it.
 #     tools/compare.sh [SEED [COUNT]]    COUNT random functions of each kind, 20,000 unless said, and half as many files and drafts with comments
 # Needs cargo and Python 3, and crates/togmelic/out/libtogmelic.a, which `rt lib` in crates/togmelic writes; TOGMELIC_LIB may name another folder for it.
 set -euo pipefail

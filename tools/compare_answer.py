@@ -10,13 +10,15 @@ What `rt check` keeps of the crates below is copied too; where nothing is, the c
 """
 import collections, pathlib, shutil, subprocess, sys, tempfile
 
+from record_trees import LINE, WORDS
+
 root = pathlib.Path(__file__).resolve().parent.parent
 # The crates that the definition stands on, lowest first.
-CRATES = ("text", "words", "num", "utf8", "lexer", "own", "theory", "lines", "kinds", "grammar")
+CRATES = ("text", "words", "num", "utf8", "lexer", "own", "up", "theory", "lines", "kinds", "grammar")
 LARGEST = 2 ** 64 - 1
 # Words and bytes enough for every draft: 2,048 tokens, and a record and a line more.
-LINES, LINE = 2049, 36
-TOKEN_SPACE, TREE_SPACE = 3 * 2048, 6 * LINES
+LINES = 2049
+TOKEN_SPACE, TREE_SPACE = 3 * 2048, WORDS * LINES
 # Lengths that 64 bits hold, then those that they do not.
 LENGTHS = [0, "0_0", 2 ** 32, LARGEST - 1, LARGEST, f"00{LARGEST}", f"{LARGEST:_}_"]
 TOO_LARGE = [LARGEST + 1, LARGEST + 4, LARGEST + 5, 10 ** 20 - 1, 10 ** 20, f"00{LARGEST + 1}", f"{LARGEST + 1:_}_", 60 * "9"]
@@ -92,11 +94,16 @@ def result(answer, listing):
     return f"lists {len(listing)} ({numbers(listing)})"
 
 
+def alone(listing):
+    """The lines of a function without the program's line before them: no record holds the first of them now, so its way up is 0."""
+    return listing[LINE:2 * LINE - len("0001\n")] + b"0000\n" + listing[2 * LINE:]
+
+
 def rows(draft, function, file, listing):
     """The draft as a file, and as one function. The lines of a function are those of its file behind the first, where the words are the same."""
     if function[0] == b"accepted" and file[-1] != b"same":
         sys.exit(f"the partner's two trees differ: {draft!r}")
-    return [f"roomyFile ({numbers(draft)}) ({result(file, listing)})", f"roomy ({numbers(draft)}) ({result(function, listing[LINE:])})"]
+    return [f"roomyFile ({numbers(draft)}) ({result(file, listing)})", f"roomy ({numbers(draft)}) ({result(function, alone(listing))})"]
 
 
 def spec(all_rows):

@@ -1,8 +1,9 @@
 """Cases of drafts, each with the lengths of the buffers that are lent for it and what the papers say of it: for tools/reader_cases.py."""
 
-# Three words for each of 2,048 tokens, six words for each of 2,049 records, one more than tokens in a file, and 36 bytes for each of them.
-TOKENS, TREE, BYTES = 6144, 12294, 73764
-LINE = 36
+from record_trees import LINE, WORDS
+
+# Three words for each of 2,048 tokens, seven words for each of 2,049 records, one more than tokens in a file, and 41 bytes for each of them.
+TOKENS, TREE, BYTES = 3 * 2048, 2049 * WORDS, 2049 * LINE
 HEAD = "fn f()"
 
 
@@ -42,10 +43,10 @@ class Cases:
         self.add(draft.replace(b"^", b""), said=[f"{entry} refused {number} {place} zeros\n" for entry in entries])
 
     def add_array(self, draft, number):
-        """A draft that is accepted, with an array type of that length over one record, whose place is from mark `^` to mark `^`."""
+        """A draft that is accepted, with an array type of that length over one record, whose place is from mark `^` to mark `^`. Its way up is not said."""
         before, inside, _ = draft.replace("~", "=>").split("^")
         start, end = len(before), len(before) + len(inside)
-        record = f"0B {start:04X} {end:04X} {number % 2 ** 32:08X} {number >> 32:08X} 0002\n"
+        record = f"0B {start:04X} {end:04X} {number % 2 ** 32:08X} {number >> 32:08X} 0002 "
         self.add(draft.replace("^", ""), said=["function accepted ", "file accepted ", record])
 
     def add_bodies(self, *texts, **buffers):

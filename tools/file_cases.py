@@ -2,23 +2,24 @@
 import itertools, re
 
 from draft_cases import LINE, OVER, body, encoded
-from record_trees import lines
+from record_trees import WORDS, lines
 
-# Items with what the papers give for them: the text, the number of tokens, and the records, places counted from the item's start.
-LEAST = "fn f(){}", 6, ((1, 0, 8, 0, 0, 3), (2, 3, 4, 0, 0, 1), (18, 6, 8, 0, 0, 1))
-PUBLIC = "pub fn g(a:A)->B{a}", 13, ((1, 0, 19, 3, 1, 8), (2, 7, 8, 0, 0, 1), (3, 9, 12, 0, 0, 3), (2, 9, 10, 0, 0, 1), (4, 11, 12, 0, 0, 1),
-                                    (4, 15, 16, 0, 0, 1), (18, 16, 19, 1, 0, 2), (29, 17, 18, 0, 0, 1))
-EXAMPLE = body("match b{true=>1,false=>2,}"), 18, ((1, 0, 34, 0, 0, 9), (2, 3, 4, 0, 0, 1), (18, 6, 34, 1, 0, 7), (35, 7, 33, 0, 0, 6),
-                                                   (29, 13, 14, 0, 0, 1), (37, 23, 32, 5, 0, 2), (24, 30, 31, 0, 0, 1), (37, 15, 23, 6, 0, 2),
-                                                   (24, 21, 22, 0, 0, 1))
-PAIR = "type P=(u1,[bool;3]);", 13, ((42, 0, 21, 0, 0, 6), (2, 5, 6, 0, 0, 1), (10, 7, 20, 0, 0, 4), (7, 8, 10, 1, 0, 1), (11, 11, 19, 3, 0, 2),
-                                     (6, 12, 16, 0, 0, 1))
+# Items with what the papers give for them: the text, the number of tokens, and the records, places counted from the item's start. The way up of an item
+# itself depends on what stands before it.
+LEAST = "fn f(){}", 6, ((1, 0, 8, 0, 0, 3, 0), (2, 3, 4, 0, 0, 1, 1), (18, 6, 8, 0, 0, 1, 2))
+PUBLIC = "pub fn g(a:A)->B{a}", 13, ((1, 0, 19, 3, 1, 8, 0), (2, 7, 8, 0, 0, 1, 1), (3, 9, 12, 0, 0, 3, 2), (2, 9, 10, 0, 0, 1, 1),
+                                    (4, 11, 12, 0, 0, 1, 2), (4, 15, 16, 0, 0, 1, 5), (18, 16, 19, 1, 0, 2, 6), (29, 17, 18, 0, 0, 1, 1))
+EXAMPLE = body("match b{true=>1,false=>2,}"), 18, ((1, 0, 34, 0, 0, 9, 0), (2, 3, 4, 0, 0, 1, 1), (18, 6, 34, 1, 0, 7, 2), (35, 7, 33, 0, 0, 6, 1),
+                                                   (29, 13, 14, 0, 0, 1, 1), (37, 23, 32, 5, 0, 2, 2), (24, 30, 31, 0, 0, 1, 1),
+                                                   (37, 15, 23, 6, 0, 2, 4), (24, 21, 22, 0, 0, 1, 1))
+PAIR = "type P=(u1,[bool;3]);", 13, ((42, 0, 21, 0, 0, 6, 0), (2, 5, 6, 0, 0, 1, 1), (10, 7, 20, 0, 0, 4, 2), (7, 8, 10, 1, 0, 1, 1),
+                                     (11, 11, 19, 3, 0, 2, 2), (6, 12, 16, 0, 0, 1, 1))
 
 
 def type_item(name):
     """The item that gives the name to `u8`."""
     behind = len("type ") + len(name)
-    return f"type {name}=u8;", 5, ((42, 0, behind + 4, 0, 0, 3), (2, 5, behind, 0, 0, 1), (7, behind + 1, behind + 3, 8, 0, 1))
+    return f"type {name}=u8;", 5, ((42, 0, behind + 4, 0, 0, 3, 0), (2, 5, behind, 0, 0, 1, 1), (7, behind + 1, behind + 3, 8, 0, 1, 2))
 
 
 ITEMS = LEAST, type_item("A"), PUBLIC, PAIR, EXAMPLE
@@ -29,11 +30,12 @@ def filed(items, gaps):
     gap, draft, tokens, records = itertools.cycle(gaps), b"", 0, []
     for item, more, below in items:
         draft += encoded(next(gap))
-        records += [[kind, len(draft) + start, len(draft) + end, *rest] for kind, start, end, *rest in below]
+        way = 1 + len(records)  # of the item: the program's record stands before those of the other items
+        records += [[kind, len(draft) + start, len(draft) + end, *rest, up or way] for kind, start, end, *rest, up in below]
         draft, tokens = draft + encoded(item), tokens + more
     draft += encoded(next(gap))
     # "The top record is kind 41, a program, with place from 0 to the draft's length and the items as children."
-    return draft, tokens, [[41, 0, len(draft), 0, 0, 1 + len(records)], *records]
+    return draft, tokens, [[41, 0, len(draft), 0, 0, 1 + len(records), 0], *records]
 
 
 def add_file(cases, items, gaps=("",), more=()):
@@ -47,7 +49,7 @@ def add_entries(cases):
     answers as before"."""
     for draft in ("", " ", "\t\r\n", "// a", "/* a\n */ // b\r"):
         cases.add(draft, said=[f"function refused 8 {len(draft)} zeros\n", "file accepted 0 1 owned zeros\n",
-                               f"listed 36 zeros\n29 0000 {len(draft):04X} 00000000 00000000 0001\n"])
+                               f"listed {LINE} zeros\n29 0000 {len(draft):04X} 00000000 00000000 0001 0000\n"])
     for item in (LEAST, PUBLIC, EXAMPLE):
         for gaps in (("",), (" ",), ("", "//a\n/*b*/")):
             _, tokens, records = item
@@ -71,10 +73,10 @@ def add_files(cases):
 
 
 def add_words_for_files(cases):
-    """15 for a file, whose first record takes six words more than its items do: tree buffers of none, and around both numbers. 6 goes first."""
+    """15 for a file, whose first record takes seven words more than its items do: tree buffers of none, and around both numbers. 6 goes first."""
     for items in ([], [LEAST], [type_item("A")], [type_item("A"), LEAST]):
         draft, tokens, records = filed(items, ("",))
-        below, enough = 6 * len(records) - 6, 6 * len(records)
+        below, enough = WORDS * len(records) - WORDS, WORDS * len(records)
         for words in [0] * (below > 2) + [*range(max(below - 2, 0), enough + 2)]:
             file = f"accepted {tokens} {len(records)}" if words >= enough else "refused 15 0"
             function = f"accepted {tokens} {len(records) - 1}" if words >= below else "refused 15 0"
@@ -85,8 +87,8 @@ def add_words_for_files(cases):
             cases.add(draft, words, 0, LINE, said=[f"file refused 6 {len(draft) - 1} zeros\n"])
     # The file with most records for its tokens: the words of its tree, and one fewer.
     most = "fn f(" + 510 * "a:b," + "){}"
-    cases.add(most, 6138, 9204, 55224, said=["file accepted 2046 1534 owned zeros same\n", "listed 55224 zeros\n"])
-    cases.add(most, 6138, 9203, 55223, said=["function accepted 2046 1533 owned zeros\n", "file refused 15 0 zeros\n", "listed 0 zeros\n"])
+    cases.add(most, 6138, 10738, 62894, said=["file accepted 2046 1534 owned zeros same\n", "listed 62894 zeros\n"])
+    cases.add(most, 6138, 10737, 62893, said=["function accepted 2046 1533 owned zeros\n", "file refused 15 0 zeros\n", "listed 0 zeros\n"])
 
 
 # "A type's own name may not be in `ALIAS_RESERVED`" (src/str.rs).

@@ -1,66 +1,27 @@
 #!/usr/bin/env python3
-"""Writes crates/load_cases/stdin and stdout: listings, each with the words of the buffer that is lent for it, and the answers that document 02, orders 1
-and 3, asks for.
+"""Writes crates/load_cases/stdin and stdout: listings, each with the words of the buffer that is lent for it, and the answers that document 02, orders 1,
+3 and 7, asks for.
 
 A listing is built here from a tree of records by the kinds table, or from such a listing by one change. Its answer is what the sentence says
 under which the case stands; no program is asked for it.
 A case: a line with the words of the buffer and the bytes of the listing, one space between; then the listing and a line end.
+An answer: `refused`, the number, the line and `zeros`; or `records`, how many, `zeros`, `same` where the records written again are the listing or `wider`
+where they are its lines with the way up added, and a line with the seven words of each.
 --check: exit 1 if a file differs. --partner PATH: exit 1 if the partner's program answers a case otherwise. --list: how many cases each sentence has.
 """
 import argparse, itertools, pathlib, subprocess, sys
 
+import line_cases
+from listing_cases import BAD_LINE, FORMS, NO_ROOM, NOT_ONE_TREE, PAPER, PAPER_RECORDS, SHORT_PAPER, Cases
 from record_trees import *
 
 CRATE = pathlib.Path(__file__).resolve().parent.parent / "crates/load_cases"
-BAD_LINE, NOT_ONE_TREE, NO_ROOM = 16, 17, 18
-
-
-class Cases:
-    def __init__(self):
-        self.asked, self.answers, self.sentence, self.said = [], [], "", {}
-
-    def add(self, listing, words, answer):
-        self.asked.append(b"%d %d\n%s\n" % (words, len(listing), listing))
-        self.answers.append(answer)
-        self.said[self.sentence] = self.said.get(self.sentence, 0) + 1
-
-    def loads(self, *trees, more=3):
-        """Each is taken: the number of records, every word of them, and zeros in the words behind."""
-        for tree in trees:
-            records = rows(tree)
-            words = "".join(" ".join(map(str, record)) + "\n" for record in records)
-            self.add(lines(records), WORDS * len(records) + more, f"records {len(records)} zeros same\n{words}")
-
-    def refuses(self, *trees):
-        """Each is in form, but neither a function nor a file; the buffer would be long enough."""
-        for tree in trees:
-            self.refuse(NOT_ONE_TREE, 0, lines(rows(tree)), WORDS * len(rows(tree)))
-
-    def refuse(self, number, line, listing, words=60):
-        self.add(listing, words, f"refused {number} {line} zeros\n")
-
-
-PAPER = b"""\
-01 0000 0022 00000000 00000000 0009
-02 0003 0004 00000000 00000000 0001
-12 0006 0022 00000001 00000000 0007
-23 0007 0021 00000000 00000000 0006
-1D 000D 000E 00000000 00000000 0001
-25 0017 0020 00000005 00000000 0002
-18 001E 001F 00000000 00000000 0001
-25 000F 0017 00000006 00000000 0002
-18 0015 0016 00000000 00000000 0001
-"""
-PAPER_RECORDS = [[1, 0, 34, 0, 0, 9], [2, 3, 4, 0, 0, 1], [18, 6, 34, 1, 0, 7], [35, 7, 33, 0, 0, 6], [29, 13, 14, 0, 0, 1], [37, 23, 32, 5, 0, 2],
-                 [24, 30, 31, 0, 0, 1], [37, 15, 23, 6, 0, 2], [24, 21, 22, 0, 0, 1]]
-LINE = len(PAPER) // len(PAPER_RECORDS)
-THREE = lines(function().records())  # the smallest function: itself, its name, its block
-
 
 def add_paper(cases):
-    """Document 01's nine lines: "lines in, the six-word records out, with the number of records", "zeros follow what is written"."""
-    assert lines(PAPER_RECORDS) == PAPER
-    for more in range(8):
+    """Document 01's nine lines, with order 7's word and as they were: "lines in, the [..] records out, with the number of records", "zeros follow what is
+    written"."""
+    assert (lines(PAPER_RECORDS), short_lines(PAPER_RECORDS)) == (PAPER, SHORT_PAPER)
+    for more in range(9):
         cases.loads(PAPER_RECORDS, more=more)
 
 
@@ -208,13 +169,14 @@ def add_calls(cases):
 def add_tops(cases):
     """17: "a listing whose records form one function", or one program: no line, a refusal's line, two functions, another top, kinds that the table has not."""
     cases.refuse(NOT_ONE_TREE, 0, b"")
+    cases.refuse(NOT_ONE_TREE, 0, b"00 000B 000B 00000008 00000000 0001 0000\n")
     cases.refuse(NOT_ONE_TREE, 0, b"00 000B 000B 00000008 00000000 0001\n")
     cases.refuses(function().records() + function().records(), function().records() + VALUE.records(), VALUE, EMPTY, function().records()[1:])
     # Kinds 41 and 42 have other children.
     for kind in (0, 41, 42, 43, 255):
         cases.refuses(changed(function(), 0, KIND, kind), changed(value(VALUE), 3, KIND, kind))
     for count in range(1, 9):
-        cases.refuse(NOT_ONE_TREE, 0, PAPER[:count * LINE])
+        cases.refuses(PAPER_RECORDS[:count])
 
 
 def add_sizes(cases):
@@ -227,48 +189,13 @@ def add_sizes(cases):
 def add_places(cases):
     """17: "start before end, each child's place inside its parent's"; of siblings nothing is asked."""
     for at in range(1, 9):
-        parent = max((record for record in PAPER_RECORDS[:at] if PAPER_RECORDS.index(record) + record[SIZE] > at), key=PAPER_RECORDS.index)
+        parent = PAPER_RECORDS[at - PAPER_RECORDS[at][UP]]
         start, end = PAPER_RECORDS[at][START:LOW]
         cases.refuses(changed(PAPER_RECORDS, at, START, end), changed(PAPER_RECORDS, at, END, start), changed(PAPER_RECORDS, at, START, end + 1),
                       changed(PAPER_RECORDS, at, END, parent[END] + 1), *[changed(PAPER_RECORDS, at, START, parent[START] - 1)] * (parent[START] > 0))
         cases.loads(changed(changed(PAPER_RECORDS, at, START, parent[START]), at, END, parent[END]))
     cases.loads(changed(PAPER_RECORDS, 0, END, 0xFFFF), changed(PAPER_RECORDS, 0, START, 3))
     cases.refuses(changed(PAPER_RECORDS, 0, START, 4), changed(PAPER_RECORDS, 0, END, 33))
-
-
-def add_lines(cases):
-    """16: "when a line is not of the stated 36-byte form", "the first bad line, counted from 1"."""
-    first, second, third = THREE.splitlines(keepends=True)
-    # Another digit, another mark; a byte too few or too many; another line end; no line at all.
-    wrong = [second.lower().replace(b"0", b"a", 1), b" " + second[1:], b"0x" + second[2:], *(bytes([byte]) + second[1:] for byte in b"+/:@G`g\0\xb2")]
-    wrong += [second.replace(b" ", mark, 1) for mark in (b"", b"  ", b"\t", b"0", b"_")]
-    wrong += [second[:-1] + end for end in (b"", b" ", b"\r\n", b"\r", b"\n\n", b" 0000\n")]
-    wrong += [second[:-2] + b"\r\n", b"\0" + second, b"\n", b"fn f(){}\n"]
-    for line in wrong:
-        behind = line.startswith(second)  # the line itself is whole then
-        cases.refuse(BAD_LINE, 3 if behind else 2, first + line + third)
-        cases.refuse(BAD_LINE, 2 if behind else 1, line + second)
-    for length in range(1, len(THREE)):
-        if length % LINE and (length < 4 or length % LINE in (1, 2, 3, 34, 35)):
-            cases.refuse(BAD_LINE, length // LINE + 1, THREE[:length])
-    cases.refuse(BAD_LINE, 4, THREE + b"\n")
-    cases.refuse(BAD_LINE, 4, THREE + LINE * b"\0")
-    for column in range(LINE):
-        cases.refuse(BAD_LINE, 5, PAPER[:4 * LINE + column] + b"x" + PAPER[4 * LINE + column + 1:])
-    # The first of two.
-    cases.refuse(BAD_LINE, 2, first + second.replace(b" ", b"x") + third.replace(b" ", b"x"))
-
-
-def add_rooms(cases):
-    """18: "when the record buffer is too short"; "they are tested in this order": 16 before 17 before 18."""
-    for words in (0, 1, 48, 53):
-        cases.refuse(NO_ROOM, 0, PAPER, words)
-    cases.refuse(NO_ROOM, 0, THREE, 17)
-    for words in (0, 1, 17):
-        cases.refuse(NOT_ONE_TREE, 0, b"", words)
-        cases.refuse(NOT_ONE_TREE, 0, PAPER[LINE:], words)
-        cases.refuse(BAD_LINE, 9, PAPER[:-1], words)
-        cases.refuse(BAD_LINE, 3, lines(VALUE.records()) + lines(VALUE.records()) + b"\n", words)
 
 
 def add_programs(cases):
@@ -342,28 +269,36 @@ def add_program_sizes(cases):
         enough = WORDS * len(rows(found))
         cases.loads(found, more=0)
         cases.loads(found, more=6)
-        for words in (0, enough - 1):
-            cases.refuse(NO_ROOM, 0, lines(rows(found)), words)
-        cases.refuse(BAD_LINE, len(rows(found)), lines(rows(found))[:-1], 0)
-        cases.refuse(BAD_LINE, len(rows(found)) + 1, lines(rows(found)) + b"\n", enough)
+        for write, _ in FORMS:
+            listing = write(rows(found))
+            for words in (0, enough - len(rows(found)), enough - 1):
+                cases.refuse(NO_ROOM, 0, listing, words)
+            cases.refuse(BAD_LINE, len(rows(found)), listing[:-1], 0)
+            cases.refuse(BAD_LINE, len(rows(found)) + 1, listing + b"\n", enough)
     cases.refuse(NOT_ONE_TREE, 0, lines(rows(program(VALUE))), 0)
 
 
 def add_large(cases):
     """The same of many records: side by side, one inside the other, and both."""
-    many, deep = function(*200 * [VALUE]), VALUE
+    many, deep = function(*60 * [VALUE]), VALUE
     for _ in range(100):
         deep = Node("parenthesised", deep)
-    cases.loads(many, value(deep), function(*10 * [LET, Node("tuple", VALUE, Node("match", VALUE, arm(LEFT), arm(RIGHT)))]))
+    # With more records than two digits count back.
+    longest = function(*300 * [VALUE])
+    cases.loads(longest, many, value(deep), function(*10 * [LET, Node("tuple", VALUE, Node("match", VALUE, arm(LEFT), arm(RIGHT)))]))
     for tree in (many, value(deep)):
         last = len(rows(tree)) - 1
         cases.refuses(changed(tree, last, SIZE, 2), changed(tree, last, KIND, KINDS.index("name") + 1), rows(tree)[:-1])
-        cases.refuse(NO_ROOM, 0, lines(rows(tree)), WORDS * (last + 1) - 1)
-        cases.refuse(BAD_LINE, last + 1, lines(rows(tree))[:-1])
+        cases.refuses_ways(changed(tree, last, UP, rows(tree)[last][UP] + 1))
+        for write, _ in FORMS:
+            cases.refuse(NO_ROOM, 0, write(rows(tree)), WORDS * (last + 1) - 1)
+            cases.refuse(BAD_LINE, last + 1, write(rows(tree))[:-1])
+    # The last word without its high digits.
+    cases.refuses_ways(changed(longest, 302, UP, rows(longest)[302][UP] % 0x100))
 
 
 SECTIONS = (add_paper, add_functions, add_types, add_numbers, add_patterns, add_blocks, add_values, add_leaves, add_enums, add_arms, add_calls, add_tops,
-            add_sizes, add_places, add_lines, add_rooms, add_programs, add_type_items, add_nested_items, add_program_places, add_program_sizes, add_large)
+            add_sizes, add_places, *line_cases.SECTIONS, add_programs, add_type_items, add_nested_items, add_program_places, add_program_sizes, add_large)
 
 
 def all_cases():

@@ -3,14 +3,15 @@
 
 A case: a line with the words of the token buffer, the words of the tree buffer, the bytes of the byte buffer and the bytes of the
 draft; then the draft and a line end.
-Answered are the draft read as one function, the draft read as a file, and its listing.
+Answered are the draft read as one function, the draft read as a file, and its listing. Where both readings accept, `same` says that the records behind the
+file's first are the function's, but for the way up of the function itself: 0 where it stands alone, 1 in the file.
 --partner PATH: also writes stdout, the answers of the partner's program, and sees that every record kind, call and refusal is there, and that the
 partner says what is written here from the papers, where that is.
 --check: exit 1 if a file differs.
 """
 import argparse, pathlib, random, re, subprocess, sys
 
-import file_cases
+import file_cases, way_cases
 from draft_cases import HEAD, LINE, OVER, TOKENS, TREE, Cases, body, escaped
 
 ROOT = pathlib.Path(__file__).resolve().parent.parent
@@ -48,8 +49,8 @@ def add_tokens(cases):
         cases.add_bodies(*("[" + 1019 * "a," + "a" + last + "]" for last in ("", ",", ",a")), tokens=words, out=0)
     # The draft with most records for its tokens, three for each four.
     most = "fn f(" + 510 * "a:b," + "){}"
-    cases.add(most, tokens=6138, tree=9198, out=55188)
-    cases.add(most, tree=9197, out=55187)
+    cases.add(most, tokens=6138, tree=10731, out=62853)
+    cases.add(most, tree=10730, out=62852)
     cases.add("fn f(" + 510 * "a:b," + "a:b){}", out=LINE)
     cases.add_bodies("A" + 1020 * "::A", "A" + 1021 * "::A", out=LINE)
 
@@ -80,7 +81,7 @@ def add_matches(cases):
 def add_words_lent(cases):
     """Token and tree buffers of every length up to a few over what is needed, so that 6, 8, then 9 or 19, then 15 are seen in their order."""
     # The words of the tokens, and those that the records take or would take.
-    for draft, tokens, tree in ((SMALL, 18, 18), (WRONG_BOUND, 48, 42), (WRONG_SHAPE, 24, 30), (WRONG_LENGTH, 36, 30)):
+    for draft, tokens, tree in ((SMALL, 18, 21), (WRONG_BOUND, 48, 49), (WRONG_SHAPE, 24, 35), (WRONG_LENGTH, 36, 35)):
         for words in range(tokens + 5):
             cases.add(draft, words, tree, 0)
         for words in range(tree + 5):
@@ -90,16 +91,16 @@ def add_words_lent(cases):
             for records in (0, tree - 1, tree):
                 cases.add(draft, words, records, LINE)
     # Arms that are exchanged in a tree buffer with no room to spare.
-    for words in range(66, 89):
+    for words in range(77, 103):
         cases.add(EXCHANGED, TOKENS, words, 0)
     # Buffers over every limit.
-    cases.add(SMALL, 8192, 16384, 80000)
+    cases.add(SMALL, 8192, 16384, 90000)
 
 
 def add_bytes_lent(cases):
     """Byte buffers of no bytes, around each line, and of more than any draft needs."""
     for draft, lines in ((SMALL, 4), (EXCHANGED, 14), (WRONG_BOUND, 1), (WRONG_SHAPE, 1), (WRONG_LENGTH, 1)):
-        for out in [0, 1, 80000] + [LINE * line + step for line in range(1, lines + 2) for step in (-1, 0, 1)]:
+        for out in [0, 1, 90000] + [LINE * line + step for line in range(1, lines + 2) for step in (-1, 0, 1)]:
             cases.add(draft, out=out)
 
 
@@ -183,12 +184,12 @@ def add_smallest(cases):
     for draft in (49 * "(", "", "fn f()->List<b,0>{}"):
         cases.add(draft)
     cases.add_bodies("array_fold::<f,0>()", "match a{}", "match a{None~{}A::B~{}}", "match a{None~{}}", "match a{None~{}None~{}}")
-    cases.add(SMALL, tree=17)
+    cases.add(SMALL, tree=20)
     cases.add(WRONG_LENGTH)
     cases.add_refused(21, "//^\udc80")
     cases.add_refused(8, "^;")
     cases.add_refused(9, "type a=List<b,^0>;", ["file"])
-    cases.add("", tree=5, said=["function refused 8 0 zeros\n", "file refused 15 0 zeros\n"])
+    cases.add("", tree=6, said=["function refused 8 0 zeros\n", "file refused 15 0 zeros\n"])
     cases.add_refused(19, f"type a=[b;^{OVER}];", ["file"])
 
 
@@ -248,7 +249,7 @@ def add_comments(cases):
             file_cases.add_file(cases, file_cases.ITEMS, ("", gap))
     cases.add("//é", said=["function refused 8 4 zeros\n", "file accepted 0 1 owned zeros\n"])
     # The comment has 11 bytes, four characters in seven of them; the variable stands behind it.
-    cases.add_bodies("/*żółw*/a", said=["function accepted ", "file accepted ", "1D 0012 0013 00000000 00000000 0001\n"])
+    cases.add_bodies("/*żółw*/a", said=["function accepted ", "file accepted ", "1D 0012 0013 00000000 00000000 0001 0001\n"])
 
 
 def add_bad_comments(cases):
@@ -361,7 +362,7 @@ def add_random(cases):
 SECTIONS = (
     add_bytes_of_drafts, add_tokens, add_brackets, add_matches, add_words_lent, add_bytes_lent, add_functions, add_types, add_statements,
     add_expressions, add_calls, add_arms, add_enum_arms, add_smallest, add_differences, add_built_in_arms, add_orders, add_comments, add_bad_comments,
-    add_lengths, add_faults, add_wrong_shapes, add_random, *file_cases.SECTIONS,
+    add_lengths, add_faults, add_wrong_shapes, add_random, *file_cases.SECTIONS, *way_cases.SECTIONS,
 )
 
 

@@ -1,9 +1,11 @@
-"""Trees of records by document 01's kinds table and the two kinds of document 02, order 3, and their lines: what tools/load_cases.py builds its
-listings from."""
+"""Trees of records by document 01's kinds table and the two kinds of document 02, order 3, and their lines, with the way up of order 7 and without:
+what tools/load_cases.py builds its listings from."""
 
-WORDS = 6  # of a record
-WIDTHS = 2, 4, 4, 8, 8, 4  # digits of its line
-KIND, START, END, LOW, HIGH, SIZE = range(WORDS)
+WORDS = 7  # of a record
+WIDTHS = 2, 4, 4, 8, 8, 4, 4  # digits of its line
+KIND, START, END, LOW, HIGH, SIZE, UP = range(WORDS)
+# Bytes of a line in the two forms, a space or LF behind each word.
+LINE, SHORT_LINE = sum(WIDTHS) + WORDS, sum(WIDTHS[:UP]) + UP
 # The kinds from 1, in the order of the table, those of a file behind them; then those that are one token, with low and high 0.
 KINDS = ("function", "name", "parameter", "alias", "builtin", "bool", "unsigned", "either", "option", "tuple type", "array type", "list type",
          "identifier pattern", "_", "tuple pattern", "array pattern", "let", "block", "left", "right", "some", "none", "boolean", "decimal",
@@ -30,8 +32,9 @@ class Node:
         below, end = [], start + 1
         for child in self.children:
             inner = child.records(end)
+            inner[0][UP] = 1 + len(below)  # over the records of the children before it
             below, end = below + inner, inner[0][END]
-        return [[self.kind, start, end + 1, self.low, self.high, 1 + len(below)], *below]
+        return [[self.kind, start, end + 1, self.low, self.high, 1 + len(below), 0], *below]
 
 
 def wide(number):
@@ -98,5 +101,10 @@ def changed(found, at, field, to):
 
 
 def lines(records):
-    """Document 01, "The listing program": upper-case hexadecimal digits, one space between, LF after."""
+    """Document 01, "The listing program": upper-case hexadecimal digits, one space between, LF after; and document 02, order 7."""
     return "".join(" ".join(f"{word:0{width}X}" for word, width in zip(record, WIDTHS)) + "\n" for record in records).encode()
+
+
+def short_lines(records):
+    """The lines as they were before the way up."""
+    return lines(record[:UP] for record in records)

@@ -32,7 +32,7 @@ def sections():
 def draft_fault(number, found, draft):
     """What is wrong with a draft and its line, if anything."""
     line = found["line"].encode()
-    if not re.fullmatch(rb"00 ([0-9A-F]{4}) \1 %08X 00000000 0001\n" % number, line):
+    if not re.fullmatch(rb"00 ([0-9A-F]{4}) \1 %08X 00000000 0001 0000\n" % number, line):
         return f"{line} is not a line of refusal {number}"
     answer = listing(draft)
     return "" if answer == line else f"{draft[:60]} of {len(draft)} bytes: the program writes {answer[:72]}, the document has {line}"

@@ -1,7 +1,7 @@
 #!/usr/bin/env bash
 # Instructions and time of one reading of each case, through the entry for C, beside the plain Rust reader: draft in, listing out. Then the same of one
-# loading: that listing in, its records out.
-# Both are called by the same loop (rust/bench), with one buffer of 73,764 bytes, or 12,294 words, that is lent again each time; every call fills all of it.
+# loading: that listing in, its records out; and of one loading of the same listing in lines of 36 bytes, for which the way up is worked out.
+# Both are called by the same loop (rust/bench), with one buffer of 84,009 bytes, or 14,343 words, that is lent again each time; every call fills all of it.
 # Instructions are the difference of two runs, divided by how many more readings the second makes, so that the start cancels.
 # callgrind counts a byte that `rep stosb` clears as an instruction; the case `least` shows what clearing the buffers comes to.
 # Needs cargo and valgrind; run it after `rt lib` in crates/togmelic. Writes one line a case; the answers are compared.
@@ -42,3 +42,4 @@ table() {  # what is counted, before the names of the two: a table of one line a
 
 table tokens ''
 table records load-
+table records short-

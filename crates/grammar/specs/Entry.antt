@@ -6,6 +6,7 @@ use Rattle.theory.specs.Ebnf.{Ex, child}
 use Rattle.own.specs.File.{filed, FileOwnership}
 use Rattle.own.specs.Tree.{Tok, Node, Rec, records}
 use Rattle.own.specs.Law.{Ownership}
+use Rattle.up.specs.Ups.{ups, fileUps}
 use Rattle.kinds.specs.Spelled.{Spelled, Program}
 use Rattle.grammar.specs.shapes.Categories.{function, file}
 use Rattle.grammar.specs.shapes.TablesIndex.{n-function, n-file}
@@ -28,6 +29,11 @@ startNt wholeFile = n-file
 abbrev pub recordsOf : Entry → ℕ → List Node → List Rec
 recordsOf oneFunction len ns = records ns
 recordsOf wholeFile len ns = filed len (records ns)
+
+-- The way up of each of them.
+abbrev pub upsOf : Entry → List Node → List ℕ
+upsOf oneFunction ns = ups ns
+upsOf wholeFile ns = fileUps ns
 
 -- Demand 3 of the tokens and records of a draft of so many bytes.
 abbrev pub Owned : Entry → ℕ → List Tok → List Rec → Type 0

@@ -8,50 +8,42 @@ use native.Mathlib.Omega.{arith}
 use native.Mathlib.Nat.{mul-suc, mul-le-mul_left, mul-zero}
 use borrow.Author.Tests.{lt-ltb, le-ltb}
 use borrow.Rule.Slice.PartMut.{put_mid, mid_of}
-use lib.ListN.{length, get_or, drop, take, replicate}
+use lib.ListN.{length, drop, take, replicate}
 use lib.Seq.{sets, sets-eq, length-sets, drop-drop, take_at}
+use Rattle.std.proofs.lemmas.List.{get_or-take}
 use Rattle.text.specs.Clear.{cleared}
 use Rattle.text.specs.Widths.{recWide}
-use Rattle.own.specs.Words.{recs, recWords}
-use Rattle.own.specs.WordLaws.{recs-length}
+use Rattle.up.specs.Ways.{rowsIn}
+use Rattle.up.specs.Laws.{rows-length}
 use Rattle.lines.specs.Form.{line_of, wide, same_line}
-use Rattle.lines.specs.Lines.{widths, fieldCount, lineBytes, lines_of, lines, lines-wide}
+use Rattle.lines.specs.Lines.{widths, lineBytes, lines_of, lines-wide}
 use Rattle.lines.specs.Written.{used, padded, held, linesIn}
 use Rattle.text.specs.Sets.{sets-next}
 
 -- the numbers of the first record of a buffer are its first words
-first-words : (w : List ℕ) (k : ℕ) → k < fieldCount → get_or (recWords (recs 1 w)) k 0 ≡ get_or w k 0
-first-words w zero h = refl
-first-words w (suc zero) h = refl
-first-words w (suc (suc zero)) h = refl
-first-words w (suc (suc (suc zero))) h = refl
-first-words w (suc (suc (suc (suc zero)))) h = refl
-first-words w (suc (suc (suc (suc (suc zero))))) h = refl
-first-words w (suc (suc (suc (suc (suc (suc k)))))) h = absurd (omega arith)
-
-first-line : (ws w : List ℕ) → length ws ≤ fieldCount → line_of ws (recWords (recs 1 w)) ≡ line_of ws w
-first-line ws w h = same_line ws (recWords (recs 1 w)) w (λ k b. first-words w k (omega (arith, h, b)))
+first-line : (ws w : List ℕ) → length ws ≤ recWide → line_of ws (take recWide w) ≡ line_of ws w
+first-line ws w h = same_line ws (take recWide w) w (λ k b. get_or-take recWide w k 0 (omega (arith, h, b)))
 
 -- one record more
-lines_more : (ws : List ℕ) → length ws ≤ fieldCount → (n : ℕ) (w : List ℕ) → lines_of ws (recs (suc n) w) ≡ lines_of ws (recs n w) ++ line_of ws (drop (recWide * n) w)
+lines_more : (ws : List ℕ) → length ws ≤ recWide → (n : ℕ) (w : List ℕ) → lines_of ws (rowsIn (suc n) w) ≡ lines_of ws (rowsIn n w) ++ line_of ws (drop (recWide * n) w)
 unfolding lines_of
-lines_more ws h zero w = append-nil (line_of ws (recWords (recs 1 w))) ∙ first-line ws w h
+lines_more ws h zero w = append-nil (line_of ws (take recWide w)) ∙ first-line ws w h
 lines_more ws h (suc n) w =
-    let l = line_of ws (recWords (recs 1 w)) in
+    let l = line_of ws (take recWide w) in
     let e : recWide + recWide * n ≡ recWide * suc n = omega arith in
     ap (λ (x : List ℕ). l ++ x) (lines_more ws h n (drop recWide w))
-    ∙ ap (λ (x : List ℕ). l ++ (lines_of ws (recs n (drop recWide w)) ++ line_of ws x)) (drop-drop (recWide * n) recWide w ∙ ap (λ (j : ℕ). drop j w) e)
-    ∙ sym (append_assoc l (lines_of ws (recs n (drop recWide w))) (line_of ws (drop (recWide * suc n) w)))
+    ∙ ap (λ (x : List ℕ). l ++ (lines_of ws (rowsIn n (drop recWide w)) ++ line_of ws x)) (drop-drop (recWide * n) recWide w ∙ ap (λ (j : ℕ). drop j w) e)
+    ∙ sym (append_assoc l (lines_of ws (rowsIn n (drop recWide w))) (line_of ws (drop (recWide * suc n) w)))
 
-lines_long : (ws : List ℕ) (n : ℕ) (w : List ℕ) → length (lines_of ws (recs n w)) ≡ wide ws * n
-lines_long ws n w = lines-wide ws (recs n w) ∙ ap (λ (k : ℕ). wide ws * k) (recs-length n w)
+lines_long : (ws : List ℕ) (n : ℕ) (w : List ℕ) → length (lines_of ws (rowsIn n w)) ≡ wide ws * n
+lines_long ws n w = lines-wide ws (rowsIn n w) ∙ ap (λ (k : ℕ). wide ws * k) (rows-length n w)
 
 -- What the loop of `lines` keeps: the lines of the first i records are written.
 pub record Listing (o ws w : List ℕ) (n : ℕ) (l : List ℕ) (p i : ℕ) : Type 0 where
   pub within : i ≤ n
   pub long : length l ≡ length o
   pub ends : p ≡ wide ws * i
-  pub done : l ≡ sets o 0 (lines_of ws (recs i w))
+  pub done : l ≡ sets o 0 (lines_of ws (rowsIn i w))
 
 pub listing_start : (o ws w : List ℕ) (n : ℕ) → Listing o ws w n o 0 0
 unfolding lines_of
@@ -65,25 +57,25 @@ module _ {o ws w : List ℕ} {n : ℕ} {l : List ℕ} {p i : ℕ} (x : Listing o
   pub line-fits : i < n → wide ws * n ≤ length o → p + wide ws ≤ length l
   line-fits h r = let e = x.long in let m : wide ws * suc i ≤ wide ws * n = mul-le-mul_left (wide ws) h in omega (arith, e, m, r, next-end)
 
-  pub listing-more : {l₁ : List ℕ} {q : ℕ} → length ws ≤ fieldCount → i < n → q ≡ p + wide ws → l₁ ≡ sets l p (line_of ws (drop (recWide * i) w)) → Listing o ws w n l₁ q (i + 1)
+  pub listing-more : {l₁ : List ℕ} {q : ℕ} → length ws ≤ recWide → i < n → q ≡ p + wide ws → l₁ ≡ sets l p (line_of ws (drop (recWide * i) w)) → Listing o ws w n l₁ q (i + 1)
   listing-more {l₁} {q} f h d e =
       let s : suc i ≡ i + 1 = omega arith in
       let k = lines_long ws i w in
       let z = x.ends in
-      let t : 0 + length (lines_of ws (recs i w)) ≡ p = omega (arith, k, z) in
+      let t : 0 + length (lines_of ws (rowsIn i w)) ≡ p = omega (arith, k, z) in
       record {
         within = omega arith;
         long = ap length e ∙ length-sets l p (line_of ws (drop (recWide * i) w)) ∙ x.long;
         ends = d ∙ next-end ∙ ap (λ (j : ℕ). wide ws * j) s;
-        done = sets-next o (lines_of ws (recs i w)) (line_of ws (drop (recWide * i) w)) 0 p x.done e t
-            ∙ ap (sets o 0) (sym (lines_more ws f i w)) ∙ ap (λ (j : ℕ). sets o 0 (lines_of ws (recs j w))) s;
+        done = sets-next o (lines_of ws (rowsIn i w)) (line_of ws (drop (recWide * i) w)) 0 p x.done e t
+            ∙ ap (sets o 0) (sym (lines_more ws f i w)) ∙ ap (λ (j : ℕ). sets o 0 (lines_of ws (rowsIn j w))) s;
       }
 
-  pub listing-end : n ≤ i → (p ≡ wide ws * n) × (l ≡ sets o 0 (lines_of ws (recs n w)))
+  pub listing-end : n ≤ i → (p ≡ wide ws * n) × (l ≡ sets o 0 (lines_of ws (rowsIn n w)))
   listing-end h =
       let b = x.within in
       let e : i ≡ n = omega arith in
-      (x.ends ∙ ap (λ (j : ℕ). wide ws * j) e, x.done ∙ ap (λ (j : ℕ). sets o 0 (lines_of ws (recs j w))) e)
+      (x.ends ∙ ap (λ (j : ℕ). wide ws * j) e, x.done ∙ ap (λ (j : ℕ). sets o 0 (lines_of ws (rowsIn j w))) e)
 
 -- how long the lines are
 text-long : (w : List ℕ) (m : ℕ) {n : ℕ} → n ≡ held w m → length (linesIn w m) ≡ lineBytes * n
@@ -101,14 +93,14 @@ no_room w o m {n} {l} e h z =
     )
 
 -- and lines that do, with zeros behind them.
-pub in-room : (w o : List ℕ) (m : ℕ) {n a : ℕ} {l ys : List ℕ} → n ≡ held w m → n ≤ length o / lineBytes → a ≡ lineBytes * n → l ≡ sets o 0 (lines (recs n w))
+pub in-room : (w o : List ℕ) (m : ℕ) {n a : ℕ} {l ys : List ℕ} → n ≡ held w m → n ≤ length o / lineBytes → a ≡ lineBytes * n → l ≡ sets o 0 (lines_of widths (rowsIn n w))
     → length l ≡ length o → ys ≡ replicate (length (mid_of a (length l - a) l)) 0
     → (a ≡ used (linesIn w m) (length o)) × (put_mid a (length l - a) l ys ≡ padded (linesIn w m) (length o))
 unfolding linesIn
 in-room w o m {n} {a} {l} {ys} e h ea el ll z =
-    let t = lines (recs (held w m) w) in
+    let t = lines_of widths (rowsIn (held w m) w) in
     let k : length t ≡ lineBytes * n = text-long w m e in
-    let f : l ≡ sets o 0 t = el ∙ ap (λ (j : ℕ). sets o 0 (lines (recs j w))) e in
+    let f : l ≡ sets o 0 t = el ∙ ap (λ (j : ℕ). sets o 0 (lines_of widths (rowsIn j w))) e in
     let b = le-ltb (length o) (length t) (omega (arith, k, h)) in
     let s : length t ≡ a = omega (arith, k, ea) in
     let r : length l - a ≡ length o - length t = omega (arith, s, ll) in (

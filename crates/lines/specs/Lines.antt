@@ -1,9 +1,11 @@
--- The lines of records (document 01, "The listing program").
+-- The lines of records (document 01, "The listing program"; document 02, order 7).
 -- Assumes nothing.
 use Rattle.std.specs.Prelude.{List, [], ◌∷◌, ◌++◌, ◌≡◌, refl, ℕ, ◌+◌, ◌*◌, length}
-use Rattle.std.proofs.Common.{sym, ap₂, ◌∙◌, add_comm, mul-zero, mul-suc, length-append}
+use Rattle.std.proofs.Common.{sym, ap, ap₂, ◌∙◌, add_comm, mul-zero, mul-suc, length-append}
+use Rattle.text.specs.Widths.{recWide}
 use Rattle.own.specs.Tree.{Rec}
-use Rattle.own.specs.Words.{recWords}
+use Rattle.up.specs.Ways.{waysUp, rows}
+use Rattle.up.specs.Laws.{sevens-many}
 use Rattle.lines.specs.Form.{line_of, wide, line-wide}
 
 -- "kind (2 upper-case hexadecimal digits), start, end (4 each), low, high (8 each), size (4)"
@@ -16,48 +18,50 @@ placeDigits = 4
 abbrev pub halfDigits : ℕ
 halfDigits = 8
 
--- The form of a line: kind, start, end, low, high, size.
+-- The form of a line before order 7: kind, start, end, low, high, size.
+abbrev pub sixWidths : List ℕ
+sixWidths = kindDigits ∷ placeDigits ∷ placeDigits ∷ halfDigits ∷ halfDigits ∷ placeDigits ∷ []
+
+-- "Each listing line ends with it in four more digits after a space" (document 02, order 7): a field for each word of a record, the way up as the last.
 abbrev pub widths : List ℕ
-widths = kindDigits ∷ placeDigits ∷ placeDigits ∷ halfDigits ∷ halfDigits ∷ placeDigits ∷ []
+widths = sixWidths ++ (placeDigits ∷ [])
 
--- So many fields: the first words of a record, in their order.
-abbrev pub fieldCount : ℕ
-fieldCount = 6
-
-pub fields-counted : length widths ≡ fieldCount
+pub fields-counted : length widths ≡ recWide
 fields-counted = refl
 
--- How many bytes a line has.
+-- How many bytes a line has, in either form.
 abbrev pub lineBytes : ℕ
 lineBytes = wide widths
 
--- The numbers of a record, in the order of its words.
-abbrev pub fields : Rec → List ℕ
-fields r = recWords (r ∷ [])
+abbrev pub sixBytes : ℕ
+sixBytes = wide sixWidths
 
--- "one line a record", in any form
-unfoldable pub lines_of : List ℕ → List Rec → List ℕ
-lines_of ws [] = []
-lines_of ws (r ∷ rs) = line_of ws (fields r) ++ lines_of ws rs
+-- "36 times the lines", and now "41 bytes in all": the widths come to the papers' figures.
+pub six-bytes : sixBytes ≡ 36
+six-bytes = refl
 
--- and in the form of the listing.
-abbrev pub lines : List Rec → List ℕ
-lines rs = lines_of widths rs
-
--- "36 times the lines": the widths come to the paper's figure.
-pub line-bytes : lineBytes ≡ 36
+pub line-bytes : lineBytes ≡ 41
 line-bytes = refl
 
+-- A line for each list of numbers, in any form;
+unfoldable pub lines_of : List ℕ → List (List ℕ) → List ℕ
+lines_of ws [] = []
+lines_of ws (v ∷ vs) = line_of ws v ++ lines_of ws vs
+
+-- "one line a record", its words as numbers.
+abbrev pub lines : List Rec → List ℕ
+lines rs = lines_of widths (rows rs)
+
 -- The bytes of lines, in any form,
-pub lines-wide : (ws : List ℕ) (rs : List Rec) → length (lines_of ws rs) ≡ wide ws * length rs
+pub lines-wide : (ws : List ℕ) (vs : List (List ℕ)) → length (lines_of ws vs) ≡ wide ws * length vs
 unfolding lines_of
 lines-wide ws [] = sym (mul-zero (wide ws))
-lines-wide ws (r ∷ rs) =
-    length-append (line_of ws (fields r)) (lines_of ws rs)
-    ∙ ap₂ ◌+◌ (line-wide ws (fields r)) (lines-wide ws rs)
-    ∙ add_comm (wide ws) (wide ws * length rs)
-    ∙ sym (mul-suc (wide ws) (length rs))
+lines-wide ws (v ∷ vs) =
+    length-append (line_of ws v) (lines_of ws vs)
+    ∙ ap₂ ◌+◌ (line-wide ws v) (lines-wide ws vs)
+    ∙ add_comm (wide ws) (wide ws * length vs)
+    ∙ sym (mul-suc (wide ws) (length vs))
 
 -- and in that of the listing.
 pub lines-length : (rs : List Rec) → length (lines rs) ≡ lineBytes * length rs
-lines-length rs = lines-wide widths rs
+lines-length rs = lines-wide widths (rows rs) ∙ ap (λ (n : ℕ). lineBytes * n) (sevens-many (waysUp rs) rs)

@@ -1,10 +1,10 @@
 -- Lines in a lent buffer (document 01, "The listing program"): "it gets the bytes used, 36 times the lines, the rest zero. It gets 0, all bytes
--- zero, only when the lines do not fit."
+-- zero, only when the lines do not fit." A line has 41 bytes now (document 02, order 7).
 -- Assumes nothing.
 use Rattle.std.specs.Prelude.{cond, List, ◌++◌, ℕ, ◌-◌, ◌/◌, min, ltb, length, replicate}
 use Rattle.text.specs.Widths.{recWide}
-use Rattle.own.specs.Words.{recs}
-use Rattle.lines.specs.Lines.{lines}
+use Rattle.up.specs.Ways.{rowsIn}
+use Rattle.lines.specs.Lines.{widths, lines_of}
 
 -- A text in a buffer of so many bytes: as many bytes as it has, or 0 if it does not fit;
 abbrev pub used : List ℕ → ℕ → ℕ
@@ -20,4 +20,4 @@ held words n = min n (length words / recWide)
 
 -- The lines of the first n records of a tree buffer.
 unfoldable pub linesIn : List ℕ → ℕ → List ℕ
-linesIn words n = lines (recs (held words n) words)
+linesIn words n = lines_of widths (rowsIn (held words n) words)

@@ -8,15 +8,15 @@ mod write;
 
 pub use write::after;
 
-// The digits of a kind, of a start, an end or a size, and of half a 64-bit number.
+// The digits of a kind, of a start, an end, a size or a way up, and of half a 64-bit number.
 const KIND_DIGITS: usize = 2;
 
-const PLACE_DIGITS: usize = 4;
+pub const PLACE_DIGITS: usize = 4;
 
 const HALF_DIGITS: usize = 8;
 
-// The form of a line, by its fields: kind, start, end, low, high, size.
-pub const FIELDS: usize = 6;
+// The form of a line, by its fields: kind, start, end, low, high, size and the way up.
+pub const FIELDS: usize = 7;
 
 pub const WIDTHS: [usize; FIELDS] = [
     KIND_DIGITS,
@@ -25,10 +25,16 @@ pub const WIDTHS: [usize; FIELDS] = [
     HALF_DIGITS,
     HALF_DIGITS,
     PLACE_DIGITS,
+    PLACE_DIGITS,
 ];
 
 // How many bytes a line has: all digits, and one byte after each field.
-pub const LINE_BYTES: usize = KIND_DIGITS + 3 * PLACE_DIGITS + 2 * HALF_DIGITS + FIELDS;
+pub const LINE_BYTES: usize = KIND_DIGITS + 4 * PLACE_DIGITS + 2 * HALF_DIGITS + FIELDS;
+
+// The older form has all fields but the last, and so many bytes a line.
+pub const SIX_FIELDS: usize = FIELDS - 1;
+
+pub const SIX_BYTES: usize = LINE_BYTES - PLACE_DIGITS - 1;
 
 // How many places the digits of a place tell apart.
 pub const PLACES: usize = 1 << (4 * PLACE_DIGITS);

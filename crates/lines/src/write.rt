@@ -2,10 +2,10 @@
 ghost use Rattle.std.specs.Prelude.{◌≡◌, ◌+◌, ◌*◌, ◌%◌, ◌≤◌, length, get_or, drop};
 ghost use Rattle.std.proofs.lemmas.List.Edits.{sets};
 ghost use Rattle.text.specs.Widths.{recWide};
-ghost use Rattle.own.specs.Words.{recs};
+ghost use Rattle.up.specs.Ways.{rowsIn};
 ghost use Rattle.lines.specs.Hex as spec;
 ghost use Rattle.lines.specs.Form as form;
-ghost use Rattle.lines.specs.Lines.{fieldCount, lines_of};
+ghost use Rattle.lines.specs.Lines.{lines_of};
 
 // The upper-case hexadecimal digits. They are held once and lent on, since a constant that is read is laid out anew at each read.
 const DIGITS: [u8; 16] = *b"0123456789ABCDEF";
@@ -69,11 +69,11 @@ fn line(
 
 // Writes the lines of the first records of a tree buffer, in this form, and returns where they end.
 pub(crate) fn lines(widths: &[usize], out: &mut [u8], tree: &[u32], records: usize) -> usize
-    requires widths_len_bound { length widths.now ≤ fieldCount }
+    requires widths_len_bound { length widths.now ≤ recWide }
     requires records_in_bounds { form.wide widths.now * records ≤ length out.old }
     requires records_in_bounds_2 { recWide * records ≤ length tree.now }
     ensures end { result ≡ form.wide widths.now * records }
-    ensures bytes { out.new ≡ sets out.old 0 (lines_of widths.now (recs records tree.now)) }
+    ensures bytes { out.new ≡ sets out.old 0 (lines_of widths.now (rowsIn records tree.now)) }
 {
     let digits = DIGITS;
     let mut p = 0;

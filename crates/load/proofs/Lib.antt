@@ -8,4 +8,5 @@ pub mod Told
 pub mod WalkLaws
 pub mod Walking
 pub mod WalkLines
+pub mod WaysLaws
 pub mod WriteLaws

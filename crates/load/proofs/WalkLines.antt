@@ -43,7 +43,7 @@ module _ (ws text : List ℕ) {step : ℕ} (f : LineForm ws step) where
   pub read_is : (i : ℕ) → i < length (recordsIn ws text) → {c : Record} → asRec c ≡ recOf (values_of ws (drop (step * i) text)) → asRec c ≡ get_or (recordsIn ws text) i blank
   read_is i h e =
       let n = records-long ws text in
-      e ∙ ap (λ (k : ℕ). recOf (values_of ws (drop k text))) (ap (λ (k : ℕ). k * i) f.bytes) ∙ sym (record-at ws f.full text i (omega arith))
+      e ∙ ap (λ (k : ℕ). recOf (values_of ws (drop k text))) (ap (λ (k : ℕ). k * i) f.bytes) ∙ sym (record-at ws text i (omega arith))
 
   -- there are no more records than bytes
   pub in-listing : (j n : ℕ) → j + n ≤ length (recordsIn ws text) → j + n ≤ length text

@@ -1,16 +1,19 @@
 -- What the loops keep that write the numbers of a line, and of lines.
 -- Assumes nothing.
-use mathlib.Core.List.{List}
-use mathlib.Core.Path.{◌≡◌, sym, ap, ◌∙◌}
-use Prim.Native.Nat.{ℕ, suc, ◌+◌, ◌-◌, ◌*◌, ◌<◌, ◌≤◌}
-use native.Mathlib.Omega.{arith}
-use native.Mathlib.Nat.{mul-suc, mul-le-mul_left}
-use lib.ListN.{length, get_or, set, drop, length-set, drop_of_length-le}
-use lib.Seq.{sets, length-sets, drop-drop}
+use Rattle.std.specs.Prelude.{List, [], ◌∷◌, ◌++◌, map, ◌≡◌, refl, ℕ, zero, suc, ◌+◌, ◌*◌, ◌<◌, ◌≤◌, length, get_or, set, take, drop}
+use Rattle.std.proofs.Common.{sym, ap, ◌∙◌, subst, arith, append-nil, append_assoc, mul-zero, mul-suc, length-set, length-take-le, take-append-drop, drop_of_length-le, drop-drop}
+use Rattle.std.proofs.Math.Nat.{mul-le-mul_left}
+use Rattle.std.proofs.lemmas.List.{map-append}
+use Rattle.std.proofs.Math.Seq.{length-sets}
+use Rattle.std.proofs.lemmas.List.Edits.{sets, sets-eq}
+use Rattle.text.specs.Widths.{recWide}
+use Rattle.own.specs.Tree.{Rec}
+use Rattle.own.specs.Words.{recs}
 use Rattle.lines.specs.Form.{wide}
-use Rattle.text.specs.Sets.{sets-append}
-use Rattle.load.specs.listing.Read.{number_of, values_of, valuesIn}
-use Rattle.load.specs.listing.LineLaws.{values-long}
+use Rattle.load.specs.listing.LineForm.{sixFields, LineForm}
+use Rattle.load.specs.listing.Read.{number_of, values_of, rowsFrom, recOf}
+use Rattle.load.specs.listing.LineLaws.{wide-front}
+use Rattle.load.specs.listing.RecordLaws.{record-by-six, six-long}
 use Rattle.load.proofs.LineLaws.{next-width}
 
 -- What the loop of `values` keeps: the fields that are left, from p on, would complete the numbers of the line.
@@ -44,48 +47,81 @@ module _ {o ws text : List ℕ} {at w : ℕ} {l : List ℕ} {p k : ℕ} (x : Fil
   unfolding values_of
   filling-end h = ap (λ (d : List ℕ). sets l (w + k) (values_of d (drop p text))) (sym (drop_of_length-le ws h)) ∙ x.left
 
--- What the loop of `records` keeps: the lines that are left, from p on, would complete the numbers of all.
-pub record Writing (o ws text : List ℕ) (n : ℕ) (l : List ℕ) (p w i : ℕ) : Type 0 where
+-- The first records of a buffer are those of its first words, and those behind them.
+recs-split : (i k m : ℕ) (a b : List ℕ) → m ≡ i + k → length a ≡ recWide * i → recs m (a ++ b) ≡ recs i a ++ recs k b
+recs-split zero k m [] b e h = let z : m ≡ k = omega arith in ap (λ (n : ℕ). recs n b) z
+recs-split zero k m (c ∷ a) b e h = absurd (omega arith)
+recs-split (suc i) k zero a b e h = absurd (omega arith)
+recs-split (suc i) k (suc m) [] b e h = absurd (omega arith)
+recs-split (suc i) k (suc m) (c₁ ∷ []) b e h = absurd (omega arith)
+recs-split (suc i) k (suc m) (c₁ ∷ c₂ ∷ []) b e h = absurd (omega arith)
+recs-split (suc i) k (suc m) (c₁ ∷ c₂ ∷ c₃ ∷ []) b e h = absurd (omega arith)
+recs-split (suc i) k (suc m) (c₁ ∷ c₂ ∷ c₃ ∷ c₄ ∷ []) b e h = absurd (omega arith)
+recs-split (suc i) k (suc m) (c₁ ∷ c₂ ∷ c₃ ∷ c₄ ∷ c₅ ∷ []) b e h = absurd (omega arith)
+recs-split (suc i) k (suc m) (c₁ ∷ c₂ ∷ c₃ ∷ c₄ ∷ c₅ ∷ c₆ ∷ []) b e h = absurd (omega arith)
+recs-split (suc i) k (suc m) (c₁ ∷ c₂ ∷ c₃ ∷ c₄ ∷ c₅ ∷ c₆ ∷ c₇ ∷ a) b e h =
+    ap (λ (l : List Rec). record { kind = c₁; start = c₂; stop = c₃; low = c₄; high = c₅; size = c₆ } ∷ l) (recs-split i k m a b (omega arith) (omega arith))
+
+recs-front : (i : ℕ) (l : List ℕ) → recWide * i ≤ length l → recs i (take (recWide * i) l) ≡ recs i l
+recs-front i l h =
+    let a = take (recWide * i) l in
+    let z : i ≡ i + 0 = omega arith in
+    sym (append-nil (recs i a)) ∙ sym (recs-split i 0 i a (drop (recWide * i) l) z (length-take-le (recWide * i) l h)) ∙ ap (recs i) (take-append-drop (recWide * i) l)
+
+-- The lines behind the first i, one more of them.
+rows-last : (ws : List ℕ) (i : ℕ) (bs : List ℕ) → rowsFrom ws (suc i) bs ≡ rowsFrom ws i bs ++ (values_of ws (drop (wide ws * i) bs) ∷ [])
+unfolding rowsFrom
+rows-last ws zero bs = ap (λ (k : ℕ). values_of ws (drop k bs) ∷ []) (sym (mul-zero (wide ws)))
+rows-last ws (suc i) bs =
+    let e : wide ws + wide ws * i ≡ wide ws * suc i = omega (arith, mul-suc (wide ws) i) in
+    ap (λ (l : List (List ℕ)). values_of ws bs ∷ l)
+    (rows-last ws i (drop (wide ws) bs)
+    ∙ ap (λ (l : List ℕ). rowsFrom ws i (drop (wide ws) bs) ++ (values_of ws l ∷ [])) (drop-drop (wide ws * i) (wide ws) bs ∙ ap (λ (k : ℕ). drop k bs) e))
+
+-- What the loop of `records` keeps: the first i records are those of the first i lines.
+pub record Writing (ws text : List ℕ) (n : ℕ) (o l : List ℕ) (i : ℕ) : Type 0 where
   pub within : i ≤ n
   pub long : length l ≡ length o
-  pub from : p ≡ wide ws * i
-  pub to : w ≡ length ws * i
-  pub left : sets l w (valuesIn ws (n - i) (drop p text)) ≡ sets o 0 (valuesIn ws n text)
+  pub so_far : recs i l ≡ map recOf (rowsFrom ws i text)
 
-module _ {o ws text : List ℕ} {n : ℕ} {l : List ℕ} {p w i : ℕ} (x : Writing o ws text n l p w i) where
-  -- one line more
-  next : (a q : ℕ) → q ≡ a * i → q + a ≡ a * (i + 1)
-  next a q e = let s : i + 1 ≡ suc i = omega arith in ap (λ (m : ℕ). m + a) e ∙ sym (mul-suc a i) ∙ ap (λ (m : ℕ). a * m) (sym s)
+pub writing-start : (ws text : List ℕ) (n : ℕ) (o : List ℕ) → Writing ws text n o o 0
+unfolding rowsFrom
+writing-start ws text n o = record { within = omega arith; long = refl; so_far = refl }
 
-  -- the next line is inside the text, and its numbers inside the words
-  module _ (h : i < n) where
-    fits : (a q r : ℕ) → q ≡ a * i → a * n ≤ r → q + a ≤ r
-    fits a q r e k = let m : a * (i + 1) ≤ a * n = mul-le-mul_left a (omega arith) in omega (arith, next a q e)
+-- The next line is inside the text, and its record inside the words.
+pub fits-in : (a i n r : ℕ) → i < n → a * n ≤ r → a * i + a ≤ r
+fits-in a i n r h k = let m : a * suc i ≤ a * n = mul-le-mul_left a (omega arith) in omega (arith, mul-suc a i)
 
-    pub line-fits : {step : ℕ} → step ≡ wide ws → step * n ≤ length text → p + wide ws ≤ length text
-    line-fits e k = fits (wide ws) p (length text) x.from (omega (arith, ap (λ (m : ℕ). m * n) e))
+module _ {ws text : List ℕ} {n : ℕ} {o l : List ℕ} {i : ℕ} (x : Writing ws text n o l i) where
+  pub line-fits : {step : ℕ} → LineForm ws step → i < n → step * n ≤ length text → step * i + wide (take sixFields ws) ≤ length text
+  line-fits {step} f h k =
+      let b = f.bytes in
+      omega (arith, fits-in step i n (length text) h k, wide-front sixFields ws)
 
-    pub words-fit : length ws * n ≤ length o → w + length ws ≤ length l
-    words-fit k = omega (arith, fits (length ws) w (length o) x.to k, x.long)
+  pub record_fits : i < n → recWide * n ≤ length o → recWide * i + recWide ≤ length l
+  record_fits h k = omega (arith, x.long)
 
-    pub writing_more : {l₁ : List ℕ} {step : ℕ} → step ≡ wide ws → l₁ ≡ sets l w (values_of ws (drop p text)) → Writing o ws text n l₁ (p + step) (w + length ws) (i + 1)
-    unfolding valuesIn
-    writing_more {l₁} {step} e d =
-        let vs = values_of ws (drop p text) in
-        let m : suc (n - (i + 1)) ≡ n - i = omega arith in
-        record {
-          within = omega arith;
-          long = ap length d ∙ length-sets l w vs ∙ x.long;
-          from = ap (λ (a : ℕ). p + a) e ∙ next (wide ws) p x.from;
-          to = next (length ws) w x.to;
-          left = (λ j. sets (d j) (w + sym (values-long ws (drop p text)) j) (valuesIn ws (n - (i + 1)) ((ap (λ (a : ℕ). drop (p + a) text) e ∙ sym (drop-drop (wide ws) p text)) j)))
-              ∙ sym (sets-append vs (valuesIn ws (n - (i + 1)) (drop (wide ws) (drop p text))) l w)
-              ∙ ap (λ (f : ℕ). sets l w (valuesIn ws f (drop p text))) m
-              ∙ x.left;
-        }
+  pub writing-more : {l₁ : List ℕ} {step : ℕ} → LineForm ws step → i < n → recWide * n ≤ length o
+      → l₁ ≡ sets l (recWide * i) (values_of (take sixFields ws) (drop (step * i) text)) → Writing ws text n o l₁ (i + 1)
+  writing-more {l₁} {step} f h k d =
+      let bs = drop (step * i) text in
+      let vs = values_of (take sixFields ws) bs in
+      let long = six-long ws bs f.full in
+      let room = record_fits h k in
+      let z = drop (recWide * i + length vs) l in
+      let a = take (recWide * i) l in
+      let e : bs ≡ drop (wide ws * i) text = ap (λ (w : ℕ). drop (w * i) text) f.bytes in
+      let s : suc i ≡ i + 1 = omega arith in
+      record {
+        within = omega arith;
+        long = ap length d ∙ length-sets l (recWide * i) vs ∙ x.long;
+        so_far = ap (recs (i + 1)) (d ∙ sets-eq vs l (recWide * i) (omega (arith, long)) ∙ append_assoc a vs z)
+            ∙ recs-split i 1 (i + 1) a (vs ++ z) refl (length-take-le (recWide * i) l (omega arith))
+            ∙ (λ j. recs-front i l (omega arith) j ++ (record-by-six ws bs z f.full j ∷ []))
+            ∙ (λ j. x.so_far j ++ (recOf (values_of ws (e j)) ∷ []))
+            ∙ sym (map-append recOf (rowsFrom ws i text) (values_of ws (drop (wide ws * i) text) ∷ []))
+            ∙ ap (map recOf) (sym (rows-last ws i text) ∙ ap (λ (m : ℕ). rowsFrom ws m text) s);
+      }
 
-  pub writing-end : n ≤ i → l ≡ sets o 0 (valuesIn ws n text)
-  unfolding valuesIn
-  writing-end h =
-      let e : 0 ≡ n - i = omega arith in
-      ap (λ (f : ℕ). sets l w (valuesIn ws f (drop p text))) e ∙ x.left
+  pub writing-end : n ≤ i → recs n l ≡ map recOf (rowsFrom ws n text)
+  writing-end h = let w = x.within in let e : i ≡ n = omega arith in subst (λ (m : ℕ). recs m l ≡ map recOf (rowsFrom ws m text)) e x.so_far

@@ -1,5 +1,5 @@
--- The records of right trees fit the digits of a line, where their places and their number do: kinds are few, and low and high are halves of 32 bits or
--- count children.
+-- The records of right trees, each with its way up, fit the digits of a line, where their places and their number do: kinds are few, low and high are
+-- halves of 32 bits or count children, and a way up is no more than the number of its record.
 -- Assumes nothing.
 use Rattle.std.specs.Prelude.{Bool, true, false, ◌&&◌, cond, List, [], ◌∷◌, map, ℕ, suc, ◌+◌, ◌<◌, ◌≤◌, T, eqb, length, get_or}
 use Rattle.std.proofs.Common.{sym, subst, arith}
@@ -19,7 +19,8 @@ use Rattle.own.specs.Places.{bounded}
 use Rattle.own.specs.Owners.{no_node, kept}
 use Rattle.own.specs.Kinds as kind
 use Rattle.lines.specs.Hex.{power}
-use Rattle.lines.specs.Lines.{kindDigits, placeDigits, widths, fields}
+use Rattle.up.specs.Ways.{six, rows}
+use Rattle.lines.specs.Lines.{kindDigits, placeDigits, sixWidths, widths}
 use Rattle.kinds.specs.Families as family
 use Rattle.kinds.specs.Shape.{halfRange, number}
 use Rattle.kinds.specs.Fields as field
@@ -32,6 +33,7 @@ use Rattle.load.specs.Function.{Fits, sizes, Right}
 use Rattle.load.specs.check.Parts.{Counts}
 use Rattle.load.specs.check.Stands.{Stands}
 use Rattle.load.specs.listing.InForm.{Fit, Fitting}
+use Rattle.load.specs.FormLaws.{rows-fit}
 use Rattle.load.specs.Handed.{stands}
 
 -- Fields that name no number beyond a half.
@@ -117,30 +119,37 @@ right-small r cs o some few =
 abbrev Early : Rec → Type 0
 Early r = (r.start < power placeDigits) × (r.stop < power placeDigits)
 
--- A record that stands in a list fits, if its place and the list do.
-record-fits : (rs : List Rec) (j : ℕ) → Stands rs j → Early (get_or rs j blank) → length rs < power placeDigits → Fit widths (fields (get_or rs j blank))
+-- The first six numbers of a record that stands in a list fit, if its place and the list do.
+record-fits : (rs : List Rec) (j : ℕ) → Stands rs j → Early (get_or rs j blank) → length rs < power placeDigits → Fit sixWidths (six (get_or rs j blank))
 record-fits rs j s (b, e) few =
     let r = get_or rs j blank in
     let m = s.room in
     let (k, l, i) = right-small r (children rs j) s.right s.some (omega arith) in
     (k, (b, (e, (l, (i, (omega arith, tt))))))
 
--- The records of right trees fit, where the last token ends early and there are few.
-pub fitting : (ns : List Node) → kinds.Right ns → end 0 (tokens ns) < power placeDigits → length (tokens ns) < power placeDigits → Fitting widths (records ns)
-fitting ns ok e few = all_from (records ns) blank each
-  where
-    each : (j : ℕ) → j < length (records ns) → Fit widths (fields (get_or (records ns) j blank))
-    each j lt =
-        let fine = kinds.fine ns ok in
-        let in_all : j < length (all ns) = omega (arith, length-map (all ns) recordOf) in
-        let b = all-at j no_node in_all (all-concat (bounded (roots ns) 0 ok.ordered fine.marked)) in
-        let early : Early (get_or (records ns) j blank) = subst Early (sym ((kept ns fine).stands j lt)) (omega (arith, b.some, b.high), omega (arith, b.high)) in
-        record-fits (records ns) j (stands ns ok j lt) early (omega (arith, (kinds.law-3 ns ok).few))
+module _ (ns : List Node) (ok : kinds.Right ns) (e : end 0 (tokens ns) < power placeDigits) (few : length (tokens ns) < power placeDigits) where
+  records-few : length (records ns) < power placeDigits
+  records-few = omega (arith, (kinds.law-3 ns ok).few)
+
+  sixes-fit : All (λ r. Fit sixWidths (six r)) (records ns)
+  sixes-fit = all_from (records ns) blank each
+    where
+      each : (j : ℕ) → j < length (records ns) → Fit sixWidths (six (get_or (records ns) j blank))
+      each j lt =
+          let fine = kinds.fine ns ok in
+          let in_all : j < length (all ns) = omega (arith, length-map (all ns) recordOf) in
+          let b = all-at j no_node in_all (all-concat (bounded (roots ns) 0 ok.ordered fine.marked)) in
+          let early : Early (get_or (records ns) j blank) = subst Early (sym ((kept ns fine).stands j lt)) (omega (arith, b.some, b.high), omega (arith, b.high)) in
+          record-fits (records ns) j (stands ns ok j lt) early records-few
+
+  -- The records of right trees fit, where the last token ends early and there are few.
+  pub fitting : Fitting widths (rows (records ns))
+  fitting = rows-fit (records ns) sixes-fit records-few
 
 -- The records of a file of right trees fit, where its end does and there are fewer tokens.
 pub file-fitting : (ns : List Node) (len : ℕ) → kinds.Right ns → end 0 (tokens ns) ≤ len → len < power placeDigits → suc (length (tokens ns)) < power placeDigits
-    → Fitting widths (filed len (records ns))
+    → Fitting widths (rows (filed len (records ns)))
 file-fitting ns len ok within e few =
-    let top : Fit widths (fields (program len (records ns))) =
-    (omega arith, (omega arith, (e, (omega arith, (omega arith, (omega (arith, (kinds.law-3 ns ok).few), tt)))))) in
-    top & fitting ns ok (omega arith) (omega arith)
+    let m = (kinds.law-3 ns ok).few in
+    let top : Fit sixWidths (six (program len (records ns))) = (omega arith, (omega arith, (e, (omega arith, (omega arith, (omega (arith, m), tt)))))) in
+    rows-fit (filed len (records ns)) (top & sixes-fit ns ok (omega arith) (omega arith)) (omega (arith, m))

@@ -1,4 +1,4 @@
--- Listings with known results: the example of document 01, and what orders 1 and 3 say of others, as one list and one proof by computation. Refusals
+-- Listings with known results: the example of document 01, and what orders 1, 3 and 7 say of others, as one list and one proof by computation. Refusals
 -- are in the papers' figures, so that the names for them are tested too.
 -- Assumes nothing.
 use Rattle.std.specs.Prelude.{List, [], ◌∷◌, ◌++◌, map, ◌≡◌, refl, ℕ, suc, take, drop}
@@ -6,6 +6,7 @@ use Prim.Native.String.{String}
 use Rattle.text.specs.Answers.{Answer, accepted, refused}
 use Rattle.text.specs.Ascii.{ascii, asciiFrom}
 use Rattle.text.specs.Lists.{has, all, some, count, span}
+use Rattle.text.specs.Same.{same}
 use Rattle.own.specs.Tree.{partner, canonical}
 use Rattle.lines.specs.Form.{LF}
 use Rattle.lines.specs.Hex.{upperHex}
@@ -17,8 +18,8 @@ use Rattle.kinds.specs.Rules.{forms, allForms}
 use Rattle.kinds.specs.Decide.{formsFor}
 use Rattle.load.specs.Bare.{barePart, bareShape}
 use Rattle.load.specs.FunctionTest.{fits, inside, placed, right, is_whole}
-use Rattle.load.specs.listing.Read.{place_in, digitOf, areDigits, number_of, inForm, values_of, badFrom, badLine, valuesIn, recordsIn}
-use Rattle.load.specs.Load.{load_of}
+use Rattle.load.specs.listing.Read.{place_in, digitOf, areDigits, number_of, inForm, values_of, badFrom, badLine, rowsFrom, linesRead}
+use Rattle.load.specs.Load.{ways_right, load_as, load_of}
 
 -- A listing, a buffer of so many words, and the answer.
 record Case : Type 0 where
@@ -37,6 +38,19 @@ whole ls n a = record { text = ended ls ""; room = n; result = a }
 -- Behind these lines bytes that are no line.
 abbrev behind : List String → String → Answer → Case
 behind ls s a = record { text = ended ls s; room = 60; result = a }
+
+-- Lines that end with these ways up.
+abbrev climbing : List String → List String → List ℕ
+climbing [] us = []
+climbing (l ∷ ls) [] = []
+climbing (l ∷ ls) (u ∷ us) = ascii l ++ (ascii u ++ (LF ∷ climbing ls us))
+
+abbrev higher : List String → List String → ℕ → Answer → Case
+higher ls us n a = record { text = climbing ls us; room = n; result = a }
+
+-- Lines with ways up, and behind them others.
+abbrev mixed : List String → List String → List String → Answer → Case
+mixed ls us ms a = record { text = climbing ls us ++ ended ms ""; room = 63; result = a }
 
 -- Another line in the place of line i, from 0.
 abbrev put : ℕ → String → List String → List String
@@ -84,58 +98,81 @@ file =
     ∷ "12 0010 0012 00000000 00000000 0001"
     ∷ []
 
+-- How many records back the parent of each begins: of the example, and of the file.
+abbrev paperUps : List String
+paperUps = " 0000" ∷ " 0001" ∷ " 0002" ∷ " 0001" ∷ " 0001" ∷ " 0002" ∷ " 0001" ∷ " 0004" ∷ " 0001" ∷ []
+
+abbrev fileUps : List String
+fileUps = " 0000" ∷ " 0001" ∷ " 0001" ∷ " 0002" ∷ " 0004" ∷ " 0001" ∷ " 0002" ∷ []
+
 abbrev typeItem : List String
 typeItem = take 3 (drop 1 file)
 
 abbrev known : List Case
 known =
-    whole paper 54 (accepted 0 9)
-    ∷ whole folded 60 (accepted 0 7)
+    whole paper 63 (accepted 0 9)
+    ∷ whole folded 63 (accepted 0 7)
     -- a file, its items in either order, and files without any
-    ∷ whole file 42 (accepted 0 7)
-    ∷ whole (take 1 file ++ (drop 4 file ++ typeItem)) 60 (accepted 0 7)
-    ∷ whole ("29 0000 0000 00000000 00000000 0001" ∷ []) 6 (accepted 0 1)
-    ∷ whole ("29 0000 4000 00000000 00000000 0001" ∷ []) 60 (accepted 0 1)
+    ∷ whole file 49 (accepted 0 7)
+    ∷ whole (take 1 file ++ (drop 4 file ++ typeItem)) 63 (accepted 0 7)
+    ∷ whole ("29 0000 0000 00000000 00000000 0001" ∷ []) 7 (accepted 0 1)
+    ∷ whole ("29 0000 4000 00000000 00000000 0001" ∷ []) 63 (accepted 0 1)
+    -- lines of 41 bytes
+    ∷ higher paper paperUps 63 (accepted 0 9)
+    ∷ higher file fileUps 49 (accepted 0 7)
+    -- 16: a line of another form than the first, in either order; a way up that is cut, or has a small letter
+    ∷ mixed (take 1 file) fileUps (drop 1 file) (refused 16 2)
+    ∷ mixed (take 4 file) fileUps (drop 4 file) (refused 16 5)
+    ∷ record { text = ended (take 4 file) "" ++ climbing (drop 4 file) (drop 4 fileUps); room = 63; result = refused 16 5 }
+    ∷ higher file (put 6 " 002" fileUps) 63 (refused 16 7)
+    ∷ higher file (put 6 " 000a" fileUps) 63 (refused 16 7)
+    -- 17: a wrong parent word: the parent's parent, a brother, and again; a top with 1, also where there is no room
+    ∷ higher paper (put 7 " 0005" paperUps) 63 (refused 17 0)
+    ∷ higher file (put 4 " 0003" fileUps) 63 (refused 17 0)
+    ∷ higher file (put 6 " 0001" fileUps) 63 (refused 17 0)
+    ∷ higher file (put 0 " 0001" fileUps) 63 (refused 17 0)
+    ∷ higher file (put 0 " 0001" fileUps) 48 (refused 17 0)
+    ∷ higher file fileUps 48 (refused 18 0)
     -- 16: a small letter; a line that is cut, or has no LF; a byte over
-    ∷ whole (put 4 "1d 000D 000E 00000000 00000000 0001" paper) 60 (refused 16 5)
+    ∷ whole (put 4 "1d 000D 000E 00000000 00000000 0001" paper) 63 (refused 16 5)
     ∷ behind (take 8 paper) "18 0015 0016 00000000 000" (refused 16 9)
     ∷ behind (take 8 paper) "18 0015 0016 00000000 00000000 0001" (refused 16 9)
     ∷ behind paper "0" (refused 16 10)
     -- 17: no line; a refusal's; two functions;
-    ∷ whole [] 60 (refused 17 0)
-    ∷ whole ("00 001F 001F 00000008 00000000 0001" ∷ []) 60 (refused 17 0)
-    ∷ whole (paper ++ paper) 120 (refused 17 0)
+    ∷ whole [] 63 (refused 17 0)
+    ∷ whole ("00 001F 001F 00000008 00000000 0001" ∷ []) 63 (refused 17 0)
+    ∷ whole (paper ++ paper) 126 (refused 17 0)
     -- arms not exchanged, arms that are no partners, a parameter that is not there, fold's bound;
-    ∷ whole unexchanged 60 (refused 17 0)
-    ∷ whole (put 7 "25 000F 0017 00000004 00000000 0002" paper) 60 (refused 17 0)
-    ∷ whole (put 0 "01 0000 0022 00000000 00000001 0009" paper) 60 (refused 17 0)
-    ∷ whole (put 5 "28 0010 0011 00000003 00000000 0001" folded) 60 (refused 17 0)
+    ∷ whole unexchanged 63 (refused 17 0)
+    ∷ whole (put 7 "25 000F 0017 00000004 00000000 0002" paper) 63 (refused 17 0)
+    ∷ whole (put 0 "01 0000 0022 00000000 00000001 0009" paper) 63 (refused 17 0)
+    ∷ whole (put 5 "28 0010 0011 00000003 00000000 0001" folded) 63 (refused 17 0)
     -- a size one too large, a place without bytes, a child that begins before its parent, one that ends after it
-    ∷ whole (put 2 "12 0006 0022 00000001 00000000 0008" paper) 60 (refused 17 0)
-    ∷ whole (put 6 "18 001E 001E 00000000 00000000 0001" paper) 60 (refused 17 0)
-    ∷ whole (put 8 "18 000E 0016 00000000 00000000 0001" paper) 60 (refused 17 0)
-    ∷ whole (put 8 "18 0015 0018 00000000 00000000 0001" paper) 60 (refused 17 0)
+    ∷ whole (put 2 "12 0006 0022 00000001 00000000 0008" paper) 63 (refused 17 0)
+    ∷ whole (put 6 "18 001E 001E 00000000 00000000 0001" paper) 63 (refused 17 0)
+    ∷ whole (put 8 "18 000E 0016 00000000 00000000 0001" paper) 63 (refused 17 0)
+    ∷ whole (put 8 "18 0015 0018 00000000 00000000 0001" paper) 63 (refused 17 0)
     -- a program that starts later, empty or not; a type item as the top; a program in a program, a type item in a function, a name in a program;
-    ∷ whole ("29 0001 0001 00000000 00000000 0001" ∷ []) 60 (refused 17 0)
-    ∷ whole ("29 0001 0012 00000000 00000000 0004" ∷ drop 4 file) 60 (refused 17 0)
-    ∷ whole typeItem 60 (refused 17 0)
-    ∷ whole ("29 0000 0012 00000000 00000000 0008" ∷ file) 60 (refused 17 0)
-    ∷ whole ("01 0000 0012 00000000 00000000 0006" ∷ "02 000D 000E 00000000 00000000 0001" ∷ (typeItem ++ drop 6 file)) 60 (refused 17 0)
-    ∷ whole ("29 0000 0012 00000000 00000000 0002" ∷ "02 000D 000E 00000000 00000000 0001" ∷ []) 60 (refused 17 0)
+    ∷ whole ("29 0001 0001 00000000 00000000 0001" ∷ []) 63 (refused 17 0)
+    ∷ whole ("29 0001 0012 00000000 00000000 0004" ∷ drop 4 file) 63 (refused 17 0)
+    ∷ whole typeItem 63 (refused 17 0)
+    ∷ whole ("29 0000 0012 00000000 00000000 0008" ∷ file) 63 (refused 17 0)
+    ∷ whole ("01 0000 0012 00000000 00000000 0006" ∷ "02 000D 000E 00000000 00000000 0001" ∷ (typeItem ++ drop 6 file)) 63 (refused 17 0)
+    ∷ whole ("29 0000 0012 00000000 00000000 0002" ∷ "02 000D 000E 00000000 00000000 0001" ∷ []) 63 (refused 17 0)
     -- a program with a low, one that ends before its items, a type item without bytes
-    ∷ whole (put 0 "29 0000 0012 00000001 00000000 0007" file) 60 (refused 17 0)
-    ∷ whole (put 0 "29 0000 0011 00000000 00000000 0007" file) 60 (refused 17 0)
-    ∷ whole ("29 0000 0000 00000000 00000000 0004" ∷ "2A 0000 0000 00000000 00000000 0003" ∷ "02 0000 0000 00000000 00000000 0001" ∷ "04 0000 0000 00000000 00000000 0001" ∷ []) 60 (refused 17 0)
+    ∷ whole (put 0 "29 0000 0012 00000001 00000000 0007" file) 63 (refused 17 0)
+    ∷ whole (put 0 "29 0000 0011 00000000 00000000 0007" file) 63 (refused 17 0)
+    ∷ whole ("29 0000 0000 00000000 00000000 0004" ∷ "2A 0000 0000 00000000 00000000 0003" ∷ "02 0000 0000 00000000 00000000 0001" ∷ "04 0000 0000 00000000 00000000 0001" ∷ []) 63 (refused 17 0)
     -- 18: a word too few; and "tested in this order"
-    ∷ whole paper 53 (refused 18 0)
-    ∷ whole file 41 (refused 18 0)
-    ∷ whole unexchanged 53 (refused 17 0)
-    ∷ whole (put 0 "1" unexchanged) 53 (refused 16 1)
+    ∷ whole paper 62 (refused 18 0)
+    ∷ whole file 48 (refused 18 0)
+    ∷ whole unexchanged 62 (refused 17 0)
+    ∷ whole (put 0 "1" unexchanged) 62 (refused 16 1)
     ∷ []
 
 -- The definitions agree with the papers.
 pub known-agree : map (λ k. load_of k.text k.room) known ≡ map (λ k. k.result) known
 unfolding ascii asciiFrom has all some count span partner canonical upperHex isBound derive.blank derive.dead derive.then derive.either derive.isMark
     derive.isPart derive.after derive.spells shape.number shape.fits counted halves holds forms allForms formsFor barePart bareShape fits inside placed right
-    is_whole place_in digitOf areDigits number_of inForm values_of badFrom badLine valuesIn recordsIn load_of
+    is_whole place_in digitOf areDigits number_of inForm values_of badFrom badLine rowsFrom linesRead same ways_right load_as
 known-agree = refl

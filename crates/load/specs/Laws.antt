@@ -1,28 +1,35 @@
--- The promise of Promised.antt is kept by `load_of` and `words_of` and leaves them no choice; from it both sentences of order 1 on writing and loading.
+-- The promise of Promised.antt is kept by `load_of` and `words_of` and leaves them no choice; from it the sentences of orders 1 and 7 on writing and
+-- loading.
 -- Assumes nothing.
-use Rattle.std.specs.Prelude.{Bool, true, false, cond, List, ◌++◌, ◌↔◌, ◌≡◌, refl, ℕ, zero, suc, ◌-◌, ◌*◌, ◌≤◌, T, ltb, length, replicate}
-use Rattle.std.proofs.Common.{sym, ap, ap₂, ◌∙◌, subst, arith}
+use Rattle.std.specs.Prelude.{Bool, true, false, cond, List, [], ◌∷◌, ◌++◌, map, ◌↔◌, ◌≡◌, refl, ℕ, zero, suc, ◌-◌, ◌*◌, ◌<◌, ◌≤◌, T, ltb, length, replicate}
+use Rattle.std.proofs.Common.{sym, ap, ap₂, ◌∙◌, subst, arith, append-nil}
 use borrow.Author.Tests.{ltb-true, ltb-false, lt-ltb, le-ltb}
 use Rattle.text.specs.Answers.{Answer, accepted, refused}
 use Rattle.text.specs.Refusals as refusal
-use Rattle.text.specs.Table.{is_true, is_false}
+use Rattle.text.specs.Table.{is_true, is_false, first-of, second-of, pair}
 use Rattle.text.specs.Widths.{recWide}
 use Rattle.own.specs.Tree.{Rec}
-use Rattle.own.specs.Words.{recs, recWords}
-use Rattle.own.specs.WordLaws.{recs-words}
-use Rattle.lines.specs.Lines.{widths, fields-counted, lines}
-use Rattle.load.specs.listing.InForm.{Fitting}
-use Rattle.load.specs.listing.Read.{badLine}
-use Rattle.load.specs.listing.ListingLaws.{Bad, lines-good, no-bad, first-bad, bad-first}
+use Rattle.own.specs.Lists.{nil}
+use Rattle.own.specs.Words.{recs}
+use Rattle.up.specs.Ways.{upWords}
+use Rattle.up.specs.Laws.{recs-up}
+use Rattle.lines.specs.Lines.{sixWidths, lines_of}
+use Rattle.load.specs.Form.{Form, older, newer, widthsOf, rowsOf, formOf}
+use Rattle.load.specs.listing.InForm.{Fitting, Begins}
+use Rattle.load.specs.listing.Read.{inForm, badLine, linesRead, recOf}
+use Rattle.load.specs.listing.RecordLaws.{begins-exactly}
+use Rattle.load.specs.listing.ListingLaws.{Bad, lines-good, no-bad, first-bad, bad-first, lines-begin}
 use Rattle.load.specs.Function.{Whole}
 use Rattle.load.specs.FunctionTest.{is_whole, whole-exactly}
-use Rattle.load.specs.Load.{recordsOf, contents, load_of, words_of}
-use Rattle.load.specs.Promised.{Lists, Loads, bad-line, not-whole, no_room, loaded}
+use Rattle.load.specs.Load.{ways_right, is_right, load_as, load_of, contents, words_of}
+use Rattle.load.specs.FormLaws.{some-fields, form-newer, form-is, rows-back, rows-many, rows-right, rows-are}
+use Rattle.load.specs.Promised.{Lines, Lists, Loads, no_form, bad-line, not-whole, no_room, loaded}
 
 -- A listing of n records that form a whole function or program, for which there is room.
 pub record Taken (text : List ℕ) (room n : ℕ) : Type 0 where
+  pub form : Form
   pub its : List Rec
-  pub lists : Lists text its
+  pub lists : Lists form text its
   pub whole : Whole its
   pub fits : recWide * length its ≤ room
   pub number : n ≡ length its
@@ -31,48 +38,139 @@ abbrev Accepts : List ℕ → ℕ → Answer → Type 0
 Accepts text room (accepted m n) = Taken text room n
 Accepts text room (refused c l) = Unit {0}
 
+-- A whole has a record at least.
+pub some-record : (rs : List Rec) → Whole rs → 0 < length rs
+some-record [] o = absurd o.top
+some-record (r ∷ rs) o = omega arith
+
+-- The numbers of lines that fit are right exactly where they are those of records that form a whole.
+records-right : (f : Form) (rs : List Rec) → Whole rs → T (is_right f (rowsOf f rs))
+records-right f rs o =
+    pair (is_whole (map recOf (rowsOf f rs))) (ways_right f (rowsOf f rs)) (subst (λ (l : List Rec). T (is_whole l)) (sym (rows-back f rs)) ((whole-exactly rs).1 o))
+    (rows-right f rs)
+
+right-records : (f : Form) (vs : List (List ℕ)) → Fitting (widthsOf f) vs → T (is_right f vs) → Whole (map recOf vs) × (vs ≡ rowsOf f (map recOf vs))
+right-records f vs h t =
+    let a = is_whole (map recOf vs) in
+    let b = ways_right f vs in
+    ((whole-exactly (map recOf vs)).0 (first-of a b t), rows-are f vs h (second-of a b t))
+
 -- The answer where no line is bad, by the two tests that are left.
-abbrev judged : List Rec → Bool → Bool → Answer
-judged rs one short = cond one (cond short (refused refusal.NoLoadRoom 0) (accepted 0 (length rs))) (refused refusal.NotWhole 0)
+abbrev judged : ℕ → Bool → Bool → Answer
+judged n right short = cond right (cond short (refused refusal.NoLoadRoom 0) (accepted 0 n)) (refused refusal.NotWhole 0)
 
 module _ (text : List ℕ) (room : ℕ) where
-  behind-bad : {i : ℕ} → Bad widths text i → (load_of text room ≡ refused refusal.BadLine (suc i)) × (words_of text room ≡ replicate room 0)
-  unfolding load_of words_of
-  behind-bad {i} b = rw (bad-first widths fields-counted b, lt-ltb 0 (suc i) (omega arith)) (refl, refl)
+  -- What a listing of this form is loaded as,
+  module _ (f : Form) (its : formOf text ≡ f) where
+    behind-bad : {i : ℕ} → Bad (widthsOf f) text i → (load_of text room ≡ refused refusal.BadLine (suc i)) × (words_of text room ≡ replicate room 0)
+    unfolding load_as words_of
+    behind-bad {i} b = rw (its, bad-first (widthsOf f) (some-fields f) b, lt-ltb 0 (suc i) (omega arith)) (refl, refl)
 
-  behind-good : {rs : List Rec} → Lists text rs → {one short : Bool} → is_whole rs ≡ one → ltb room (recWide * length rs) ≡ short
-      → (load_of text room ≡ judged rs one short) × (words_of text room ≡ contents (judged rs one short) rs room)
-  unfolding load_of words_of
-  behind-good {rs} l o s =
-      let g = lines-good widths fields-counted rs l.fitting in
-      rw (l.they-are, g.0, g.1, o, s) (refl, refl)
+    behind-good : {vs : List (List ℕ)} → Lines f text vs → {right short : Bool} → is_right f vs ≡ right → ltb room (recWide * length vs) ≡ short
+        → (load_of text room ≡ judged (length vs) right short) × (words_of text room ≡ contents (judged (length vs) right short) (map recOf vs) room)
+    unfolding load_as words_of
+    behind-good {vs} l o s =
+        let g = lines-good (widthsOf f) (some-fields f) vs l.fitting in
+        rw (its, l.they-are, g.0, g.1, o, s) (refl, refl)
+
+  -- and of which form it is: that of its lines, if there are any.
+  by_lines : (f : Form) (vs : List (List ℕ)) (rest : List ℕ) → 0 < length vs → text ≡ lines_of (widthsOf f) vs ++ rest → formOf text ≡ f
+  by_lines f vs rest h e = form-is f text (subst (λ (l : List ℕ). T (inForm (widthsOf f) l)) (sym e) (lines-begin (widthsOf f) vs rest h))
+
+  of-lines : (f : Form) (vs : List (List ℕ)) → 0 < length vs → Lines f text vs → formOf text ≡ f
+  of-lines f vs h l = by_lines f vs [] h (l.they-are ∙ sym (append-nil (lines_of (widthsOf f) vs)))
+
+  of-records : (f : Form) (rs : List Rec) → Whole rs → Lists f text rs → formOf text ≡ f
+  of-records f rs o l = let k = some-record rs o in of-lines f (rowsOf f rs) (omega (arith, rows-many f rs)) l
+
+  -- So lines of either form are refused where they are those of no whole,
+  of-wrong : (f : Form) (vs : List (List ℕ)) → Lines f text vs → ((rs : List Rec) → Whole rs → vs ≡ rowsOf f rs → ⊥)
+      → (load_of text room ≡ refused refusal.NotWhole 0) × (words_of text room ≡ replicate room 0)
+  unfolding lines_of
+  of-wrong f [] l n =
+      let g = formOf text in
+      behind-good g refl (record { fitting = nil; they-are = l.they-are }) (is_false (is_right g []) (λ t. (right-records g [] nil t).0.top)) refl
+  of-wrong f (v ∷ vs) l n =
+      let no : is_right f (v ∷ vs) ≡ false =
+      is_false (is_right f (v ∷ vs)) (λ t. let (o, e) = right-records f (v ∷ vs) l.fitting t in n (map recOf (v ∷ vs)) o e) in
+      behind-good f (of-lines f (v ∷ vs) (omega arith) l) l no refl
+
+  -- and loaded, or refused for the room, where they are.
+  of-whole : (f : Form) (rs : List Rec) → Lists f text rs → Whole rs → {short : Bool} → ltb room (recWide * length rs) ≡ short
+      → (load_of text room ≡ judged (length rs) true short) × (words_of text room ≡ contents (judged (length rs) true short) rs room)
+  of-whole f rs l o {short} s =
+      let n = rows-many f rs in
+      let yes = is_true (is_right f (rowsOf f rs)) (records-right f rs o) in
+      let g = behind-good f (of-records f rs o l) l yes (ap (λ (k : ℕ). ltb room (recWide * k)) n ∙ s) in
+      (g.0 ∙ ap (λ (k : ℕ). judged k true short) n, g.1 ∙ ap₂ (λ (k : ℕ) (l : List Rec). contents (judged k true short) l room) n (rows-back f rs))
 
   -- Each row of the promise has the answer and the words of `load_of` and `words_of`,
   pub row-only : {a : Answer} {w : List ℕ} → Loads text room a w → (load_of text room ≡ a) × (words_of text room ≡ w)
-  row-only (bad-line rs rest f e h o) = behind-bad (record { its = rs; rest = rest; fitting = f; many = refl; they-are = e; some = h; other = o })
-  row-only (not-whole rs l n) = behind-good l (is_false (is_whole rs) (λ t. n ((whole-exactly rs).0 t))) refl
-  row-only (no_room rs l o h) = behind-good l (is_true (is_whole rs) ((whole-exactly rs).1 o)) (lt-ltb room (recWide * length rs) h)
-  row-only (loaded rs l o h) = behind-good l (is_true (is_whole rs) ((whole-exactly rs).1 o)) (le-ltb room (recWide * length rs) h)
+  unfolding lines_of
+  row-only (no_form h n) =
+      behind-bad newer (form-newer text (λ t. n older ((begins-exactly sixWidths text).0 t)))
+      (record { its = []; rest = text; fitting = nil; many = refl; they-are = refl; some = h; other = n newer })
+  row-only (bad-line f vs rest h k e s o) =
+      behind-bad f (by_lines f vs rest k e) (record { its = vs; rest = rest; fitting = h; many = refl; they-are = e; some = s; other = o })
+  row-only (not-whole f vs l n) = of-wrong f vs l n
+  row-only (no_room f rs l o h) = of-whole f rs l o (lt-ltb room (recWide * length rs) h)
+  row-only (loaded f rs l o h) = of-whole f rs l o (le-ltb room (recWide * length rs) h)
+
+  -- A first line that is bad is of no form.
+  first-bad-line : Bad (widthsOf (formOf text)) text 0 → Loads text room (refused refusal.BadLine 1) (replicate room 0)
+  unfolding lines_of
+  first-bad-line b =
+      no_form (subst (λ (l : List ℕ). 0 < length l) (sym whole) b.some)
+      (λ f x.
+      b.other (subst (Begins (widthsOf (formOf text))) whole (subst (λ (g : Form). Begins (widthsOf g) text) (sym (form-is f text ((begins-exactly (widthsOf f) text).1 x))) x)))
+    where
+      behind : (vs : List (List ℕ)) → length vs ≡ 0 → lines_of (widthsOf (formOf text)) vs ++ b.rest ≡ b.rest
+      behind [] e = refl
+      behind (v ∷ vs) e = absurd (omega arith)
+
+      whole : text ≡ b.rest
+      whole = b.they-are ∙ behind b.its b.many
 
   -- and one of them always holds.
   row-some : (a : Answer) × (w : List ℕ) × Loads text room a w
-  row-some = go (badLine widths text) refl
+  row-some = go (badLine ws text) refl
     where
+      f : Form
+      f = formOf text
+
+      ws : List ℕ
+      ws = widthsOf f
+
+      vs : List (List ℕ)
+      vs = linesRead ws text
+
       rs : List Rec
-      rs = recordsOf text
+      rs = map recOf vs
 
-      by_tests : Lists text rs → (one short : Bool) → is_whole rs ≡ one → ltb room (recWide * length rs) ≡ short → (a : Answer) × (w : List ℕ) × Loads text room a w
-      by_tests l false short o s = (_, _, not-whole rs l (λ f. subst T o ((whole-exactly rs).1 f)))
-      by_tests l true true o s = (_, _, no_room rs l ((whole-exactly rs).0 (subst T (sym o) tt)) (ltb-true room (recWide * length rs) s))
-      by_tests l true false o s = (_, _, loaded rs l ((whole-exactly rs).0 (subst T (sym o) tt)) (ltb-false room (recWide * length rs) s))
+      by_tests : Lines f text vs → (right short : Bool) → is_right f vs ≡ right → ltb room (recWide * length rs) ≡ short → (a : Answer) × (w : List ℕ) × Loads text room a w
+      by_tests l false short o s =
+          (_, _, not-whole f vs l (λ qs q e. subst T (ap (is_right f) (sym e) ∙ o) (records-right f qs q)))
+      by_tests l true short o s = with-room short s
+        where
+          both : Whole rs × (vs ≡ rowsOf f rs)
+          both = right-records f vs l.fitting (subst T (sym o) tt)
 
-      go : (bad : ℕ) → badLine widths text ≡ bad → (a : Answer) × (w : List ℕ) × Loads text room a w
+          lists : Lists f text rs
+          lists = subst (Lines f text) both.1 l
+
+          with-room : (short : Bool) → ltb room (recWide * length rs) ≡ short → (a : Answer) × (w : List ℕ) × Loads text room a w
+          with-room true s = (_, _, no_room f rs lists both.0 (ltb-true room (recWide * length rs) s))
+          with-room false s = (_, _, loaded f rs lists both.0 (ltb-false room (recWide * length rs) s))
+
+      by_bad : (i : ℕ) → Bad ws text i → (a : Answer) × (w : List ℕ) × Loads text room a w
+      by_bad zero b = (_, _, first-bad-line b)
+      by_bad (suc i) b = (_, _, bad-line f b.its b.rest b.fitting (let m = b.many in omega arith) b.they-are b.some b.other)
+
+      go : (bad : ℕ) → badLine ws text ≡ bad → (a : Answer) × (w : List ℕ) × Loads text room a w
       go zero e =
-          let (t, f) = no-bad widths fields-counted text e in
-          by_tests (record { fitting = f; they-are = t }) (is_whole rs) (ltb room (recWide * length rs)) refl refl
-      go (suc i) e =
-          let b = first-bad widths fields-counted text i e in
-          (_, _, bad-line b.its b.rest b.fitting b.they-are b.some b.other)
+          let (t, h) = no-bad ws (some-fields f) text e in
+          by_tests (record { fitting = h; they-are = t }) (is_right f vs) (ltb room (recWide * length rs)) refl refl
+      go (suc i) e = by_bad i (first-bad ws (some-fields f) text i e)
 
   -- So the promise is kept,
   pub promised : Loads text room (load_of text room) (words_of text room)
@@ -86,10 +184,11 @@ module _ (text : List ℕ) (room : ℕ) where
       (sym e ∙ g, sym f ∙ h)
 
   taken : {a : Answer} {w : List ℕ} → Loads text room a w → Accepts text room a
-  taken (bad-line rs rest f t h o) = tt
-  taken (not-whole rs l x) = tt
-  taken (no_room rs l o h) = tt
-  taken (loaded rs l o h) = record { its = rs; lists = l; whole = o; fits = h; number = refl }
+  taken (no_form h n) = tt
+  taken (bad-line f vs rest h k e s o) = tt
+  taken (not-whole f vs l x) = tt
+  taken (no_room f rs l o h) = tt
+  taken (loaded f rs l o h) = record { form = f; its = rs; lists = l; whole = o; fits = h; number = refl }
 
   pub accepted-taken : {m n : ℕ} → load_of text room ≡ accepted m n → Taken text room n
   accepted-taken e = subst (Accepts text room) e (taken promised)
@@ -97,17 +196,30 @@ module _ (text : List ℕ) (room : ℕ) where
   -- "It takes only a listing whose records form one function", or one program, and every one for which there is room.
   pub accepted-exactly : (n : ℕ) → (load_of text room ≡ accepted 0 n) ↔ Taken text room n
   accepted-exactly n =
-      (accepted-taken, λ t. (row-only (loaded t.its t.lists t.whole t.fits)).0 ∙ ap (accepted 0) (sym t.number))
+      (accepted-taken, λ t. (row-only (loaded t.form t.its t.lists t.whole t.fits)).0 ∙ ap (accepted 0) (sym t.number))
 
-  -- "loading and then writing restores the same bytes"
-  pub load-then-write : (n : ℕ) → load_of text room ≡ accepted 0 n → text ≡ lines (recs n (words_of text room))
+  -- Lines of records that form no whole are refused.
+  pub none-whole : (f : Form) (rs : List Rec) → Lists f text rs → (Whole rs → ⊥) → Loads text room (refused refusal.NotWhole 0) (replicate room 0)
+  none-whole f rs l n =
+      not-whole f (rowsOf f rs) l (λ qs o e. n (subst Whole (sym (rows-back f qs) ∙ ap (map recOf) (sym e) ∙ rows-back f rs) o))
+
+  -- The words that are loaded hold the records, each with its way up, whatever the form.
+  pub taken-records : (n : ℕ) (t : Taken text room n) → recs n (words_of text room) ≡ t.its
+  taken-records n t =
+      let rs = t.its in
+      let w = (row-only (loaded t.form rs t.lists t.whole t.fits)).1 in
+      ap₂ (λ (m : ℕ) (u : List ℕ). recs m u) t.number w ∙ recs-up rs (replicate (room - recWide * length rs) 0)
+
+  -- "loading and then writing restores the same bytes": in the form that they had, which is "the 41-byte form only" where they are written as `lines` are.
+  pub load-then-write : (n : ℕ) → load_of text room ≡ accepted 0 n → text ≡ lines_of (widthsOf (formOf text)) (rowsOf (formOf text) (recs n (words_of text room)))
   load-then-write n e =
       let t = (accepted-exactly n).0 e in
-      let rs = t.its in
-      let w = (row-only (loaded rs t.lists t.whole t.fits)).1 in
-      t.lists.they-are ∙ ap lines (sym (ap₂ (λ (m : ℕ) (u : List ℕ). recs m u) t.number w ∙ recs-words rs (replicate (room - recWide * length rs) 0)))
+      t.lists.they-are
+      ∙ ap (λ (f : Form). lines_of (widthsOf f) (rowsOf f t.its)) (sym (of-records t.form t.its t.whole t.lists))
+      ∙ ap (λ (rs : List Rec). lines_of (widthsOf (formOf text)) (rowsOf (formOf text) rs)) (sym (taken-records n t))
 
--- "Writing and then loading restores the same records"
-pub write-then-load : (rs : List Rec) → Whole rs → Fitting widths rs → (room : ℕ) → recWide * length rs ≤ room
-    → (load_of (lines rs) room ≡ accepted 0 (length rs)) × (words_of (lines rs) room ≡ recWords rs ++ replicate (room - recWide * length rs) 0)
-write-then-load rs o f room h = row-only (lines rs) room (loaded rs (record { fitting = f; they-are = refl }) o h)
+-- "Writing and then loading restores the same records", of lines of either form.
+pub write-then-load : (f : Form) (rs : List Rec) → Whole rs → Fitting (widthsOf f) (rowsOf f rs) → (room : ℕ) → recWide * length rs ≤ room
+    → (load_of (lines_of (widthsOf f) (rowsOf f rs)) room ≡ accepted 0 (length rs))
+    × (words_of (lines_of (widthsOf f) (rowsOf f rs)) room ≡ upWords rs ++ replicate (room - recWide * length rs) 0)
+write-then-load f rs o h room k = row-only (lines_of (widthsOf f) (rowsOf f rs)) room (loaded f rs (record { fitting = h; they-are = refl }) o k)

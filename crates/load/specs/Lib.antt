@@ -8,9 +8,12 @@ pub mod HandedForms
 pub mod Handed
 pub mod listing
 pub mod Fitting
+pub mod Form
 pub mod Load
+pub mod FormLaws
 pub mod Meant
 pub mod Promised
 pub mod Laws
 pub mod Restored
+pub mod Led
 pub mod Known

@@ -1,30 +1,47 @@
--- What `load` hands over of a listing, for a buffer of so many words (order 1).
--- Assumes nothing: these are definitions. What they come to, in the request's own terms, is `Loads` of Promised.antt.
-use Rattle.std.specs.Prelude.{cond, List, ◌++◌, ℕ, ◌-◌, ◌*◌, ltb, length, replicate}
+-- What `load` hands over of a listing, for a buffer of so many words (document 02, orders 1 and 7).
+-- Assumes nothing: these are definitions. What they come to, in the requests' own terms, is `Loads` of Promised.antt.
+use Rattle.std.specs.Prelude.{Bool, true, ◌&&◌, cond, List, ◌++◌, map, ℕ, ◌-◌, ◌*◌, ltb, length, replicate}
 use Rattle.text.specs.Answers.{Answer, accepted, refused}
 use Rattle.text.specs.Refusals as refusal
+use Rattle.text.specs.Same.{same}
 use Rattle.text.specs.Widths.{recWide}
 use Rattle.own.specs.Tree.{Rec}
-use Rattle.own.specs.Words.{recWords}
-use Rattle.lines.specs.Lines.{widths}
-use Rattle.load.specs.listing.Read.{badLine, recordsIn}
+use Rattle.up.specs.Ways.{waysUp, upWords}
+use Rattle.load.specs.Form.{Form, older, newer, widthsOf, formOf}
+use Rattle.load.specs.listing.Read.{badLine, linesRead, recOf, recordsIn, upOf}
 use Rattle.load.specs.FunctionTest.{is_whole}
 
--- The records of a listing, if all of its lines are of the form.
-abbrev pub recordsOf : List ℕ → List Rec
-recordsOf text = recordsIn widths text
+-- "17 also covers a wrong parent word": whether each of these lines ends with its record's way up. A line of the older form has none to test.
+unfoldable pub ways_right : Form → List (List ℕ) → Bool
+ways_right older vs = true
+ways_right newer vs = same (map upOf vs) (waysUp (map recOf vs))
 
--- "they are tested in this order and give the first bad line, counted from 1, or 0 for 17 and 18": a listing has records, and no tokens.
-unfoldable pub load_of : List ℕ → ℕ → Answer
-load_of text room =
-    cond (ltb 0 (badLine widths text)) (refused refusal.BadLine (badLine widths text))
-    (cond (is_whole (recordsOf text))
-    (cond (ltb room (recWide * length (recordsOf text))) (refused refusal.NoLoadRoom 0) (accepted 0 (length (recordsOf text))))
+-- 17, "when the lines do not form one such function", of the numbers of all lines.
+abbrev pub is_right : Form → List (List ℕ) → Bool
+is_right f vs = is_whole (map recOf vs) && ways_right f vs
+
+-- "16 when a line is not of the stated [..] form, 17 when the lines do not form one such function, 18 when the record buffer is too short; they are
+-- tested in this order and give the first bad line, counted from 1, or 0 for 17 and 18": a listing has records, and no tokens.
+unfoldable pub load_as : Form → List ℕ → ℕ → Answer
+load_as f text room =
+    let bad = badLine (widthsOf f) text in
+    let vs = linesRead (widthsOf f) text in
+    cond (ltb 0 bad) (refused refusal.BadLine bad)
+    (cond (is_right f vs)
+    (cond (ltb room (recWide * length vs)) (refused refusal.NoLoadRoom 0) (accepted 0 (length vs)))
     (refused refusal.NotWhole 0))
 
--- "a refusal zeroes every buffer lent for writing", "zeros follow what is written"
+-- "16 covers both line forms and a line of another form than the first": the first line says of which form all have to be.
+abbrev pub load_of : List ℕ → ℕ → Answer
+load_of text room = load_as (formOf text) text room
+
+-- The records of a listing, if all of its lines are of its form.
+abbrev pub recordsOf : List ℕ → List Rec
+recordsOf text = recordsIn (widthsOf (formOf text)) text
+
+-- "Listings of 36-byte lines still load, the word being worked out"; "a refusal zeroes every buffer lent for writing", "zeros follow what is written".
 abbrev pub contents : Answer → List Rec → ℕ → List ℕ
-contents (accepted n m) rs room = recWords rs ++ replicate (room - recWide * length rs) 0
+contents (accepted n m) rs room = upWords rs ++ replicate (room - recWide * length rs) 0
 contents (refused c l) rs room = replicate room 0
 
 unfoldable pub words_of : List ℕ → ℕ → List ℕ

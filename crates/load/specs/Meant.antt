@@ -1,6 +1,9 @@
--- What the cases of `Loaded` mean: "Where the answer is an enum, there is a definition that gives this paper's number and values for each of its cases."
+-- What the cases of the enums mean: "Where the answer is an enum, there is a definition that gives this paper's number and values for each of its cases."
 -- Assumes nothing: these are definitions.
 use Rattle.text.specs.Answers.{Answer, accepted, refused, Values, values}
+use Rattle.load.specs.Form as spec
+use Rattle.load.specs.declared.form.Form.{Form}
+use Rattle.load.specs.declared.form.Form.TheVariants.{Older, Newer}
 use Rattle.load.specs.declared.Loaded.{Loaded}
 use Rattle.load.specs.declared.Loaded.TheVariants.{Records, Refused}
 
@@ -12,3 +15,8 @@ meant (Refused c l) = refused c l
 -- and its number, line and number of records.
 abbrev pub returned : Loaded → Values
 returned r = values (meant r)
+
+-- The form of lines.
+abbrev pub asForm : Form → spec.Form
+asForm Older = spec.older
+asForm Newer = spec.newer

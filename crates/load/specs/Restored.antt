@@ -1,52 +1,101 @@
--- The two sentences on writing and loading, of what `lines::list` writes: the lines of the first records of a tree buffer.
+-- The sentences on writing and loading, of what `lines::list` writes: the lines of the first records of a tree buffer.
 -- Assumes nothing.
-use Rattle.std.specs.Prelude.{List, [], ◌∷◌, ◌++◌, ◌≡◌, refl, ℕ, ◌+◌, ◌-◌, ◌*◌, ◌/◌, ◌≤◌, min, length, replicate}
-use Rattle.std.proofs.Common.{sym, ap, ◌∙◌, arith, length-append}
+use Rattle.std.specs.Prelude.{List, [], ◌∷◌, ◌++◌, map, ◌≡◌, ℕ, ◌+◌, ◌-◌, ◌*◌, ◌/◌, ◌<◌, ◌≤◌, min, length, get_or, take, replicate}
+use Rattle.std.proofs.Common.{sym, ap, ap₂, ◌∙◌, subst, arith, length-append}
 use Rattle.std.proofs.lemmas.List.{length-replicate}
 use Rattle.text.specs.Answers.{accepted}
 use Rattle.text.specs.Widths.{recWide}
-use Rattle.own.specs.Tree.{Rec}
-use Rattle.own.specs.Words.{recs, recWords}
+use Rattle.own.specs.Tree.{Rec, concat}
+use Rattle.own.specs.Flat.{blank}
+use Rattle.own.specs.Lists.{All, nil, ◌&◌}
+use Rattle.own.specs.Words.{recs}
 use Rattle.own.specs.WordLaws.{recs-length}
-use Rattle.lines.specs.Lines.{widths, lines}
+use Rattle.up.specs.Ways.{six, rows, upWords, rowsIn}
+use Rattle.up.specs.Laws.{up-words-long, rows-up, rows-words}
+use Rattle.lines.specs.Hex.{power}
+use Rattle.lines.specs.Lines.{placeDigits, sixWidths, widths, lines_of, lines}
 use Rattle.lines.specs.Written.{held, linesIn}
-use Rattle.load.specs.listing.InForm.{Fitting}
+use Rattle.load.specs.Form.{Form, older, newer, widthsOf, rowsOf, formOf}
+use Rattle.load.specs.FormLaws.{rows-fit}
+use Rattle.load.specs.listing.InForm.{Fit, Fitting}
 use Rattle.load.specs.Function.{Whole}
 use Rattle.load.specs.Load.{load_of, words_of}
 use Rattle.load.specs.Promised.{loaded}
-use Rattle.load.specs.Laws.{row-only, accepted-taken, load-then-write, write-then-load}
+use Rattle.load.specs.Laws.{row-only, accepted-taken, taken-records, load-then-write, write-then-load}
 
--- So many words a record.
-pub words_long : (rs : List Rec) → length (recWords rs) ≡ recWide * length rs
-words_long [] = refl
-words_long (r ∷ rs) = let h = words_long rs in omega arith
+-- The records of a listing that is taken fit the newer form.
+size-fits : (rs : List Rec) → All (λ r. Fit sixWidths (six r)) rs → (get_or rs 0 blank).size ≡ length rs → length rs < power placeDigits
+size-fits [] h e = omega arith
+size-fits (r ∷ rs) ((k, (b, (s, (l, (i, (z, _)))))) & h) e = omega (arith, z, e)
 
--- Loading, and then listing as many records as were loaded, restores the same bytes.
-pub load-then-list : (text : List ℕ) (room n : ℕ) → load_of text room ≡ accepted 0 n → linesIn (words_of text room) n ≡ text
+sixes : (rs : List Rec) → Fitting sixWidths (map six rs) → All (λ r. Fit sixWidths (six r)) rs
+sixes [] h = nil
+sixes (r ∷ rs) (p & h) = p & sixes rs h
+
+rows-fit-newer : (f : Form) (rs : List Rec) → Whole rs → Fitting (widthsOf f) (rowsOf f rs) → Fitting widths (rows rs)
+rows-fit-newer newer rs o h = h
+rows-fit-newer older rs o h = let s = sixes rs h in rows-fit rs s (size-fits rs s o.counts_all)
+
+-- Listing as many records as were loaded writes them in 41 bytes each, whatever the form that they were loaded from: lines of 36 bytes "are written back
+-- in 41".
+pub listed-again : (text : List ℕ) (room n : ℕ) → load_of text room ≡ accepted 0 n → linesIn (words_of text room) n ≡ lines (recs n (words_of text room))
 unfolding linesIn
-load-then-list text room n e =
+listed-again text room n e =
     let t = accepted-taken text room e in
     let rs = t.its in
-    let rest = room - recWide * length rs in
-    let w = (row-only text room (loaded rs t.lists t.whole t.fits)).1 in
+    let z = replicate (room - recWide * length rs) 0 in
+    let w = (row-only text room (loaded t.form rs t.lists t.whole t.fits)).1 in
     let long : length (words_of text room) ≡ room =
-    ap length w ∙ length-append (recWords rs) (replicate rest 0) ∙ room-is (words_long rs) (length-replicate rest 0) t.fits in
-    let all : held (words_of text room) n ≡ n = all_held long t.number t.fits in
-    ap (λ (m : ℕ). lines (recs m (words_of text room))) all ∙ sym (load-then-write text room n e)
+    ap length w ∙ length-append (upWords rs) z ∙ room-is (up-words-long rs) (length-replicate (room - recWide * length rs) 0) t.fits in
+    let all : held (words_of text room) n ≡ length rs = all_held long t.number t.fits in
+    ap₂ (λ (m : ℕ) (u : List ℕ). lines_of widths (rowsIn m u)) all w
+    ∙ ap (lines_of widths) (rows-up rs z)
+    ∙ ap lines (sym (taken-records text room n t))
   where
     room-is : {a b c : ℕ} → a ≡ c → b ≡ room - c → c ≤ room → a + b ≡ room
     room-is p q h = omega arith
 
-    all_held : {l k : ℕ} → l ≡ room → n ≡ k → recWide * k ≤ room → min n (l / recWide) ≡ n
+    all_held : {l k : ℕ} → l ≡ room → n ≡ k → recWide * k ≤ room → min n (l / recWide) ≡ k
     all_held p q h = omega arith
 
--- Listing records that form a whole and fit a line, and then loading, restores the same records.
-pub list-then-load : (words : List ℕ) (n : ℕ) → Whole (recs (held words n) words) → Fitting widths (recs (held words n) words) → (room : ℕ) → recWide * held words n ≤ room
+-- "loading and then writing restores the bytes of the 41-byte form only".
+pub load-then-list : (text : List ℕ) (room n : ℕ) → formOf text ≡ newer → load_of text room ≡ accepted 0 n → linesIn (words_of text room) n ≡ text
+load-then-list text room n f e =
+    listed-again text room n e
+    ∙ sym (load-then-write text room n e ∙ ap (λ (g : Form). lines_of (widthsOf g) (rowsOf g (recs n (words_of text room)))) f)
+
+-- And what is written back loads again, as the same records: they fit the longer lines, since the top counts them in four digits.
+pub written-back : (text : List ℕ) (room n : ℕ) → load_of text room ≡ accepted 0 n
+    → (load_of (linesIn (words_of text room) n) room ≡ accepted 0 n) × (words_of (linesIn (words_of text room) n) room ≡ words_of text room)
+written-back text room n e =
+    let t = accepted-taken text room e in
+    let rs = t.its in
+    let w = (row-only text room (loaded t.form rs t.lists t.whole t.fits)).1 in
+    let l : linesIn (words_of text room) n ≡ lines rs = listed-again text room n e ∙ ap lines (taken-records text room n t) in
+    let (a, b) = write-then-load newer rs t.whole (rows-fit-newer t.form rs t.whole t.lists.fitting) room t.fits in (
+      ap (λ (x : List ℕ). load_of x room) l ∙ a ∙ ap (accepted 0) (sym t.number),
+      ap (λ (x : List ℕ). words_of x room) l ∙ b ∙ sym w,
+    )
+
+-- A listing of 36-byte lines, and what it is written back as: the lines of the same records.
+pub older-written : (text : List ℕ) (room n : ℕ) → formOf text ≡ older → load_of text room ≡ accepted 0 n
+    → (rs : List Rec) × (text ≡ lines_of sixWidths (map six rs)) × (linesIn (words_of text room) n ≡ lines rs)
+older-written text room n f e =
+    let rs = recs n (words_of text room) in
+    (rs, load-then-write text room n e ∙ ap (λ (g : Form). lines_of (widthsOf g) (rowsOf g rs)) f, listed-again text room n e)
+
+-- Listing records that form a whole, each with its way up, and fit a line, and then loading, restores the same words.
+pub list-then-load : (words : List ℕ) (n : ℕ) → Whole (recs (held words n) words) → rowsIn (held words n) words ≡ rows (recs (held words n) words)
+    → Fitting widths (rowsIn (held words n) words) → (room : ℕ) → recWide * held words n ≤ room
     → (load_of (linesIn words n) room ≡ accepted 0 (held words n))
-    × (words_of (linesIn words n) room ≡ recWords (recs (held words n) words) ++ replicate (room - recWide * held words n) 0)
+    × (words_of (linesIn words n) room ≡ take (recWide * held words n) words ++ replicate (room - recWide * held words n) 0)
 unfolding linesIn
-list-then-load words n o f room h =
+list-then-load words n o u f room h =
     let rs = recs (held words n) words in
     let k : length rs ≡ held words n = recs-length (held words n) words in
-    let (a, b) = write-then-load rs o f room (omega arith) in
-    (a ∙ ap (accepted 0) k, b ∙ ap (λ (m : ℕ). recWords rs ++ replicate (room - recWide * m) 0) k)
+    let t : lines_of widths (rowsIn (held words n) words) ≡ lines rs = ap (lines_of widths) u in
+    let same : upWords rs ≡ take (recWide * held words n) words = ap concat (sym u) ∙ rows-words (held words n) words in
+    let (a, b) = write-then-load newer rs o (subst (Fitting widths) u f) room (omega arith) in (
+      ap (λ (l : List ℕ). load_of l room) t ∙ a ∙ ap (accepted 0) k,
+      ap (λ (l : List ℕ). words_of l room) t ∙ b ∙ ap₂ (λ (l : List ℕ) (m : ℕ). l ++ replicate (room - recWide * m) 0) same k,
+    )

@@ -3,4 +3,5 @@ pub mod Parts
 pub mod Stands
 pub mod Judge
 pub mod Small
+pub mod GivenWays
 pub mod Verdict

@@ -1,25 +1,31 @@
 // The reader of listings: from the lines to the records of one function or one program, or one refusal.
 #![tactic(auto)]
 
-ghost use Rattle.std.specs.Prelude.{◌≡◌, length};
+ghost use Rattle.std.specs.Prelude.{◌≡◌, ◌/◌, length};
 ghost use Rattle.text.specs.Answers.{values};
-ghost use Rattle.lines.specs.Lines as form;
-ghost use Rattle.load.specs.Load.{load_of, words_of};
-ghost use Rattle.load.specs.Meant.{meant, returned};
+ghost use Rattle.lines.specs.Form.{wide};
+ghost use Rattle.lines.specs.Lines as lines_spec;
+ghost use Rattle.load.specs.Form.{widthsOf};
+ghost use Rattle.load.specs.Load.{is_right, load_as, load_of, words_of};
+ghost use Rattle.load.specs.Meant.{meant, returned, asForm};
 ghost use Rattle.load.specs.Promised.{Loads};
 ghost use Rattle.load.specs.listing.DigitLaws.{DigitTable};
+ghost use Rattle.load.specs.listing.Read.{linesRead};
 
 use crate::digits::BYTE_VALUES;
+use crate::form::Form;
 use text::refusal;
 
 mod begin;
 mod check;
 mod cue;
 mod digits;
+mod form;
 mod line;
 mod record;
 mod table;
 mod walk;
+mod ways;
 mod write;
 
 // What is handed over: the number of records, or the refusal by its number, with the first bad line from 1, or 0.
@@ -29,21 +35,49 @@ pub enum Loaded {
     Refused { number: u32, line: usize },
 }
 
-// The answer to a listing with a buffer of so many words. It is known before a word is written.
-fn answer(digits: &[u8; BYTE_VALUES], widths: &[usize], listing: &[u8], room: usize) -> Loaded
+// Whether the lines of a listing are those of a whole function or program, each with its way up where the form has that.
+fn is_right(
+    digits: &[u8; BYTE_VALUES],
+    form: Form,
+    widths: &[usize],
+    listing: &[u8],
+    n: usize,
+) -> bool
     requires digit_table { DigitTable digits.now }
-    requires widths_value { widths.now ≡ form.widths }
-    ensures { meant result ≡ load_of listing.now room }
+    requires widths_value { widths.now ≡ widthsOf (asForm form) }
+    requires n_value { n ≡ length listing.now / wide widths.now }
+    ensures { result ≡ is_right (asForm form) (linesRead widths.now listing.now) }
 {
-    let bad = line::bad_line(digits, widths, lines::LINE_BYTES, listing);
+    if !check::is_whole(digits, widths, form::bytes(form), listing, n) {
+        return false;
+    }
+    match form {
+        Form::Older => true,
+        Form::Newer => ways::right(digits, listing, n),
+    }
+}
+
+// The answer to a listing of this form with a buffer of so many words. It is known before a word is written.
+fn answer(
+    digits: &[u8; BYTE_VALUES],
+    form: Form,
+    widths: &[usize],
+    listing: &[u8],
+    room: usize,
+) -> Loaded
+    requires digit_table { DigitTable digits.now }
+    requires widths_value { widths.now ≡ lines_spec.widths }
+    ensures { meant result ≡ load_as (asForm form) listing.now room }
+{
+    let bad = form::bad_line(digits, form, widths, listing);
     if bad > 0 {
         return Loaded::Refused {
             number: refusal::BAD_LINE,
             line: bad,
         };
     }
-    let n = listing.len() / lines::LINE_BYTES;
-    if !check::is_whole(digits, widths, lines::LINE_BYTES, listing, n) {
+    let n = listing.len() / form::bytes(form);
+    if !is_right(digits, form, form::fields(form, widths), listing, n) {
         return Loaded::Refused {
             number: refusal::NOT_WHOLE,
             line: 0,
@@ -58,7 +92,8 @@ fn answer(digits: &[u8; BYTE_VALUES], widths: &[usize], listing: &[u8], room: us
     Loaded::Records(n)
 }
 
-// Loads a listing: `RECORD_WORDS` words a record, zeros behind them; on a refusal every word is 0. No word is written twice.
+// Loads a listing: `RECORD_WORDS` words a record, zeros behind them; on a refusal every word is 0. No word is written twice, and the way up is worked
+// out, also where the lines give it.
 pub fn load(listing: &[u8], tree: &mut [u32]) -> Loaded
     ensures answer { meant result ≡ load_of listing.now (length tree.old) }
     ensures values { returned result ≡ values (load_of listing.now (length tree.old)) }
@@ -67,12 +102,15 @@ pub fn load(listing: &[u8], tree: &mut [u32]) -> Loaded
 {
     let digits = line::digit_table();
     let widths = lines::WIDTHS;
-    let loaded = answer(&digits, &widths, listing, tree.len());
+    let form = form::form_of(&digits, &widths, listing);
+    let loaded = answer(&digits, form, &widths, listing, tree.len());
     let Loaded::Records(n) = loaded else {
         text::clear(tree);
         return loaded;
     };
-    write::records(&digits, &widths, lines::LINE_BYTES, listing, n, tree);
+    let fields = form::fields(form, &widths);
+    write::records(&digits, fields, form::bytes(form), listing, n, tree);
+    up::way_up(tree, n);
     text::clear(&mut tree[text::RECORD_WORDS * n..]);
     loaded
 }

@@ -61,8 +61,9 @@ fn are_digits(digits: &[u8; BYTE_VALUES], text: &[u8], at: usize, n: usize) -> b
     true
 }
 
-// Whether a line of this form stands at `at`.
-fn in_form(digits: &[u8; BYTE_VALUES], widths: &[usize], text: &[u8], at: usize) -> bool
+// Whether a line of this form stands at `at`. It is laid out at each of its calls, where the widths are known: so are the loops over them.
+#[inline(always)]
+pub(crate) fn in_form(digits: &[u8; BYTE_VALUES], widths: &[usize], text: &[u8], at: usize) -> bool
     requires digit_table { DigitTable digits.now }
     requires widths_in_bounds { at + form.wide widths.now ≤ length text.now }
     ensures { result ≡ inForm widths.now (drop at text.now) }
@@ -84,6 +85,7 @@ fn in_form(digits: &[u8; BYTE_VALUES], widths: &[usize], text: &[u8], at: usize)
 }
 
 // The number, from 1, of the first line that is not in form; 0 if all are. A line of the form has `step` bytes.
+#[inline(always)]
 pub(crate) fn bad_line(
     digits: &[u8; BYTE_VALUES],
     widths: &[usize],

@@ -1,15 +1,15 @@
 // A record, as its line has it.
 ghost use Rattle.std.specs.Prelude.{◌≡◌, ◌+◌, ◌≤◌, length, drop};
 ghost use Rattle.lines.specs.Form as form;
-ghost use Rattle.lines.specs.Lines.{fieldCount};
 ghost use Rattle.load.specs.listing.Read.{values_of, recOf};
+ghost use Rattle.load.specs.listing.LineForm.{sixFields};
 ghost use Rattle.load.specs.listing.DigitLaws.{DigitTable, Short};
 ghost use Rattle.load.specs.check.Judge.{asRec};
 
 use crate::digits::BYTE_VALUES;
 use crate::line;
 
-// The words of a record by name.
+// The first six words of a record by name.
 #[derive(Clone, Copy)]
 pub(crate) struct Record {
     pub(crate) kind: u32,
@@ -20,7 +20,7 @@ pub(crate) struct Record {
     pub(crate) size: u32,
 }
 
-// The record of the line at `at`.
+// The record of the line at `at`: the first six numbers of the line, whatever its form.
 #[inline(always)]
 pub(crate) fn record_at(
     digits: &[u8; BYTE_VALUES],
@@ -30,12 +30,13 @@ pub(crate) fn record_at(
 ) -> Record
     requires digit_table { DigitTable digits.now }
     requires short { Short widths.now }
-    requires widths_len { length widths.now ≡ fieldCount }
+    requires full { sixFields ≤ length widths.now }
     requires widths_in_bounds { at + form.wide widths.now ≤ length text.now }
     ensures { asRec result ≡ recOf (values_of widths.now (drop at text.now)) }
 {
-    let mut words = [0u32; text::RECORD_WORDS];
-    line::values(digits, widths, text, at, &mut words, 0);
+    let mut words = [0u32; lines::SIX_FIELDS];
+    let six = &widths[..lines::SIX_FIELDS];
+    line::values(digits, six, text, at, &mut words, 0);
     Record {
         kind: words[0],
         start: words[1],

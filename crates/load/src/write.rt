@@ -1,14 +1,15 @@
-// The numbers of lines, written as words.
-ghost use Rattle.std.specs.Prelude.{◌≡◌, ◌*◌, ◌≤◌, length};
-ghost use Rattle.std.proofs.lemmas.List.Edits.{sets};
-ghost use Rattle.lines.specs.Form as form;
-ghost use Rattle.load.specs.listing.Read.{valuesIn};
-ghost use Rattle.load.specs.listing.DigitLaws.{DigitTable, Short};
+// The numbers of lines, written as the words of records.
+ghost use Rattle.std.specs.Prelude.{map, ◌≡◌, ◌*◌, ◌≤◌, length};
+ghost use Rattle.text.specs.Widths.{recWide};
+ghost use Rattle.own.specs.Words.{recs};
+ghost use Rattle.load.specs.listing.LineForm.{LineForm};
+ghost use Rattle.load.specs.listing.Read.{rowsFrom, recOf};
+ghost use Rattle.load.specs.listing.DigitLaws.{DigitTable};
 
 use crate::digits::BYTE_VALUES;
 use crate::line;
 
-// Writes the numbers of the first n lines, from the first word on. A line of the form has `step` bytes.
+// Writes the first six words of the records of the first n lines. The last word of each is not written: it is worked out when all stand.
 pub(crate) fn records(
     digits: &[u8; BYTE_VALUES],
     widths: &[usize],
@@ -18,19 +19,15 @@ pub(crate) fn records(
     tree: &mut [u32],
 )
     requires digit_table { DigitTable digits.now }
-    requires short { Short widths.now }
-    requires step_value { step ≡ form.wide widths.now }
+    requires line_form { LineForm widths.now step }
     requires n_in_bounds { step * n ≤ length text.now }
-    requires n_in_bounds_2 { length widths.now * n ≤ length tree.old }
-    ensures { tree.new ≡ sets tree.old 0 (valuesIn widths.now n text.now) }
+    requires n_in_bounds_2 { recWide * n ≤ length tree.old }
+    ensures { recs n tree.new ≡ map recOf (rowsFrom widths.now n text.now) }
 {
-    let mut p = 0;
-    let mut w = 0;
+    let six = &widths[..lines::SIX_FIELDS];
     let mut i = 0;
     while i < n {
-        line::values(digits, widths, text, p, tree, w);
-        p += step;
-        w += widths.len();
+        line::values(digits, six, text, step * i, tree, text::RECORD_WORDS * i);
         i += 1;
     }
 }

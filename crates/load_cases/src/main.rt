@@ -1,10 +1,13 @@
 // Loads the listings that its input gives, with buffers of the lengths that each case asks.
 // A case: a line with the words of the buffer and the bytes of the listing, one space between; then the listing and a line end. Written
-// are the answer, whether all words are zero that must be, whether the records written again are the listing, and the records, a line each.
+// are the answer, whether all words are zero that must be, whether the records written again are the listing, or where its lines are of
+// 36 bytes those lines with a way up behind each, and the records, a line each.
 #![tactic(auto)]
 
-ghost use Rattle.std.specs.Prelude.{◌≡◌, ◌+◌, ◌≤◌, ◌<◌, length};
+ghost use Rattle.std.specs.Prelude.{◌≡◌, ◌+◌, ◌*◌, ◌≤◌, ◌<◌, length};
+ghost use Rattle.lines.specs.Lines.{sixBytes, lineBytes};
 
+use lines::{LINE_BYTES, SIX_BYTES};
 use load::Loaded;
 use text::RECORD_WORDS;
 
@@ -22,17 +25,17 @@ fn input_buffer() -> [u8; 1048576]
     [0; 1048576]
 }
 
-// The buffers, of which a case lends the first words, and as many bytes as its listing has.
+// The buffers, of which a case lends the first words, and as many bytes as the lines of its records have.
 fn tree_buffer() -> [u32; 16384]
     ensures { 16384 ≡ length result }
 {
     [0; 16384]
 }
 
-fn byte_buffer() -> [u8; 80000]
-    ensures { 80000 ≡ length result }
+fn byte_buffer() -> [u8; 96000]
+    ensures { 96000 ≡ length result }
 {
-    [0; 80000]
+    [0; 96000]
 }
 
 // Sets every word to 7, so that a word that is not written shows.
@@ -84,9 +87,36 @@ fn write_zeros(all: bool) {
     }
 }
 
-fn write_same(all: bool) {
-    if all {
+// Whether n lines of 36 bytes are those of 41 without the way up and the space before it.
+fn wider(listing: &[u8], out: &[u8], n: usize) -> bool
+    requires { (sixBytes * n ≤ length listing.now) × (lineBytes * n ≤ length out.now) }
+{
+    let mut i = 0;
+    while i < n {
+        let a = SIX_BYTES * i;
+        let b = LINE_BYTES * i;
+        let e = SIX_BYTES - 1;
+        if !same(&listing[a..a + e], &out[b..b + e]) || out[b + e] != b' ' {
+            return false;
+        }
+        i += 1;
+    }
+    true
+}
+
+fn is_wider(listing: &[u8], out: &[u8], n: usize) -> bool {
+    if listing.len() / SIX_BYTES == n && out.len() / LINE_BYTES == n {
+        return wider(listing, out, n);
+    }
+    false
+}
+
+// What the records written again are of the listing.
+fn write_again(listing: &[u8], out: &[u8], n: usize) {
+    if same(listing, out) {
         io::write_all(STDOUT, b" same\n");
+    } else if is_wider(listing, out, n) {
+        io::write_all(STDOUT, b" wider\n");
     } else {
         io::write_all(STDOUT, b" NOT THE SAME\n");
     }
@@ -112,21 +142,26 @@ fn write_words(words: &[u32]) {
 }
 
 // What is found of a listing that is taken; a number that the buffer cannot hold is wrong at once.
-fn write_records(listing: &[u8], tree: &[u32], n: usize, out: &mut [u8]) {
+fn write_records(listing: &[u8], tree: &[u32], n: usize, out: &mut [u8])
+    requires { (length tree.now ≤ 16384) × (96000 ≡ length out.old) }
+{
     if n <= tree.len() / RECORD_WORDS {
         let e = RECORD_WORDS * n;
         write_zeros(zeros(tree, e));
-        let used = lines::list(tree, n, out);
-        write_same(used == listing.len() && same(out, listing));
+        let again = &mut out[..LINE_BYTES * n];
+        let used = lines::list(tree, n, again);
+        write_again(listing, &again[..used], n);
         write_words(&tree[..e]);
         return;
     }
     write_zeros(false);
-    write_same(false);
+    io::write_all(STDOUT, b" NOT THE SAME\n");
 }
 
 // The answer, and what is found of it.
-fn write_answer(listing: &[u8], tree: &mut [u32], out: &mut [u8]) {
+fn write_answer(listing: &[u8], tree: &mut [u32], out: &mut [u8])
+    requires { (length tree.old ≤ 16384) × (96000 ≡ length out.old) }
+{
     fill(tree);
     let loaded = load::load(listing, tree);
     match loaded {
@@ -146,12 +181,12 @@ fn write_answer(listing: &[u8], tree: &mut [u32], out: &mut [u8]) {
 }
 
 // One case, with so many words of the buffer.
-fn write_case(listing: &[u8], words: usize, bytes: usize)
-    requires { (words ≤ 16384) × (bytes ≤ 80000) }
+fn write_case(listing: &[u8], words: usize)
+    requires { words ≤ 16384 }
 {
     let mut tree = tree_buffer();
     let mut out = byte_buffer();
-    write_answer(listing, &mut tree[..words], &mut out[..bytes]);
+    write_answer(listing, &mut tree[..words], &mut out);
 }
 
 // A stream that is wrong: no case is run after it.
@@ -181,10 +216,7 @@ fn run_case(s: &[u8], i: usize) -> usize
     if words.value > 16384 {
         return bad_case(s);
     }
-    if n > 80000 {
-        return bad_case(s);
-    }
-    write_case(&s[start..end], words.value, n);
+    write_case(&s[start..end], words.value);
     end + 1
 }
 

@@ -38,16 +38,16 @@ overwrite p m s r e =
     ∙ ap (λ l. p ++ s ++ l) (drop-append-add p (m ++ r) (length s) ∙ drop_at m r (length s) e)
     ∙ append_assoc p s r
 
--- a record: its place was left free, what is beneath it came after, and its own six words come last
-pub laid-close : {w w' ws : List ℕ} {out out' : ℕ} (six : List ℕ) → length six ≡ recWide → Laid w (out + 1) w' out' ws
-    → Laid w out (sets w' (recWide * out) six) out' (six ++ ws)
-laid-close {w} {w'} {ws} {out} {out'} six e a =
+-- a record: its place was left free, what is beneath it came after, and its own words come last
+pub laid-close : {w w' ws : List ℕ} {out out' : ℕ} (its : List ℕ) → length its ≡ recWide → Laid w (out + 1) w' out' ws
+    → Laid w out (sets w' (recWide * out) its) out' (its ++ ws)
+laid-close {w} {w'} {ws} {out} {out'} its e a =
     record {
-      same = length-sets w' (recWide * out) six ∙ a.same;
-      fits = omega (arith, length-sets w' (recWide * out) six, a.fits);
-      long = omega (arith, length-append six ws, a.long);
-      laid = ap (take (recWide * out')) now ∙ ap (take (recWide * out')) (ap (λ l. p ++ l) (sym (append_assoc six ws z)) ∙ sym (append_assoc p (six ++ ws) z))
-          ∙ take_at (p ++ (six ++ ws)) z (recWide * out') all;
+      same = length-sets w' (recWide * out) its ∙ a.same;
+      fits = omega (arith, length-sets w' (recWide * out) its, a.fits);
+      long = omega (arith, length-append its ws, a.long);
+      laid = ap (take (recWide * out')) now ∙ ap (take (recWide * out')) (ap (λ l. p ++ l) (sym (append_assoc its ws z)) ∙ sym (append_assoc p (its ++ ws) z))
+          ∙ take_at (p ++ (its ++ ws)) z (recWide * out') all;
     }
   where
     p : List ℕ
@@ -68,7 +68,7 @@ laid-close {w} {w'} {ws} {out} {out'} six e a =
     pm-long : length (take (recWide * (out + 1)) w) ≡ recWide * (out + 1)
     pm-long = length-take-le (recWide * (out + 1)) w (omega (arith, a.same, a.fits, a.long))
 
-    m-long : length m ≡ length six
+    m-long : length m ≡ length its
     m-long = omega (arith, length-append p m, ap length pm, pm-long, p-long, e)
 
     was : w' ≡ p ++ (m ++ (ws ++ z))
@@ -78,11 +78,11 @@ laid-close {w} {w'} {ws} {out} {out'} six e a =
         ∙ append_assoc (p ++ m) ws z
         ∙ append_assoc p m (ws ++ z)
 
-    now : sets w' (recWide * out) six ≡ p ++ (six ++ (ws ++ z))
-    now = ap (λ l. sets l (recWide * out) six) was ∙ ap (λ (k : ℕ). sets (p ++ (m ++ (ws ++ z))) k six) (sym p-long) ∙ overwrite p m six (ws ++ z) m-long
+    now : sets w' (recWide * out) its ≡ p ++ (its ++ (ws ++ z))
+    now = ap (λ l. sets l (recWide * out) its) was ∙ ap (λ (k : ℕ). sets (p ++ (m ++ (ws ++ z))) k its) (sym p-long) ∙ overwrite p m its (ws ++ z) m-long
 
-    all : length (p ++ (six ++ ws)) ≡ recWide * out'
-    all = omega (arith, length-append p (six ++ ws), length-append six ws, p-long, a.long, e)
+    all : length (p ++ (its ++ ws)) ≡ recWide * out'
+    all = omega (arith, length-append p (its ++ ws), length-append its ws, p-long, a.long, e)
 
 -- so a node is laid, where what is beneath it was laid in the order handed over
 pub laid-node : {w w' : List ℕ} {out out' : ℕ} (n : Node) → Laid w (out + 1) w' out' (concat (arrange (turned n.kind n.items) (wordGroups n.items)))

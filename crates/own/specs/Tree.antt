@@ -127,7 +127,7 @@ nodes n = n ∷ concat (arrange (turned n.kind n.items) (groups n.items))
 abbrev pub below : Node → List Node
 below n = arrange (turned n.kind n.items) (kids n.items)
 
--- A record: six words. The place runs from start to stop, the byte after its last token.
+-- A record: the first six of its words. The place runs from start to stop, the byte after its last token.
 pub record Rec : Type 0 where
   pub kind : ℕ
   pub start : ℕ

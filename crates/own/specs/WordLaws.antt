@@ -49,6 +49,11 @@ pub recs-words : (rs : List Rec) (z : List ℕ) → recs (length rs) (recWords r
 recs-words [] z = refl
 recs-words (r ∷ rs) z = ap (λ l. r ∷ l) (recs-words rs z)
 
+-- So many words a record.
+pub record-words-length : (rs : List Rec) → length (recWords rs) ≡ recWide * length rs
+record-words-length [] = refl
+record-words-length (r ∷ rs) = let h = record-words-length rs in omega arith
+
 -- As many as are read.
 pub recs-length : (n : ℕ) (w : List ℕ) → length (recs n w) ≡ n
 recs-length zero w = refl

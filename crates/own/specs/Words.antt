@@ -5,16 +5,16 @@ use Rattle.std.specs.Prelude.{◌≡◌, List, [], ◌∷◌, ℕ, zero, suc, �
 use Rattle.text.specs.Widths.{tokWide, recWide}
 use Rattle.own.specs.Tree.{Tok, Items, none, mark, sub, Node, roots, yield, begin, end, turned, arrange, concat, Rec, tokens, records, Fine}
 
--- The words of a record, before other words.
+-- The words of a record, before other words. The seventh, how many records back its parent begins, is 0 until all records stand (crate `up`).
 abbrev pub recThen : ℕ → ℕ → ℕ → ℕ → ℕ → ℕ → List ℕ → List ℕ
-recThen kind start stop low high size ws = kind ∷ start ∷ stop ∷ low ∷ high ∷ size ∷ ws
+recThen kind start stop low high size ws = kind ∷ start ∷ stop ∷ low ∷ high ∷ size ∷ 0 ∷ ws
 
 -- The first n tokens of a buffer.
 abbrev pub toks : (ℕ → ℕ → ℕ → ℕ) → ℕ → List ℕ → List Tok
 toks c zero w = []
 toks c (suc n) w = record { class = c (get_or w 0 0) (get_or w 1 0) (get_or w 2 0); start = get_or w 1 0; stop = get_or w 2 0 } ∷ toks c n (drop tokWide w)
 
--- The first n records of a buffer.
+-- The first n records of a buffer: the first six words of each.
 abbrev pub recs : ℕ → List ℕ → List Rec
 recs zero w = []
 recs (suc n) w =

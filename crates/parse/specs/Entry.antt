@@ -63,7 +63,7 @@ answer_of en most draft words n rw =
     cond (tooMany most n (length words)) (refused refusal.TooMany 0)
     (cond (tooLong en (length draft)) (refused refusal.TooLong 0) (fitted rw (reading_of en draft (tokensIn n words))))
 
--- Every word of the tree buffer: six words a record and zeros behind them; otherwise zeros alone.
+-- Every word of the tree buffer: six words a record, a seventh that is 0, and zeros behind them; otherwise zeros alone.
 unfoldable pub tree_of : Entry → ℕ → List ℕ → List ℕ → ℕ → ℕ → List ℕ
 tree_of en most draft words n rw =
     let r = reading_of en draft (tokensIn n words) in

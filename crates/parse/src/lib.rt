@@ -48,7 +48,8 @@ pub enum Answer {
     Refused { number: u32, place: usize },
 }
 
-// Writes the records of one function, a draft with so many tokens, `RECORD_WORDS` words each, and zeros behind them; on a refusal every word is 0.
+// Writes the records of one function, a draft with so many tokens, `RECORD_WORDS` words each, and zeros behind them; on a refusal every word is 0. The last
+// word of each record, its way up, is 0 too: crate `up` fills it.
 pub fn parse(draft: &[u8], tokens: &[u32], count: usize, tree: &mut [u32]) -> Answer
     ensures answer { meant count result ≡ answer_of oneFunction draftLimits.tokens draft.now tokens.now count (length tree.old) }
     ensures tree { tree.new ≡ tree_of oneFunction draftLimits.tokens draft.now tokens.now count (length tree.old) }

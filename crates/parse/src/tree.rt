@@ -40,6 +40,7 @@ fn put(tree: &mut [u32], here: u32, kind: u32, start: u32, end: u32, low: u32, h
         tree[base + 3] = low;
         tree[base + 4] = high;
         tree[base + 5] = size;
+        tree[base + 6] = 0;
     }
 }
 

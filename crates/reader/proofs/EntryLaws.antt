@@ -1,32 +1,49 @@
 -- From what the writer of lines ensures to the listing of a draft in its buffer.
 -- Assumes nothing.
-use mathlib.Core.List.{List, []}
+use mathlib.Core.List.{List, [], ◌++◌}
 use mathlib.Core.Path.{◌≡◌, sym, ap, ap₂, ◌∙◌}
-use Prim.Native.Nat.{ℕ, ◌*◌, ◌≤◌}
+use Prim.Native.Nat.{ℕ, ◌-◌, ◌*◌, ◌≤◌}
 use native.Mathlib.Omega.{arith}
-use lib.ListN.{length}
+use lib.ListN.{length, replicate}
 use Rattle.lexer.specs.Limits.{Limits, draftLimits}
 use Rattle.text.specs.Widths.{recWide}
-use Rattle.own.specs.Words.{recs}
-use Rattle.lines.specs.Lines.{lines}
+use Rattle.own.specs.Tree.{Rec}
+use Rattle.up.specs.Ways.{rowsIn, upWords}
+use Rattle.up.specs.Laws.{rows-up}
+use Rattle.lines.specs.Lines.{widths, lines_of, lines}
 use Rattle.lines.specs.Written.{used, padded}
 use Rattle.grammar.specs.Entry.{Entry}
-use Rattle.text.specs.Answers.{Answer, refused}
-use Rattle.grammar.specs.answers.Answer.{Reading, read, reading, recordsFor, recordsIn, treeBuffer, recordsRead}
+use Rattle.text.specs.Answers.{Answer, accepted, refused}
+use Rattle.grammar.specs.answers.Answer.{answer, content, recordsFor, recordsIn, treeBuffer, recordsRead}
 use Rattle.grammar.specs.answers.Outcome.{Accepted, Refusal}
 use Rattle.grammar.specs.answers.OutcomeLaws.{read-faultless}
-use Rattle.grammar.specs.answers.Laws.{law-1, refusals-in-order, law-4-lengths, handed-over}
+use Rattle.grammar.specs.answers.Laws.{law-1, refusals-in-order, law-4-lengths}
 use Rattle.grammar.specs.answers.Lines.{listed, listing}
 use Rattle.reader.specs.Listed.{listingOf, usedOf, bytes_of}
 
+-- The records of an accepted draft are those that were read, and its buffer has their words.
+were-read : (en : Entry) (l : Limits) (draft : List ℕ) (tw rw n m : ℕ) (a : Accepted en l draft tw rw n m) → recordsRead en l draft tw ≡ recordsFor en draft a.its-tokens a.shape
+unfolding recordsRead
+were-read en l draft tw rw n m a = ap recordsIn (read-faultless en l draft tw rw a.its-tokens a.shape a.shaped a.no-fault)
+
+buffer : (en : Entry) (l : Limits) (draft : List ℕ) (tw rw : ℕ) {n m : ℕ} → answer en l draft tw rw ≡ accepted n m
+    → treeBuffer en l draft tw rw ≡ upWords (recordsRead en l draft tw) ++ replicate (rw - length (upWords (recordsRead en l draft tw))) 0
+unfolding treeBuffer
+buffer en l draft tw rw e = ap (λ (x : Answer). content x (upWords (recordsRead en l draft tw)) rw) e
+
 -- The lines of an accepted draft's records are its listing,
-accepted-listing : (en : Entry) (l : Limits) (draft : List ℕ) (tw rw n m : ℕ) → Accepted en l draft tw rw n m → lines (recs m (treeBuffer en l draft tw rw)) ≡ listing en l draft tw rw
-unfolding listing recordsRead
+accepted-listing : (en : Entry) (l : Limits) (draft : List ℕ) (tw rw n m : ℕ) → Accepted en l draft tw rw n m
+    → lines_of widths (rowsIn m (treeBuffer en l draft tw rw)) ≡ listing en l draft tw rw
+unfolding listing
 accepted-listing en l draft tw rw n m a =
     let ts = a.its-tokens in
+    let rs = recordsFor en draft ts a.shape in
     let e = (law-1 en l draft tw rw n m).1 a in
-    let f : reading en l draft tw ≡ read ts (recordsFor en draft ts a.shape) = read-faultless en l draft tw rw ts a.shape a.shaped a.no-fault in
-    ap lines (handed-over en l draft tw rw n m a).1 ∙ sym (ap₂ (λ (x : Answer) (y : Reading). lines (listed x (recordsIn y))) e f)
+    let z = replicate (rw - length (upWords rs)) 0 in
+    let f : recordsRead en l draft tw ≡ rs = were-read en l draft tw rw n m a in
+    ap (lines_of widths)
+    ((λ i. rowsIn (a.records-number i) ((buffer en l draft tw rw e ∙ ap (λ (x : List Rec). upWords x ++ replicate (rw - length (upWords x)) 0) f) i)) ∙ rows-up rs z)
+    ∙ sym (ap₂ (λ (x : Answer) (y : List Rec). lines (listed x y)) e f)
 
 -- and so is the line of a refusal.
 refused-listing : (en : Entry) (l : Limits) (draft : List ℕ) (tw rw c p : ℕ) → Refusal en l draft tw rw c p → lines (listed (refused c p) []) ≡ listing en l draft tw rw
@@ -45,11 +62,11 @@ is-listed : (text : List ℕ) {o listed : List ℕ} (k : ℕ) {r : ℕ} → r �
 is-listed text k u b e = (u ∙ ap (λ (x : List ℕ). used x k) e, b ∙ ap (λ (x : List ℕ). padded x k) e)
 
 -- of an accepted draft, and of a refusal,
-pub accepted-is : {en : Entry} (draft tree : List ℕ) {o : List ℕ} (tw rw n m k : ℕ) {r : ℕ} → r ≡ used (lines (recs m tree)) k → o ≡ padded (lines (recs m tree)) k
+pub accepted-is : {en : Entry} (draft tree : List ℕ) {o : List ℕ} (tw rw n m k : ℕ) {r : ℕ} → r ≡ used (lines_of widths (rowsIn m tree)) k → o ≡ padded (lines_of widths (rowsIn m tree)) k
     → Accepted en draftLimits draft tw rw n m → tree ≡ treeBuffer en draftLimits draft tw rw
     → (r ≡ used (listing en draftLimits draft tw rw) k) × (o ≡ padded (listing en draftLimits draft tw rw) k)
 accepted-is {en} draft tree tw rw n m k u b a e =
-    is-listed (lines (recs m tree)) k u b (ap (λ (w : List ℕ). lines (recs m w)) e ∙ accepted-listing en draftLimits draft tw rw n m a)
+    is-listed (lines_of widths (rowsIn m tree)) k u b (ap (λ (w : List ℕ). lines_of widths (rowsIn m w)) e ∙ accepted-listing en draftLimits draft tw rw n m a)
 
 pub refused-is : {en : Entry} (draft : List ℕ) {o : List ℕ} (tw rw c p k : ℕ) {r : ℕ} → r ≡ used (lines (listed (refused c p) [])) k → o ≡ padded (lines (listed (refused c p) [])) k
     → Refusal en draftLimits draft tw rw c p → (r ≡ used (listing en draftLimits draft tw rw) k) × (o ≡ padded (listing en draftLimits draft tw rw) k)

@@ -14,14 +14,17 @@ use Rattle.lexer.specs.Lexemes.{Token, Lexemes, tokens, refusedAt, lexemes}
 use Rattle.lexer.specs.Limits as lexer
 use Rattle.lexer.specs.Limits.{Limits, draftLimits, room, noToken, tooDeep, deep, judged, lexedOf, bufferOf, tokensOf, tokenWords}
 use Rattle.lexer.specs.Buffer.{tokensIn}
-use Rattle.text.specs.Widths.{tokWide}
+use Rattle.text.specs.Widths.{tokWide, recWide}
 use Rattle.text.specs.Answers.{Answer, accepted, refused}
 use Rattle.text.specs.Refusals as refusal
 use Rattle.own.specs.Words.{recWords}
+use Rattle.own.specs.WordLaws.{record-words-length}
+use Rattle.up.specs.Ways.{upWords, upward}
+use Rattle.up.specs.Laws.{up-words-long, raised-words}
 use Rattle.own.specs.Tree.{classesOf}
 use Rattle.grammar.specs.Entry.{Entry, oneFunction, wholeFile}
 use Rattle.grammar.specs.shapes.WellShaped.{shape_of}
-use Rattle.grammar.specs.answers.Answer.{toks_of, Reading, shaped, lexed, reading, fitted, answer, content, recordsIn, tokenBuffer, treeBuffer, recordsRead}
+use Rattle.grammar.specs.answers.Answer.{toks_of, Reading, unread, read, shaped, lexed, reading, fitted, answer, content, recordsIn, tokenBuffer, treeBuffer, recordsRead}
 use Rattle.grammar.specs.answers.Laws.{token-buffer-lexed, law-4-refused}
 use Rattle.parse.specs.Contract.{u32Count}
 use Rattle.parse.specs.Entry.{tooMany, tooLong, reading_of, answer_of, tree_of}
@@ -72,6 +75,19 @@ unfolding tokensIn tokenWords
 read_again [] z = refl
 read_again (t ∷ ts) z = ap (λ l. t ∷ l) (read_again ts z)
 
+-- An accepted draft has as many records as were read.
+abbrev records-of : Answer → ℕ
+records-of (accepted n m) = m
+records-of (refused c p) = 0
+
+as-many : (space : ℕ) (x : Reading) {n m : ℕ} → fitted space x ≡ accepted n m → m ≡ length (recordsIn x)
+as-many space (unread c p) e = absurd (differ (ap lexing e))
+as-many space (read ts rs) {n} {m} e = go (ltb space (recWide * length rs)) e
+  where
+    go : (b : Bool) → cond b (refused refusal.NoRoom 0) (accepted (length ts) (length rs)) ≡ accepted n m → m ≡ length rs
+    go true f = absurd (differ (ap lexing f))
+    go false f = sym (ap records-of f)
+
 module _ (en : Entry) (draft words : List ℕ) (n rw : ℕ) (e : lexedOf draftLimits draft (length words) ≡ accepted n 0) (w : words ≡ bufferOf draftLimits draft (length words)) where
   its : List Token
   its = tokensOf (lexemes draft)
@@ -107,6 +123,10 @@ module _ (en : Entry) (draft words : List ℕ) (n rw : ℕ) (e : lexedOf draftLi
       ap (λ (x : Answer). lexed en x draft (tokensOf (lexemes draft))) e
       ∙ ap (λ (ts : List Token). shaped en draft ts (shape_of en (classesOf (toks_of draft ts)))) (sym tokens-are)
 
+  its-fitted : fitted rw (reading en draftLimits draft (length words)) ≡ answer en draftLimits draft (length words) rw
+  unfolding answer
+  its-fitted = refl
+
   its-answer : answer en draftLimits draft (length words) rw ≡ fitted rw (reading_of en draft (tokensIn n words))
   unfolding answer
   its-answer = ap (fitted rw) its-reading
@@ -117,12 +137,31 @@ module _ (en : Entry) (draft words : List ℕ) (n rw : ℕ) (e : lexedOf draftLi
   parsed-answer =
       ap₂ (λ (b c : Bool). cond b (refused refusal.TooMany 0) (cond c (refused refusal.TooLong 0) (fitted rw (reading_of en draft (tokensIn n words))))) not-many not-long ∙ sym its-answer
 
-  -- and so are the words of the tree buffer.
-  pub parsed-tree : tree_of en draftLimits.tokens draft words n rw ≡ treeBuffer en draftLimits draft (length words) rw
-  unfolding tree_of treeBuffer recordsRead
-  parsed-tree =
+  -- and the words of the tree buffer are those of the records, without their ways up.
+  parsed-words : tree_of en draftLimits.tokens draft words n rw ≡ content (answer en draftLimits draft (length words) rw) (recWords (recordsIn (reading en draftLimits draft (length words)))) rw
+  unfolding tree_of
+  parsed-words =
       ap₂ (λ (b c : Bool). cond b (replicate rw 0) (cond c (replicate rw 0) (content (fitted rw (reading_of en draft (tokensIn n words))) (recWords (recordsIn (reading_of en draft (tokensIn n words)))) rw))) not-many not-long
       ∙ ap₂ (λ (x : Answer) (r : Reading). content x (recWords (recordsIn r)) rw) (sym its-answer) (sym its-reading)
+
+  -- Where the draft is accepted they are given,
+  pub parsed-raised : {k m : ℕ} → answer en draftLimits draft (length words) rw ≡ accepted k m → upward m (tree_of en draftLimits.tokens draft words n rw) ≡ treeBuffer en draftLimits draft (length words) rw
+  unfolding treeBuffer recordsRead
+  parsed-raised {k} {m} e =
+      let rs = recordsIn (reading en draftLimits draft (length words)) in
+      let many : m ≡ length rs = as-many rw (reading en draftLimits draft (length words)) (its-fitted ∙ e) in
+      let long : length (recWords rs) ≡ length (upWords rs) = record-words-length rs ∙ sym (up-words-long rs) in
+      (λ i. upward (many i) ((parsed-words ∙ ap (λ (x : Answer). content x (recWords rs) rw) e) i))
+      ∙ raised-words rs (replicate (rw - length (recWords rs)) 0)
+      ∙ ap (λ (j : ℕ). upWords rs ++ replicate (rw - j) 0) long
+      ∙ sym (ap (λ (x : Answer). content x (upWords rs) rw) e)
+
+  -- and where it is refused every word is 0.
+  pub parsed-zeros : {c p : ℕ} → answer en draftLimits draft (length words) rw ≡ refused c p → tree_of en draftLimits.tokens draft words n rw ≡ treeBuffer en draftLimits draft (length words) rw
+  parsed-zeros {c} {p} e =
+      parsed-words
+      ∙ ap (λ (x : Answer). content x (recWords (recordsIn (reading en draftLimits draft (length words)))) rw) e
+      ∙ sym (law-4-refused en draftLimits draft (length words) rw c p e).1
 
 module _ (en : Entry) where
   -- The tokens of an accepted draft stay where they are.

@@ -1,5 +1,5 @@
 -- What `list_draft` hands over (document 01, "The listing program"): "it gets the bytes used, 36 times the lines, the rest zero. It gets 0, all
--- bytes zero, only when the lines do not fit."
+-- bytes zero, only when the lines do not fit." A line has 41 bytes now, and "the C entry counts 41 a line" (document 02, order 7).
 -- Assumes nothing.
 use Rattle.std.specs.Prelude.{List, ℕ, ◌+◌, ◌*◌}
 use Rattle.lexer.specs.Limits.{draftLimits}

@@ -19,7 +19,7 @@ pub const LISTING_BYTES: usize = lines::LINE_BYTES * (lexer::DRAFT_TOKENS + RECO
 // A draft of at most so many bytes is short: its tokens and records get smaller buffers.
 const SHORT_BYTES: usize = 512;
 
-// Lists a refusal: kind 0, the place twice, the number as low, high 0, size 1. A line has digits for the low part of a place.
+// Lists a refusal: kind 0, the place twice, the number as low, high 0, size 1, way up 0. A line has digits for the low part of a place.
 fn refusal(number: u32, place: usize, out: &mut [u8]) -> usize
     ensures used { result ≡ used (lines (spec.listed (refused number place) [])) (length out.old) }
     ensures bytes { out.new ≡ padded (lines (spec.listed (refused number place) [])) (length out.old) }

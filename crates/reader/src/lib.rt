@@ -23,7 +23,7 @@ pub enum Reading {
     Refused { number: u32, place: usize },
 }
 
-// Reads one function: three words a token, six words a record, zeros behind them; on a refusal every word of both buffers is 0.
+// Reads one function: three words a token, seven words a record, zeros behind them; on a refusal every word of both buffers is 0.
 pub fn read(draft: &[u8], tokens: &mut [u32], tree: &mut [u32]) -> Reading
     ensures answer { meant result ≡ answer oneFunction draftLimits draft.now (length tokens.old) (length tree.old) }
     ensures values { returned result ≡ values (answer oneFunction draftLimits draft.now (length tokens.old) (length tree.old)) }
@@ -61,7 +61,7 @@ fn read_as(draft: &[u8], tokens: &mut [u32], tree: &mut [u32], file: bool) -> Re
     }
 }
 
-// The answer of the parser over the tokens that were lexed; on a refusal the tokens are cleared too.
+// The answer of the parser over the tokens that were lexed, its records given their ways up; on a refusal the tokens are cleared too.
 fn parsed(draft: &[u8], tokens: &mut [u32], count: usize, tree: &mut [u32], file: bool) -> Reading
     requires tokens_value { lexedOf draftLimits draft.now (length tokens.old) ≡ accepted count 0 }
     requires tokens_value_2 { tokens.old ≡ bufferOf draftLimits draft.now (length tokens.old) }
@@ -71,10 +71,13 @@ fn parsed(draft: &[u8], tokens: &mut [u32], count: usize, tree: &mut [u32], file
 {
     let answer = parse_as(draft, tokens, count, tree, file);
     match answer {
-        parse::Answer::Records(records) => Reading::Accepted {
-            tokens: count,
-            records,
-        },
+        parse::Answer::Records(records) => {
+            up::way_up(tree, records);
+            Reading::Accepted {
+                tokens: count,
+                records,
+            }
+        }
         parse::Answer::Refused { number, place } => {
             text::clear(tokens);
             Reading::Refused { number, place }

@@ -6,7 +6,7 @@ ghost use Rattle.reader.specs.Loading.{recordsLoaded, refusalLoaded, Refusing};
 
 use load::Loaded;
 
-// Loads a listing: the number of records, six words each, zeros behind them, and 0 and 0 as the refusal. Or 0, every word 0, and the refusal: its number,
+// Loads a listing: the number of records, seven words each, zeros behind them, and 0 and 0 as the refusal. Or 0, every word 0, and the refusal: its number,
 // and the first bad line from 1, or 0.
 pub fn load_listing(listing: &[u8], words: &mut [u32], refusal: &mut [usize; 2]) -> usize
     ensures records { result ≡ recordsLoaded listing.now (length words.old) }

@@ -37,10 +37,10 @@ fn tree_buffer() -> [u32; 16384]
     [0; 16384]
 }
 
-fn byte_buffer() -> [u8; 80000]
-    ensures { 80000 ≡ length result }
+fn byte_buffer() -> [u8; 90000]
+    ensures { 90000 ≡ length result }
 {
-    [0; 80000]
+    [0; 90000]
 }
 
 // Sets every word to 7, so that a word that is not written shows.
@@ -181,7 +181,8 @@ fn write_reading(draft: &[u8], tokens: &mut [u32], tree: &mut [u32], file: bool)
     }
 }
 
-// Whether the words of one function are those of the file behind its first record, as far as there are both.
+// Whether the words of one function are those of the file behind its first record, as far as there are both; but for the function's own way up, which
+// leads to the first record of the file.
 fn same_below(one: &[u32], whole: &[u32]) -> bool {
     let mut i: usize = 0;
     let mut j = text::RECORD_WORDS;
@@ -189,7 +190,7 @@ fn same_below(one: &[u32], whole: &[u32]) -> bool {
         if i >= one.len() {
             return true;
         }
-        if one[i] != whole[j] {
+        if i != up::UP && one[i] != whole[j] {
             return false;
         }
         i += 1;
@@ -226,7 +227,7 @@ fn write_listing(draft: &[u8], out: &mut [u8]) {
 
 // One case, with so many words and bytes of each buffer.
 fn write_case(draft: &[u8], words: usize, records: usize, bytes: usize)
-    requires { (words ≤ 8192) × (records ≤ 16384) × (bytes ≤ 80000) }
+    requires { (words ≤ 8192) × (records ≤ 16384) × (bytes ≤ 90000) }
 {
     let mut tokens = token_buffer();
     let mut one = tree_buffer();
@@ -273,7 +274,7 @@ fn run_case(s: &[u8], i: usize) -> usize
     if tree.value > 16384 {
         return bad_case(s);
     }
-    if bytes.value > 80000 {
+    if bytes.value > 90000 {
         return bad_case(s);
     }
     write_case(&s[start..end], tokens.value, tree.value, bytes.value);

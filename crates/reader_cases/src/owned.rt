@@ -1,7 +1,8 @@
 // Whether the records of an accepted draft own its tokens (document 01, "Records and the marks they own"; document 02, order 3), by trying every place.
 // A record owns what its place holds and no child's does. `TOKEN_WORDS` a token and `RECORD_WORDS` a record, with no words behind them.
 // Check 1: one record alone owns each token; no other that holds it has as few bytes; its kind may own the token's class.
-// Check 2: a child is of a kind that its record may hold, and in its place; the children's sizes and one more are the record's size.
+// Check 2: a child is of a kind that its record may hold, and in its place; the children's sizes and one more are the record's size; a child's way up
+// leads back to its record, and that of the first record is 0.
 // Check 3: the tokens that each record owns add up to the tokens.
 // Check 4: of two built-in arms of one match the first is odd, and the second one more.
 ghost use Rattle.std.specs.Prelude.{◌+◌, ◌*◌, ◌≤◌, ◌<◌, length};
@@ -9,6 +10,7 @@ ghost use Rattle.text.specs.Widths.{recWide};
 
 use own::{arm, kind};
 use text::{RECORD_WORDS, TOKEN_WORDS};
+use up::UP;
 
 fn wide(w: u32) -> usize
     ensures { result < 4294967296 }
@@ -135,10 +137,13 @@ fn tokens_owned(draft: &[u8], tokens: &[u32], tree: &[u32]) -> bool {
     true
 }
 
-// Whether a child is of a kind that the record may hold and has its place within the record's.
+// Whether a child is of a kind that the record may hold, has its place within the record's, and leads back to it.
 fn child_fits(tree: &[u32], i: usize, c: usize) -> bool
-    requires { (recWide * i + recWide ≤ length tree.now) × (recWide * c + recWide ≤ length tree.now) }
+    requires { (recWide * i + recWide ≤ length tree.now) × ((recWide * c + recWide ≤ length tree.now) × (i < c)) }
 {
+    if wide(tree[RECORD_WORDS * c + UP]) != c - i {
+        return false;
+    }
     if kinds::may_hold(tree[RECORD_WORDS * i], tree[RECORD_WORDS * c]) {
         holds(
             tree,
@@ -264,7 +269,7 @@ pub(crate) fn owned(draft: &[u8], tokens: &[u32], tree: &[u32]) -> bool {
     if tree.len() < RECORD_WORDS {
         return false;
     }
-    if wide(tree[5]) != tree.len() / RECORD_WORDS {
+    if wide(tree[5]) != tree.len() / RECORD_WORDS || tree[UP] != 0 {
         return false;
     }
     trees_owned(draft, tokens, tree)
@@ -277,7 +282,7 @@ fn program_first(tree: &[u32], bytes: usize) -> bool
     if tree[0] != kind::PROGRAM || tree[1] != 0 || wide(tree[2]) != bytes {
         return false;
     }
-    tree[3] == 0 && tree[4] == 0 && wide(tree[5]) == tree.len() / RECORD_WORDS
+    tree[3] == 0 && tree[4] == 0 && wide(tree[5]) == tree.len() / RECORD_WORDS && tree[UP] == 0
 }
 
 // Whether the records of an accepted file own its tokens: the first, which is no other's kind, owns none and holds its items; the four checks hold of all

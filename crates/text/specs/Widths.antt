@@ -1,5 +1,5 @@
--- How many words of a lent buffer a token and a record take (document 01, "Lexemes" and "Records and the marks they own"): each of the
--- two numbers stands here and nowhere else.
+-- How many words of a lent buffer a token and a record take (document 01, "Lexemes" and "Records and the marks they own"; document 02,
+-- order 7): each of the two numbers stands here and nowhere else.
 -- Assumes nothing.
 use Rattle.std.specs.Prelude.{ℕ}
 
@@ -7,6 +7,6 @@ use Rattle.std.specs.Prelude.{ℕ}
 abbrev pub tokWide : ℕ
 tokWide = 3
 
--- "Six u32 words: kind, start, end, low, high, size."
+-- "Six u32 words: kind, start, end, low, high, size.", and "a seventh word: how many records back its parent begins" (document 02, order 7).
 abbrev pub recWide : ℕ
-recWide = 6
+recWide = 7

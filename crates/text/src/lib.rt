@@ -9,7 +9,7 @@ pub mod refusal;
 // How many words a token and a record take in their buffers.
 pub const TOKEN_WORDS: usize = 3;
 
-pub const RECORD_WORDS: usize = 6;
+pub const RECORD_WORDS: usize = 7;
 
 // The raw text of a start and an end: that part of the caller's draft, or the empty part at 0 if it is out of range.
 pub fn part(draft: &[u8], start: usize, end: usize) -> &[u8]

@@ -41,16 +41,16 @@ pub const ARM_COUNT: u32 = 13;
 // two built-in arms, not Left with Right, None with Some, False with True
 pub const NO_PARTNERS: u32 = 14;
 
-// tree buffer under six words a record
+// tree buffer under seven words a record
 pub const NO_ROOM: u32 = 15;
 
-// of a listing: a line is not of the 36-byte form
+// of a listing: a line is of neither form, or of another than the first
 pub const BAD_LINE: u32 = 16;
 
-// the lines form neither a whole function nor a whole program
+// the lines form neither a whole function nor a whole program, or a way up is wrong
 pub const NOT_WHOLE: u32 = 17;
 
-// record buffer under six words a record
+// record buffer under seven words a record
 pub const NO_LOAD_ROOM: u32 = 18;
 
 // of a shape again, among 9 to 14 by earliest place: an array type's length is over the largest 64-bit number

@@ -17,7 +17,7 @@ pub extern "C" fn togmelic_list(draft: &[u8], out: &mut [u8]) -> usize
     reader::entry::list_draft(draft, out)
 }
 
-// Loads a listing: the number of records, six words each, zeros behind them, and 0 and 0 as the refusal. Or 0, every word 0, and the refusal: its number,
+// Loads a listing: the number of records, seven words each, zeros behind them, and 0 and 0 as the refusal. Or 0, every word 0, and the refusal: its number,
 // and the first bad line from 1, or 0.
 #[unsafe(no_mangle)]
 pub extern "C" fn togmelic_load(

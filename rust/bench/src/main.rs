@@ -1,6 +1,7 @@
 //! Reads one draft, or loads its listing, again and again, for bench/reader/run.sh. Use: bench CASE WHICH REPEATS, where WHICH is `here`,
-//! the proved reader through its entry for C, or `partner`, the plain Rust reader; `load-here` and `load-partner` load the draft's listing.
-//! Both are called in the same loop and with the same buffer, of 73,764 bytes or 12,294 words, lent again each time. The
+//! the proved reader through its entry for C, or `partner`, the plain Rust reader; `load-here` and `load-partner` load the draft's listing,
+//! `short-here` and `short-partner` the same in lines of 36 bytes, without the way up.
+//! Both are called in the same loop and with the same buffer, of 84,009 bytes or 14,343 words, lent again each time. The
 //! checksum is taken once, after the loop, so that it cancels where two runs are subtracted.
 //! `bench CASE tokens` and `bench CASE records` write the numbers of tokens and records, and `bench cases` the names of the cases.
 
@@ -12,6 +13,8 @@ use std::time::Instant;
 
 /// Lists a draft into a buffer: the bytes used.
 type List = fn(&[u8], &mut [u8]) -> usize;
+/// The lines of a draft.
+type Lines = fn(&[u8]) -> Vec<u8>;
 /// Loads a listing into a buffer: the records.
 type Load = fn(&[u8], &mut [u32]) -> usize;
 
@@ -22,7 +25,7 @@ fn main() -> ExitCode {
         Some(line) => println!("{line}"),
         None => {
             eprintln!(
-                "use: bench CASE [load-]here|[load-]partner REPEATS, bench CASE tokens|records, bench cases"
+                "use: bench CASE [load-|short-]here|[load-|short-]partner REPEATS, bench CASE tokens|records, bench cases"
             );
             return ExitCode::FAILURE;
         }
@@ -35,12 +38,10 @@ fn run(words: &[&str]) -> Option<String> {
         ["cases"] => Some(cases::NAMES.join(" ")),
         [case, "tokens"] => tokens(&cases::draft(case)?).map(|count| count.to_string()),
         [case, "records"] => Some(records(&cases::draft(case)?).to_string()),
-        [case, "load-here", repeats] => {
-            measure_load(&cases::draft(case)?, load_here, repeats.parse().ok()?)
-        }
-        [case, "load-partner", repeats] => {
-            measure_load(&cases::draft(case)?, load_partner, repeats.parse().ok()?)
-        }
+        [case, "load-here", repeats] => loads(case, lines, load_here, repeats),
+        [case, "load-partner", repeats] => loads(case, lines, load_partner, repeats),
+        [case, "short-here", repeats] => loads(case, short_lines, load_here, repeats),
+        [case, "short-partner", repeats] => loads(case, short_lines, load_partner, repeats),
         [case, "here", repeats] => measure(&cases::draft(case)?, here, repeats.parse().ok()?),
         [case, "partner", repeats] => measure(
             &cases::draft(case)?,
@@ -100,14 +101,33 @@ fn load_partner(listing: &[u8], words: &mut [u32]) -> usize {
     records.len()
 }
 
+/// The lines of a draft as they are written.
+fn lines(draft: &[u8]) -> Vec<u8> {
+    togmelic::listing(draft)
+}
+
+/// Its lines as they were written before the way up.
+fn short_lines(draft: &[u8]) -> Vec<u8> {
+    let short = |line: &[u8]| [&line[..togmelic::SHORT_LINE - 1], b"\n"].concat();
+    lines(draft)
+        .chunks(togmelic::LINE)
+        .flat_map(short)
+        .collect()
+}
+
+/// What loading a case's listing measures.
+fn loads(case: &str, lines: Lines, load: Load, repeats: &str) -> Option<String> {
+    let listing = lines(&cases::draft(case)?);
+    measure_load(&listing, load, repeats.parse().ok()?)
+}
+
 /// Records, checksum of their words, and microseconds of one loading.
-fn measure_load(draft: &[u8], load: Load, repeats: u32) -> Option<String> {
-    let listing = togmelic::listing(draft);
+fn measure_load(listing: &[u8], load: Load, repeats: u32) -> Option<String> {
     let mut words = vec![0; togmelic::RECORD_WORDS * togmelic::MOST_LINES];
     let mut records = 0;
     let start = Instant::now();
     for _ in 0..repeats {
-        records = black_box(load)(black_box(&listing), black_box(&mut words));
+        records = black_box(load)(black_box(listing), black_box(&mut words));
     }
     let microseconds = start.elapsed().as_secs_f64() * 1e6 / f64::from(repeats);
     let bytes: Vec<u8> = words.iter().flat_map(|word| word.to_le_bytes()).collect();

@@ -1,12 +1,13 @@
 //! Trees changed by chance so that their sizes still add up: most are of no draft, and many are still functions or files.
+//! The ways up stay as they were.
 
 use crate::random::Random;
 use partner::kinds::record;
-use partner::{write_lines, Record};
+use partner::Record;
 
 /// A part replaced by one of another tree, taken out, doubled, or exchanged with the part behind it. The tree has a part
 /// below its top.
-pub fn graft(records: &[Record], other: &[Record], random: &mut Random) -> Vec<u8> {
+pub fn graft(records: &[Record], other: &[Record], random: &mut Random) -> Vec<Record> {
     let mut tree = records.to_vec();
     let at = 1 + random.below(tree.len() - 1);
     let size = tree[at][5] as usize;
@@ -22,7 +23,7 @@ pub fn graft(records: &[Record], other: &[Record], random: &mut Random) -> Vec<u
             replace(&mut tree, at..at + size, part);
         }
     }
-    write_lines(&tree)
+    tree
 }
 
 /// Puts a part in place of another, and mends the sizes above it.

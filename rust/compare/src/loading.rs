@@ -97,7 +97,7 @@ impl Loading {
             found.listing.len(),
             found.room
         );
-        for line in found.listing.chunks(togmelic::LINE) {
+        for line in found.listing.split_inclusive(|byte| *byte == b'\n') {
             eprintln!("{}", line.escape_ascii());
         }
         found.here.show("here", found.room);

@@ -9,6 +9,7 @@
 //!   stream    the drafts on standard input: length, line end, bytes
 //!   shapes    listings of records with every few children
 //!   listings  the listings of the drafts on standard input, whole and damaged
+//! Listings are compared in both forms, of 41 and of 36 bytes a line, and with lines of both.
 //! Writes one line a run and the total. After a difference, the smallest such draft or listing stands on standard
 //! error.
 

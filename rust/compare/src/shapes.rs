@@ -8,7 +8,7 @@ use crate::trees::{
     Tree,
 };
 use partner::kinds::record;
-use partner::{write_lines, Record};
+use partner::{write_lines, write_short_lines, Record};
 use std::ops::RangeInclusive;
 use togmelic::RECORD_WORDS;
 
@@ -97,8 +97,11 @@ fn compare(tree: Tree, loading: &mut Loading) -> bool {
     taken
 }
 
+/// Compares the records' lines in both forms.
 fn check(records: &[Record], loading: &mut Loading) -> bool {
-    loading.check(&write_lines(records), RECORD_WORDS * records.len())
+    let words = RECORD_WORDS * records.len();
+    loading.check(&write_short_lines(records), words);
+    loading.check(&write_lines(records), words)
 }
 
 fn compare_row(row: &Row, loading: &mut Loading) {
@@ -161,6 +164,7 @@ fn places(loading: &mut Loading) {
                 // The item with the top's place too, over children that keep theirs; then that item as the top.
                 (file[1][1], file[1][2]) = place;
                 check(&file, loading);
+                file[1][6] = 0;
                 check(&file[1..], loading);
             }
         }
@@ -181,26 +185,27 @@ fn long(loading: &mut Loading) {
     for count in [0xFFFE, 0xFFFF, 0x1_0000, 0x1_0001, 0x1_0003] {
         // Three of the records stand around the others: function, name, block; and a file's program.
         let functions = row_and_chain(count - 3).map(function);
-        let files = row_and_chain(count - 4).map(|tree| program(&[function(tree)]));
+        let files = row_and_chain(count - 4).map(|trees| program(&[function(trees)]));
         let items = program(&vec![smallest(record::TYPE_ITEM); (count - 1) / 3]);
         for tree in functions.iter().chain(&files).chain([&items]) {
-            let lines = write_lines(tree);
-            for room in [RECORD_WORDS * tree.len() - 1, RECORD_WORDS * tree.len()] {
-                loading.check(&lines, room);
+            for lines in [write_lines(tree), write_short_lines(tree)] {
+                for room in [RECORD_WORDS * tree.len() - 1, RECORD_WORDS * tree.len()] {
+                    loading.check(&lines, room);
+                }
             }
         }
     }
 }
 
 /// So many records side by side, and as many inside one another.
-fn row_and_chain(count: usize) -> [Tree; 2] {
+fn row_and_chain(count: usize) -> [Vec<Tree>; 2] {
     let chain = (1..count as u32 + 1)
         .rev()
-        .map(|size| [record::BLOCK, 0, 9, u32::from(size > 1), 0, size]);
-    [vec![value(); count].concat(), chain.collect()]
+        .map(|size| [record::BLOCK, 0, 9, u32::from(size > 1), 0, size, 1]);
+    [vec![value(); count], vec![chain.collect()]]
 }
 
-/// A function with these records in its block.
-fn function(tree: Tree) -> Tree {
-    over(record::FUNCTION, (0, 0), &[name(), block(1, &[tree])])
+/// A function with these expressions in its block.
+fn function(trees: Vec<Tree>) -> Tree {
+    over(record::FUNCTION, (0, 0), &[name(), block(1, &trees)])
 }

@@ -1,4 +1,5 @@
-//! Trees of records that no draft needs to give: built of kinds, with sizes that add up and all places alike.
+//! Trees of records that no draft needs to give: built of kinds, with sizes that add up, ways that lead to the parents and
+//! all places alike.
 
 use partner::kinds::{arm, call, record};
 use partner::Record;
@@ -7,9 +8,14 @@ pub type Tree = Vec<Record>;
 
 /// A record over its children.
 pub fn over(kind: u32, (low, high): (u32, u32), children: &[Tree]) -> Tree {
-    let beneath = children.concat();
-    let size = beneath.len() as u32 + 1;
-    [vec![[kind, 0, 9, low, high, size]], beneath].concat()
+    let mut tree = vec![[kind, 0, 9, low, high, 1, 0]];
+    for child in children {
+        let way = tree.len();
+        tree.extend_from_slice(child);
+        tree[way][6] = way as u32;
+    }
+    tree[0][5] = tree.len() as u32;
+    tree
 }
 
 pub fn name() -> Tree {
@@ -81,7 +87,7 @@ pub fn smallest(kind: u32) -> Tree {
 
 /// Functions and files in which the tree stands where one of its kind may stand.
 pub fn in_tops(tree: Tree) -> Vec<Tree> {
-    let [kind, _, _, low, _, _] = tree[0];
+    let [kind, _, _, low, ..] = tree[0];
     let function = |low, high, children: &[Tree]| {
         let children = [&[name()], children].concat();
         vec![over(record::FUNCTION, (low, high), &children)]

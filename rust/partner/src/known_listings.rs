@@ -1,6 +1,6 @@
 //! The listings of `listings.txt`, each loaded and compared with its stated result.
 
-use crate::{load, write_lines};
+use crate::{load, write_lines, write_short_lines, RECORD_WORDS};
 
 const CASES: &str = include_str!("../listings.txt");
 
@@ -48,7 +48,7 @@ fn changed(example: &[String], changes: &str) -> String {
     lines.concat()
 }
 
-/// Whether the listing has the stated result; what is loaded, written again, is the listing.
+/// Whether the listing has the stated result; what is loaded, written again in the same form, is the listing.
 fn holds(result: &str, listing: &str) -> bool {
     let mut words = result.split(' ');
     let what = words.next();
@@ -57,7 +57,8 @@ fn holds(result: &str, listing: &str) -> bool {
         Ok(records) => {
             what == Some("load")
                 && numbers == [records.len()]
-                && write_lines(&records) == listing.as_bytes()
+                && [write_lines(&records), write_short_lines(&records)]
+                    .contains(&listing.as_bytes().to_vec())
         }
         Err((number, line)) => what == Some("refuse") && numbers == [number as usize, line],
     }
@@ -65,7 +66,7 @@ fn holds(result: &str, listing: &str) -> bool {
 
 /// 18 when the buffer is a word too short, but 16 and 17 before it.
 fn buffer_holds(example: &[String]) -> bool {
-    let (listing, words) = (example.concat(), 6 * example.len());
+    let (listing, words) = (example.concat(), RECORD_WORDS * example.len());
     load(listing.as_bytes(), words).is_ok()
         && load(listing.as_bytes(), words - 1) == Err((18, 0))
         && load(b"", 0) == Err((17, 0))

@@ -122,10 +122,10 @@ fn buffers_hold() -> bool {
     };
     tokens_first(Entry::Function)
         && tokens_first(Entry::File)
-        && just_enough(Entry::Function, b"fn f(){}", 18, 18)
-        && just_enough(Entry::File, b"fn f(){}", 18, 24)
-        && just_enough(Entry::File, b"type A=u8;", 15, 24)
-        && just_enough(Entry::File, b" ", 0, 6)
+        && just_enough(Entry::Function, b"fn f(){}", 18, 21)
+        && just_enough(Entry::File, b"fn f(){}", 18, 28)
+        && just_enough(Entry::File, b"type A=u8;", 15, 28)
+        && just_enough(Entry::File, b" ", 0, 7)
 }
 
 #[test]

@@ -1,4 +1,4 @@
-//! Listings come back: the records of a listing, or one of the refusals 16 to 18, tested in this order.
+//! Listings come back: the records of a listing in either form, or one of the refusals 16 to 18, tested in this order.
 
 mod children;
 mod fields;
@@ -7,18 +7,47 @@ mod form;
 mod tests;
 
 use crate::kinds::{record, refusal};
-use crate::{Record, Refusal};
+use crate::{Record, Refusal, RECORD_WORDS};
+use form::Lines;
 
 /// Loads a listing for a record buffer of that many words: its records, or the number and line of the refusal.
 pub fn load(listing: &[u8], words: usize) -> Result<Vec<Record>, Refusal> {
-    let records = form::records(listing).map_err(|line| (refusal::BAD_LINE, line))?;
-    if !is_one_tree(&records) {
-        return Err((refusal::NOT_ONE_TREE, 0));
-    }
-    if words < 6 * records.len() {
+    let lines = form::lines(listing).map_err(|line| (refusal::BAD_LINE, line))?;
+    let records = tree(lines).ok_or((refusal::NOT_ONE_TREE, 0))?;
+    if words < RECORD_WORDS * records.len() {
         return Err((refusal::RECORDS_TOO_SMALL, 0));
     }
     Ok(records)
+}
+
+/// The records with their ways up, if they are one tree and no line has another way.
+fn tree(lines: Lines) -> Option<Vec<Record>> {
+    let mut records = lines.records;
+    if !is_one_tree(&records) {
+        return None;
+    }
+    let ways = ways_up(&records);
+    if !lines.have_ways {
+        for (record, way) in records.iter_mut().zip(&ways) {
+            record[6] = *way;
+        }
+    }
+    let right = records.iter().map(|record| record[6]).eq(ways);
+    right.then_some(records)
+}
+
+/// For each record of a tree how many records back its parent begins.
+fn ways_up(records: &[Record]) -> Vec<u32> {
+    // The record before and all that hold it, outermost first: where each begins and ends.
+    let mut around: Vec<(usize, usize)> = Vec::new();
+    let mut ways = Vec::with_capacity(records.len());
+    for (at, record) in records.iter().enumerate() {
+        while around.pop_if(|(_, end)| *end == at).is_some() {}
+        let parent = around.last().map_or(at, |(begin, _)| *begin);
+        ways.push((at - parent) as u32);
+        around.push((at, at + record[5] as usize));
+    }
+    ways
 }
 
 /// Whether the first record is a function or a file that holds all the others, each as its parent's row of the table

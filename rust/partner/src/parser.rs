@@ -112,7 +112,7 @@ impl<'a> Parser<'a> {
 
     /// Sets a record aside, before its children, for a rule that starts at the next token.
     fn open(&mut self) -> usize {
-        self.records.push([0, self.place() as u32, 0, 0, 0, 0]);
+        self.records.push([0, self.place() as u32, 0, 0, 0, 0, 0]);
         self.records.len() - 1
     }
 
@@ -121,17 +121,24 @@ impl<'a> Parser<'a> {
         let start = self.records[at][1];
         let end = self.tokens[self.next - 1][2];
         let size = (self.records.len() - at) as u32;
-        self.records[at] = [kind, start, end, low, high, size];
+        self.records[at] = [kind, start, end, low, high, size, 0];
+        self.adopt(at);
         Ok(())
     }
 
-    /// Fills in an opened record that holds a number. Without one the draft is refused, and as no
-    /// one will see the record, it stays as it was set aside.
-    fn close_number(&mut self, at: usize, kind: u32, number: Option<u64>) -> Step {
-        match number {
-            Some(number) => self.close(at, kind, halves(number)),
-            None => Ok(()),
+    /// Tells each child of a record its way up. The children stand in the order handed over by now, arms that were exchanged too.
+    fn adopt(&mut self, at: usize) {
+        let mut child = at + 1;
+        while child < self.records.len() {
+            self.records[child][6] = (child - at) as u32;
+            child += self.records[child][5] as usize;
         }
+    }
+
+    /// Fills in an opened record that holds a number. Without one the draft is refused, and no one
+    /// will see the record.
+    fn close_number(&mut self, at: usize, kind: u32, number: Option<u64>) -> Step {
+        self.close(at, kind, halves(number.unwrap_or(0)))
     }
 
     /// Takes the next token as a record of its own.

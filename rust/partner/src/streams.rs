@@ -1,6 +1,8 @@
 //! Streams of drafts and of listings on standard input, with one answer after the other.
 
-use crate::{list_into, listing, load, read, write_lines, Entry, Reading};
+use crate::{
+    list_into, listing, load, read, write_lines, write_short_lines, Entry, Reading, Record,
+};
 
 /// The listings of a stream of drafts: length, line end, bytes, both ways.
 pub fn many(mut stream: &[u8]) -> Option<Vec<u8>> {
@@ -56,12 +58,18 @@ fn answer(reading: &Reading) -> String {
     }
 }
 
-/// Where both entries accept: whether the file's records behind its first are the function's.
+/// Where both entries accept: whether the file's records behind its first are the function's. Only in the file the
+/// function has a record above it, one record back.
 fn sameness(function: &Reading, file: &Reading) -> &'static str {
-    match (function, file) {
-        (Ok((_, function)), Ok((_, file))) if file[1..] == *function => " same",
-        (Ok(_), Ok(_)) => " NOT THE SAME",
-        _ => "",
+    let (Ok((_, function)), Ok((_, file))) = (function, file) else {
+        return "";
+    };
+    let mut below = function.clone();
+    below[0][6] = 1;
+    if function[0][6] == 0 && file[1..] == below {
+        " same"
+    } else {
+        " NOT THE SAME"
     }
 }
 
@@ -77,8 +85,7 @@ pub fn listings(mut stream: &[u8]) -> Option<Vec<u8>> {
         }
         match load(listing, words) {
             Ok(records) => {
-                let same = write_lines(&records) == listing;
-                let what = if same { "same" } else { "NOT THE SAME" };
+                let what = written_again(&records, listing);
                 answers += &format!("records {} zeros {what}\n", records.len());
                 for record in records {
                     answers += &(record.map(|word| word.to_string()).join(" ") + "\n");
@@ -88,6 +95,17 @@ pub fn listings(mut stream: &[u8]) -> Option<Vec<u8>> {
         }
     }
     Some(answers.into_bytes())
+}
+
+/// Whether the records of a listing give that listing, or its lines with the way up added to each.
+fn written_again(records: &[Record], listing: &[u8]) -> &'static str {
+    if write_lines(records) == listing {
+        "same"
+    } else if write_short_lines(records) == listing {
+        "wider"
+    } else {
+        "NOT THE SAME"
+    }
 }
 
 /// Takes a line of decimal numbers with one space between off the stream.

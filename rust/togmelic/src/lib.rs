@@ -32,10 +32,14 @@
 //! let refusal = togmelic::read(b"fn f(){} // \xE9").unwrap_err();
 //! assert_eq!((refusal.number, refusal.place), (21, 12));
 //!
+//! // From a record to what holds it, the parent first: the block, the function and the program.
+//! assert_eq!(tree[4].parent(4), Some(3));
+//! assert_eq!(togmelic::holders(&tree, 4).collect::<Vec<_>>(), [3, 1, 0]);
+//!
 //! // A listing comes back as the same records. One that is no file and no function, or with a bad line, is refused.
 //! let mut kept = togmelic::listing(draft);
 //! assert_eq!(togmelic::load(&kept), Ok(tree));
-//! kept[36] = b'x';
+//! kept[togmelic::LINE] = b'x';
 //! let refusal = togmelic::load(&kept).unwrap_err();
 //! assert_eq!((refusal.number, refusal.line), (16, 2));
 //! ```
@@ -45,11 +49,13 @@ mod record;
 mod refusal;
 
 pub use load::{load, load_into, RECORD_WORDS};
-pub use record::{records, Record};
+pub use record::{holders, records, Record};
 pub use refusal::{LoadRefusal, Refusal};
 
 /// Bytes of a line, its line end among them.
-pub const LINE: usize = 36;
+pub const LINE: usize = 41;
+/// Bytes of a line as it was written before records had the way up; [`load`] takes such lines too.
+pub const SHORT_LINE: usize = 36;
 /// No draft has more lines: one for each of 2,048 tokens at most, and the program's.
 pub const MOST_LINES: usize = 2_049;
 /// A buffer of so many bytes suffices for every draft.

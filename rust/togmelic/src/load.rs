@@ -1,9 +1,9 @@
 //! Listings come back: the records of a listing that is kept without its draft.
 
-use crate::{LoadRefusal, Record, LINE};
+use crate::{LoadRefusal, Record, SHORT_LINE};
 
-/// Words of a record: kind, start, end, low, high, size.
-pub const RECORD_WORDS: usize = 6;
+/// Words of a record: kind, start, end, low, high, size, and the way up.
+pub const RECORD_WORDS: usize = 7;
 
 extern "C" {
     fn togmelic_load(
@@ -15,10 +15,13 @@ extern "C" {
     ) -> usize;
 }
 
-/// Loads a listing into `words`, six a record, and answers the number of records, never 0, with zeros in the rest of
+/// Loads a listing into `words`, seven a record, and answers the number of records, never 0, with zeros in the rest of
 /// `words`. Where it is refused, every word is zero. The first word is [`Record::PROGRAM`], or [`Record::FUNCTION`] in a
 /// listing of one function alone. No draft is at hand, so a listing may be taken that is not your draft's, or no draft's
 /// at all: see [`Record::place`].
+///
+/// The lines are as [`list`](crate::list) writes them, or all of them are of [`SHORT_LINE`] bytes, as they were kept
+/// before records had the way up, which is worked out then.
 pub fn load_into(listing: &[u8], words: &mut [u32]) -> Result<usize, LoadRefusal> {
     let mut refusal = LoadRefusal { number: 0, line: 0 };
     // SAFETY: the pointers of the slices are never null and good for the length beside them, in bytes and in words;
@@ -44,7 +47,8 @@ pub fn load_into(listing: &[u8], words: &mut [u32]) -> Result<usize, LoadRefusal
 /// The records of a listing, a parent before its children, or the refusal, which is never 18. As with [`load_into`],
 /// they may be those of another draft.
 pub fn load(listing: &[u8]) -> Result<Vec<Record>, LoadRefusal> {
-    let mut words = vec![0; listing.len() / LINE * RECORD_WORDS];
+    // Enough in either form: of the shorter there are more lines.
+    let mut words = vec![0; listing.len() / SHORT_LINE * RECORD_WORDS];
     let count = load_into(listing, &mut words)?;
     let (records, _) = words.as_chunks();
     let loaded = records[..count]

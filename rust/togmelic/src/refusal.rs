@@ -71,7 +71,7 @@ impl std::error::Error for Refusal {}
 #[derive(Clone, Copy, Debug, PartialEq, Eq, Hash)]
 #[repr(C)]
 pub struct LoadRefusal {
-    /// 16, 17 or 18, as in document 02, orders 1 and 3.
+    /// 16, 17 or 18, as in document 02, orders 1, 3 and 7.
     pub number: usize,
     /// The first bad line, from 1, for 16; 0 for 17 and 18.
     pub line: usize,
@@ -81,8 +81,8 @@ impl LoadRefusal {
     /// What the number says, in words.
     pub fn reason(&self) -> &'static str {
         match self.number {
-            16 => "the line is not of the 36-byte form",
-            17 => "the lines form neither one file nor one function",
+            16 => "the line is in neither form, or in another than the first line",
+            17 => "the lines form neither one file nor one function, or a way up does not lead to the parent",
             18 => "the record buffer is too short",
             _ => "no such refusal",
         }

@@ -24,11 +24,13 @@ fn example() {
         low: 0,
         high: 0,
         size: 10,
+        up: 0,
     };
     assert_eq!(tree[0], program);
     let function = Record {
         kind: Record::FUNCTION,
         size: 9,
+        up: 1,
         ..program
     };
     assert_eq!(tree[1], function);
@@ -39,6 +41,7 @@ fn example() {
         low: 5,
         high: 0,
         size: 2,
+        up: 2,
     };
     assert_eq!(tree[6], first_arm);
     assert_eq!(&DRAFT[tree[6].place()], b"false=>2,");

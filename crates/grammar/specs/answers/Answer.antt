@@ -11,9 +11,9 @@ use Rattle.own.specs.Tree.{Tok, Node, Rec, classesOf}
 use Rattle.text.specs.Widths.{recWide}
 use Rattle.text.specs.Answers.{Answer, accepted, refused}
 use Rattle.text.specs.Refusals as refusal
-use Rattle.own.specs.Words.{recWords}
+use Rattle.up.specs.Ways.{upWords}
 use Rattle.kinds.specs.Class.{class_of}
-use Rattle.grammar.specs.Entry.{Entry, recordsOf}
+use Rattle.grammar.specs.Entry.{Entry, recordsOf, upsOf}
 use Rattle.grammar.specs.shapes.WellShaped.{shape_of}
 use Rattle.grammar.specs.records.Records.{recordTrees}
 use Rattle.grammar.specs.records.Faults.{Fault, faultOf}
@@ -33,6 +33,10 @@ treesOf draft ts r = recordTrees draft (toks_of draft ts) r
 
 abbrev pub recordsFor : Entry → List ℕ → List Token → Items → List Rec
 recordsFor en draft ts r = recordsOf en (length draft) (treesOf draft ts r)
+
+-- The way up of each record, from the tree.
+abbrev pub upsFor : Entry → List ℕ → List Token → Items → List ℕ
+upsFor en draft ts r = upsOf en (treesOf draft ts r)
 
 -- What is found of a draft before its tree is written: the number and the place of a refusal, or its tokens and its records.
 pub data Reading : Type 0 where
@@ -58,7 +62,7 @@ lexed en (accepted n m) draft ts = shaped en draft ts (shape_of en (classesOf (t
 unfoldable pub reading : Entry → Limits → List ℕ → ℕ → Reading
 reading en l draft tw = lexed en (lexedOf l draft tw) draft (tokensOf (lexemes draft))
 
--- Refusal 15: "tree buffer under six words a record".
+-- Refusal 15: "tree buffer under six words a record"; "15 and 18 now ask seven words a record" (document 02, order 7).
 abbrev pub fitted : ℕ → Reading → Answer
 fitted rw (unread c p) = refused c p
 fitted rw (read ts rs) = cond (ltb rw (recWide * length rs)) (refused refusal.NoRoom 0) (accepted (length ts) (length rs))
@@ -88,6 +92,6 @@ tokenBuffer en l draft tw rw = content (answer en l draft tw rw) (tokenWords (to
 unfoldable pub recordsRead : Entry → Limits → List ℕ → ℕ → List Rec
 recordsRead en l draft tw = recordsIn (reading en l draft tw)
 
--- Every word of the tree buffer: six words a record.
+-- Every word of the tree buffer: six words a record, and "a seventh word: how many records back its parent begins" (document 02, order 7).
 unfoldable pub treeBuffer : Entry → Limits → List ℕ → ℕ → ℕ → List ℕ
-treeBuffer en l draft tw rw = content (answer en l draft tw rw) (recWords (recordsRead en l draft tw)) rw
+treeBuffer en l draft tw rw = content (answer en l draft tw rw) (upWords (recordsRead en l draft tw)) rw

@@ -15,19 +15,21 @@ use Rattle.lexer.specs.Limits.{Limits, tokenWords, tokensOf, bufferOf}
 use Rattle.lexer.specs.Limits as lexer
 use Rattle.lexer.specs.RowLaws as rows
 use Rattle.lexer.specs.Tokens.{lexeme-refused}
-use Rattle.own.specs.Tree.{Tok, Node, Rec, roots, end, tokens, classesOf}
+use Rattle.own.specs.Tree.{Tok, Node, Rec, concat, roots, end, tokens, classesOf}
 use Rattle.own.specs.Law.{sorts}
 use Rattle.text.specs.Widths.{tokWide, recWide}
 use Rattle.text.specs.Answers.{Answer, accepted, refused}
 use Rattle.text.specs.Refusals as refusal
 use Rattle.text.specs.Lists.{has}
-use Rattle.own.specs.Words.{toks, recs, recWords}
-use Rattle.own.specs.WordLaws.{recs-words}
+use Rattle.own.specs.Words.{toks, recs}
+use Rattle.up.specs.Ways.{waysUp, sevens, upWords}
+use Rattle.up.specs.Laws.{sevens-long, recs-sevens}
+use Rattle.up.specs.Parents.{parents, file-parents}
 use Rattle.kinds.specs.Shape.{Spells}
 use Rattle.kinds.specs.Ownership.{Right}
 use Rattle.kinds.specs.Ownership as kinds
 use Rattle.kinds.specs.Class.{class_of}
-use Rattle.grammar.specs.Entry.{Entry, oneFunction, wholeFile, startEx, recordsOf, Owned, over}
+use Rattle.grammar.specs.Entry.{Entry, oneFunction, wholeFile, startEx, recordsOf, upsOf, Owned, over}
 use Rattle.grammar.specs.shapes.WellShaped.{shape_of}
 use Rattle.grammar.specs.shapes.WellShapedLaws.{shape-exactly, one-shape}
 use Rattle.grammar.specs.spelled.TreeTokens.{keeps-tokens}
@@ -35,11 +37,11 @@ use Rattle.grammar.specs.records.Faults.{faultOf}
 use Rattle.grammar.specs.records.FaultNumbers.{fault-numbers}
 use Rattle.grammar.specs.spelled.RecordLaws.{is_right, tops-spelled, file-spelled}
 use Rattle.grammar.specs.spelled.Rules.{row}
-use Rattle.grammar.specs.answers.Answer.{toks_of, treesOf, recordsFor, read, reading, answer, content, tokensRead, recordsIn, tokenBuffer, recordsRead, treeBuffer}
+use Rattle.grammar.specs.answers.Answer.{toks_of, treesOf, recordsFor, upsFor, read, reading, answer, content, tokensRead, recordsIn, tokenBuffer, recordsRead, treeBuffer}
 use Rattle.grammar.specs.answers.Outcome.{Shaped, Misshapen, Refusal, too_long, bad-bytes, too_many, too-deep, misshapen, faulted, no_room, Accepted, Written}
 use Rattle.grammar.specs.answers.OutcomeLaws.{refused-exactly, accepted-exactly, lexed-within, read-faultless}
 use Rattle.grammar.specs.answers.Promised.{Promised}
-use Rattle.grammar.specs.answers.TokensInOrder.{tokens-in-order, tokens-inside, toks-length, token-words-length, record-words-length, tokens-read-back}
+use Rattle.grammar.specs.answers.TokensInOrder.{tokens-in-order, tokens-inside, toks-length, token-words-length, tokens-read-back}
 
 -- Right trees that are what an entry reads, none of whose tokens ends past the draft, are owned as it promises; and then there are no more records
 -- than it says.
@@ -50,6 +52,11 @@ owned_at wholeFile len ns r h p = kinds.law-3-file ns len r h (file-spelled p)
 few-owned : (en : Entry) (len : ℕ) (ts : List Tok) (rs : List Rec) → Owned en len ts rs → length rs ≤ over en + length ts
 few-owned oneFunction len ts rs o = omega (arith, o.few)
 few-owned wholeFile len ts rs o = omega (arith, o.few)
+
+-- The ways up that are found through the sizes are those of the tree.
+pub ups-found : (en : Entry) (len : ℕ) (ns : List Node) → waysUp (recordsOf en len ns) ≡ upsOf en ns
+ups-found oneFunction len ns = parents ns
+ups-found wholeFile len ns = file-parents len ns
 
 module _ (en : Entry) (l : Limits) (draft : List ℕ) (tw rw : ℕ) where
   -- Law 1. "An accepted draft, to which no row below applies": accepted exactly when the draft lexes, is within the limits, some shape
@@ -73,10 +80,11 @@ module _ (en : Entry) (l : Limits) (draft : List ℕ) (tw rw : ℕ) where
 
   -- Law 1. "the numbers of tokens and records, tokens and tree written, zeros after them": the words are those of that tree.
   pub law-1-words : (n m : ℕ) (a : Accepted en l draft tw rw n m)
-      → Written tw rw a.its-tokens (recordsFor en draft a.its-tokens a.shape) (tokenBuffer en l draft tw rw) (treeBuffer en l draft tw rw)
+      → Written tw rw a.its-tokens (upsFor en draft a.its-tokens a.shape) (recordsFor en draft a.its-tokens a.shape) (tokenBuffer en l draft tw rw) (treeBuffer en l draft tw rw)
   unfolding tokenBuffer treeBuffer recordsRead
   law-1-words n m a =
       let ts = a.its-tokens in
+      let us = upsFor en draft ts a.shape in
       let rs = recordsFor en draft ts a.shape in
       let e = (accepted-exactly en l draft tw rw n m).1 a in
       let f : reading en l draft tw ≡ read ts rs = read-faultless en l draft tw rw ts a.shape a.shaped a.no-fault in
@@ -85,8 +93,9 @@ module _ (en : Entry) (l : Limits) (draft : List ℕ) (tw rw : ℕ) where
             ap₂ (λ x y. content x (tokenWords (tokensRead y)) tw) e f
             ∙ ap (λ (k : ℕ). tokenWords ts ++ replicate (tw - k) 0) (token-words-length ts);
         record-words =
-            ap₂ (λ x y. content x (recWords (recordsIn y)) rw) e f
-            ∙ ap (λ (k : ℕ). recWords rs ++ replicate (rw - k) 0) (record-words-length rs);
+            ap₂ (λ x y. content x (upWords (recordsIn y)) rw) e f
+            ∙ ap (λ (vs : List ℕ). concat (sevens vs rs) ++ replicate (rw - length (concat (sevens vs rs))) 0) (ups-found en (length draft) (treesOf draft ts a.shape))
+            ∙ ap (λ (k : ℕ). concat (sevens us rs) ++ replicate (rw - k) 0) (sevens-long us rs);
       }
 
   -- The token buffer of an accepted draft is the one that the lexer fills.
@@ -118,9 +127,9 @@ module _ (en : Entry) (l : Limits) (draft : List ℕ) (tw rw : ℕ) where
   pub law-4-refused : (c p : ℕ) → answer en l draft tw rw ≡ refused c p → (tokenBuffer en l draft tw rw ≡ replicate tw 0) × (treeBuffer en l draft tw rw ≡ replicate rw 0)
   unfolding tokenBuffer treeBuffer
   law-4-refused c p e =
-      (ap (λ x. content x (tokenWords (tokensRead (reading en l draft tw))) tw) e, ap (λ x. content x (recWords (recordsRead en l draft tw)) rw) e)
+      (ap (λ x. content x (tokenWords (tokensRead (reading en l draft tw))) tw) e, ap (λ x. content x (upWords (recordsRead en l draft tw)) rw) e)
 
-  -- Law 4. "zeros after them": behind three words a token and six words a record every word is 0.
+  -- Law 4. "zeros after them": behind three words a token and seven words a record every word is 0.
   pub law-4-accepted : (n m : ℕ) → answer en l draft tw rw ≡ accepted n m
       → (drop (tokWide * n) (tokenBuffer en l draft tw rw) ≡ replicate (tw - tokWide * n) 0) × (drop (recWide * m) (treeBuffer en l draft tw rw) ≡ replicate (rw - recWide * m) 0)
   law-4-accepted n m e =
@@ -129,12 +138,13 @@ module _ (en : Entry) (l : Limits) (draft : List ℕ) (tw rw : ℕ) where
       let ts = a.its-tokens in
       let rs = recordsFor en draft ts a.shape in
       let x : length (tokenWords ts) ≡ tokWide * n = omega (arith, token-words-length ts, a.tokens-number) in
-      let y : length (recWords rs) ≡ recWide * m = omega (arith, record-words-length rs, a.records-number) in
+      let us = upsFor en draft ts a.shape in
+      let y : length (concat (sevens us rs)) ≡ recWide * m = omega (arith, sevens-long us rs, a.records-number) in
       let x' : tokWide * length ts ≡ tokWide * n = omega (arith, a.tokens-number) in
       let y' : recWide * length rs ≡ recWide * m = omega (arith, a.records-number) in (
         ap (drop (tokWide * n)) w.token-words ∙ drop_at (tokenWords ts) (replicate (tw - tokWide * length ts) 0) (tokWide * n) x
             ∙ ap (λ (k : ℕ). replicate (tw - k) 0) x',
-        ap (drop (recWide * m)) w.record-words ∙ drop_at (recWords rs) (replicate (rw - recWide * length rs) 0) (recWide * m) y
+        ap (drop (recWide * m)) w.record-words ∙ drop_at (concat (sevens us rs)) (replicate (rw - recWide * length rs) 0) (recWide * m) y
             ∙ ap (λ (k : ℕ). replicate (rw - k) 0) y',
       )
 
@@ -149,13 +159,14 @@ module _ (en : Entry) (l : Limits) (draft : List ℕ) (tw rw : ℕ) where
           let a = (accepted-exactly en l draft tw rw n m).0 e in
           let w = law-1-words n m a in
           let ts = a.its-tokens in
+          let us = upsFor en draft ts a.shape in
           let rs = recordsFor en draft ts a.shape in
           let h = a.shaped.within.third in
           let k = a.fits in (
             ap length w.token-words
                 ∙ omega (arith, length-append (tokenWords ts) (replicate (tw - tokWide * length ts) 0), token-words-length ts, length-replicate {A = ℕ} (tw - tokWide * length ts) 0),
             ap length w.record-words
-                ∙ omega (arith, length-append (recWords rs) (replicate (rw - recWide * length rs) 0), record-words-length rs, length-replicate {A = ℕ} (rw - recWide * length rs) 0),
+                ∙ omega (arith, length-append (concat (sevens us rs)) (replicate (rw - recWide * length rs) 0), sevens-long us rs, length-replicate {A = ℕ} (rw - recWide * length rs) 0),
           )
 
   -- The buffers of an accepted draft, read back: its tokens with their classes, and the records of its tree.
@@ -167,7 +178,7 @@ module _ (en : Entry) (l : Limits) (draft : List ℕ) (tw rw : ℕ) where
       let rs = recordsFor en draft ts a.shape in
       let w = law-1-words n m a in (
         ap₂ (λ x y. toks (class_of draft) x y) a.tokens-number w.token-words ∙ tokens-read-back draft ts (replicate (tw - tokWide * length ts) 0),
-        ap₂ (λ x y. recs x y) a.records-number w.record-words ∙ recs-words rs (replicate (rw - recWide * length rs) 0),
+        ap₂ (λ x y. recs x y) a.records-number w.record-words ∙ recs-sevens (upsFor en draft ts a.shape) rs (replicate (rw - recWide * length rs) 0),
       )
 
   module _ (ts : List Token) (r : Items) (s : Shaped en l draft tw ts r) (clear : faultOf draft (toks_of draft ts) r ≡ none) where
@@ -204,7 +215,7 @@ module _ (en : Entry) (l : Limits) (draft : List ℕ) (tw rw : ℕ) where
       subst (λ u. Owned en (length draft) (toks (class_of draft) n (tokenBuffer en l draft tw rw)) u) (sym h.1)
       (subst (λ u. Owned en (length draft) u (recordsFor en draft a.its-tokens a.shape)) (sym h.0) (tree-owned a.its-tokens a.shape a.shaped a.no-fault))
 
-  -- So a tree buffer of six words for each token that fits, and for each record over, is never too small.
+  -- So a tree buffer of seven words for each token that fits, and for each record over, is never too small.
   pub space-enough : recWide * (over en + l.tokens) ≤ rw → (p : ℕ) → answer en l draft tw rw ≡ refused refusal.NoRoom p → ⊥
   unfolding has
   space-enough h p e = row-no-room ((refused-exactly en l draft tw rw refusal.NoRoom p).0 e) refl

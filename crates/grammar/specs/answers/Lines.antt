@@ -12,7 +12,7 @@ use Rattle.lines.specs.Lines.{lines_of, lines}
 use Rattle.grammar.specs.Entry.{Entry}
 use Rattle.grammar.specs.answers.Answer.{answer, recordsRead}
 
--- "A refusal is one line: kind 00, place twice, number as low, high 0, size 1."
+-- "A refusal is one line: kind 00, place twice, number as low, high 0, size 1."; its way up is 0, as that of every record that stands first.
 unfoldable pub refusalRec : Values → Rec
 refusalRec r = record { kind = 0; start = r.place; stop = r.place; low = r.number; high = 0; size = 1 }
 
@@ -25,7 +25,7 @@ listed (refused c p) rs = refusalRec (values (refused c p)) ∷ []
 unfoldable pub listing : Entry → Limits → List ℕ → ℕ → ℕ → List ℕ
 listing en l draft tw rw = lines (listed (answer en l draft tw rw) (recordsRead en l draft tw))
 
--- Refusal 8 at 31: kind 00, 31 twice, 8 as low, high 0, size 1.
-pub refusal-line : lines (listed (refused refusal.Misshapen 31) []) ≡ ascii "00 001F 001F 00000008 00000000 0001" ++ (LF ∷ [])
+-- Refusal 8 at 31: kind 00, 31 twice, 8 as low, high 0, size 1, way up 0.
+pub refusal-line : lines (listed (refused refusal.Misshapen 31) []) ≡ ascii "00 001F 001F 00000008 00000000 0001 0000" ++ (LF ∷ [])
 unfolding lines_of line_of hex upperHex refusalRec ascii asciiFrom
 refusal-line = refl

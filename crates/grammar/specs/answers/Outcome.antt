@@ -8,8 +8,8 @@ use Rattle.theory.specs.Ebnf.{Items, yield}
 use Rattle.lexer.specs.Lexemes.{Token, tokens, lexemes}
 use Rattle.lexer.specs.Limits.{Limits, tooDeep, room, noToken, tokenWords}
 use Rattle.lexer.specs.Rows.{Earliest}
-use Rattle.own.specs.Tree.{Rec, classesOf}
-use Rattle.own.specs.Words.{recWords}
+use Rattle.own.specs.Tree.{Rec, concat, classesOf}
+use Rattle.up.specs.Ways.{sevens}
 use Rattle.text.specs.Part.{part_of}
 use Rattle.text.specs.Widths.{tokWide, recWide}
 use Rattle.text.specs.Refusals as refusal
@@ -74,7 +74,7 @@ pub data Refusal (en : Entry) (l : Limits) (draft : List ℕ) (tw rw : ℕ) : �
   misshapen : {p : ℕ} → Misshapen en l draft tw p → Refusal en l draft tw rw refusal.Misshapen p
   -- those of the shapes: "of 9 to 14 the earliest place", 19 among them
   faulted : {ts : List Token} {r : Items} {f : Fault} → Shaped en l draft tw ts r → faultOf draft (toks_of draft ts) r ≡ some f → Refusal en l draft tw rw f.number f.place
-  -- 15: "tree buffer under six words a record", at 0
+  -- 15: "tree buffer under six words a record", and by order 7 of document 02 under seven, at 0
   no_room : {ts : List Token} {r : Items} → Shaped en l draft tw ts r → faultOf draft (toks_of draft ts) r ≡ none → rw < recWide * length (recordsFor en draft ts r)
       → Refusal en l draft tw rw refusal.NoRoom 0
 
@@ -88,7 +88,7 @@ pub record Accepted (en : Entry) (l : Limits) (draft : List ℕ) (tw rw n m : �
   pub tokens-number : n ≡ length its-tokens
   pub records-number : m ≡ length (recordsFor en draft its-tokens shape)
 
--- What stands in the two buffers of an accepted draft: "tokens and tree written, zeros after them".
-pub record Written (tw rw : ℕ) (ts : List Token) (rs : List Rec) (tb rb : List ℕ) : Type 0 where
+-- What stands in the two buffers of an accepted draft: "tokens and tree written, zeros after them", where the ways up are us.
+pub record Written (tw rw : ℕ) (ts : List Token) (us : List ℕ) (rs : List Rec) (tb rb : List ℕ) : Type 0 where
   pub token-words : tb ≡ tokenWords ts ++ replicate (tw - tokWide * length ts) 0
-  pub record-words : rb ≡ recWords rs ++ replicate (rw - recWide * length rs) 0
+  pub record-words : rb ≡ concat (sevens us rs) ++ replicate (rw - recWide * length rs) 0

@@ -8,15 +8,15 @@ use Rattle.lexer.specs.Limits.{Limits}
 use Rattle.own.specs.Words.{toks, recs}
 use Rattle.kinds.specs.Class.{class_of}
 use Rattle.grammar.specs.Entry.{Entry, Owned}
-use Rattle.grammar.specs.answers.Answer.{recordsFor}
+use Rattle.grammar.specs.answers.Answer.{upsFor, recordsFor}
 use Rattle.grammar.specs.answers.Outcome.{Misshapen, Refusal, Accepted, Written}
 
 -- The answer a to a draft, with buffers of tw and rw words that hold ts and rs afterwards.
 pub record Promised (en : Entry) (l : Limits) (draft : List ℕ) (tw rw : ℕ) (a : Answer) (ts rs : List ℕ) : Type 0 where
   -- Accepted exactly when no row applies: the draft lexes, is within the limits, is well-shaped, has no refusal of the shapes, and its tree fits;
   pub accepts : (n m : ℕ) → (a ≡ accepted n m) ↔ Accepted en l draft tw rw n m
-  -- then every word is that of its tokens and of the tree that the rules give, and zeros after them.
-  pub written : (n m : ℕ) (d : Accepted en l draft tw rw n m) → Written tw rw d.its-tokens (recordsFor en draft d.its-tokens d.shape) ts rs
+  -- then every word is that of its tokens and of the tree that the rules give, the ways up with it, and zeros after them.
+  pub written : (n m : ℕ) (d : Accepted en l draft tw rw n m) → Written tw rw d.its-tokens (upsFor en draft d.its-tokens d.shape) (recordsFor en draft d.its-tokens d.shape) ts rs
   -- Otherwise refused, in the order of the refusals; row 8 both ways;
   pub refuses : (c p : ℕ) → (a ≡ refused c p) ↔ Refusal en l draft tw rw c p
   pub misshapen : (p : ℕ) → (a ≡ refused refusal.Misshapen p) ↔ Misshapen en l draft tw p

@@ -5,9 +5,9 @@ use Rattle.std.proofs.Common.{ap, ◌∙◌, arith}
 use Rattle.lexer.specs.Lexemes.{Token, tokens, lexemes}
 use Rattle.lexer.specs.Limits.{tokenWords}
 use Rattle.lexer.specs.Tokens.{Between, tokens-between}
-use Rattle.own.specs.Tree.{InOrder, end, Rec, classesOf}
-use Rattle.text.specs.Widths.{tokWide, recWide}
-use Rattle.own.specs.Words.{toks, recWords}
+use Rattle.own.specs.Tree.{InOrder, end, classesOf}
+use Rattle.text.specs.Widths.{tokWide}
+use Rattle.own.specs.Words.{toks}
 use Rattle.kinds.specs.Class.{class_of}
 use Rattle.grammar.specs.spelled.TreeTokens.{length-classes}
 use Rattle.grammar.specs.answers.Answer.{toks_of}
@@ -39,16 +39,11 @@ toks-length draft (t ∷ ts) = let h = toks-length draft ts in omega arith
 pub classes-length : (draft : List ℕ) (ts : List Token) → length (classesOf (toks_of draft ts)) ≡ length ts
 classes-length draft ts = length-classes (toks_of draft ts) ∙ toks-length draft ts
 
--- Three words a token,
+-- Three words a token.
 pub token-words-length : (ts : List Token) → length (tokenWords ts) ≡ tokWide * length ts
 unfolding tokenWords
 token-words-length [] = refl
 token-words-length (t ∷ ts) = let h = token-words-length ts in omega arith
-
--- six words a record.
-pub record-words-length : (rs : List Rec) → length (recWords rs) ≡ recWide * length rs
-record-words-length [] = refl
-record-words-length (r ∷ rs) = let h = record-words-length rs in omega arith
 
 -- The words of tokens, read back with the classes that the draft gives them.
 pub tokens-read-back : (draft : List ℕ) (ts : List Token) (z : List ℕ) → toks (class_of draft) (length ts) (tokenWords ts ++ z) ≡ toks_of draft ts

@@ -20,11 +20,11 @@ times (suc n) s = s ++ times n s
 unfoldable cases : List Case
 cases =
     -- each limit met, and passed by one
-    small 8 6 18 18 (records 3)
-    ∷ small 7 6 18 18 (refusedWith 1 7)
-    ∷ small 8 5 18 18 (refusedWith 6 7)
-    ∷ small 8 6 17 18 (refusedWith 6 7)
-    ∷ small 8 6 18 17 (refusedWith 15 0)
+    small 8 6 18 21 (records 3)
+    ∷ small 7 6 18 21 (refusedWith 1 7)
+    ∷ small 8 5 18 21 (refusedWith 6 7)
+    ∷ small 8 6 17 21 (refusedWith 6 7)
+    ∷ small 8 6 18 20 (refusedWith 15 0)
     ∷ roomy (times 48 (ascii "(")) (refusedWith 8 0)
     ∷ roomy (times 49 (ascii "(")) (refusedWith 7 48)
     ∷ roomy (times 8 (ascii "match ")) (refusedWith 8 0)
@@ -70,9 +70,9 @@ cases =
     ∷ inBraces "fold::<g,2>(x)" (records 7)
     ∷ inBraces "array_fold::<g,1>(x)" (records 7)
     -- every word of both buffers
-    ∷ small 8 6 20 20
+    ∷ small 8 6 20 23
     (buffers (4 ∷ 0 ∷ 2 ∷ 32 ∷ 3 ∷ 4 ∷ 20 ∷ 4 ∷ 5 ∷ 21 ∷ 5 ∷ 6 ∷ 24 ∷ 6 ∷ 7 ∷ 25 ∷ 7 ∷ 8 ∷ 0 ∷ 0 ∷ [])
-    (1 ∷ 0 ∷ 8 ∷ 0 ∷ 0 ∷ 3 ∷ 2 ∷ 3 ∷ 4 ∷ 0 ∷ 0 ∷ 1 ∷ 18 ∷ 6 ∷ 8 ∷ 0 ∷ 0 ∷ 1 ∷ 0 ∷ 0 ∷ []))
+    (1 ∷ 0 ∷ 8 ∷ 0 ∷ 0 ∷ 3 ∷ 0 ∷ 2 ∷ 3 ∷ 4 ∷ 0 ∷ 0 ∷ 1 ∷ 1 ∷ 18 ∷ 6 ∷ 8 ∷ 0 ∷ 0 ∷ 1 ∷ 2 ∷ 0 ∷ 0 ∷ []))
     ∷ []
 
 -- What the definitions make of them is this.

@@ -91,7 +91,7 @@ defined k =
     let d = k.draft in
     told (answer en l d tw rw) k.result (recordsRead en l d tw) (listing en l d tw rw) (tokenBuffer en l d tw rw) (treeBuffer en l d tw rw)
 
--- With the limits of a draft and words enough for every draft: three for each of 2,048 tokens, six for each record, of which there are
+-- With the limits of a draft and words enough for every draft: three for each of 2,048 tokens, seven for each record, of which there are
 -- no more than tokens.
 abbrev pub roomy : List ℕ → Result → Case
 roomy draft r = record { entry = oneFunction; limits = draftLimits; tokenSpace = tokWide * draftTokens; treeSpace = recWide * draftTokens; draft = draft; result = r }

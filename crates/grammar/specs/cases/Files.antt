@@ -9,18 +9,18 @@ use Rattle.grammar.specs.cases.Known.{textLines}
 unfoldable files : List Case
 files =
     -- "an empty file is now accepted by this entry"
-    asFile "" (lists 36 (textLines ("29 0000 0000 00000000 00000000 0001" ∷ [])))
-    ∷ asFile " // no item" (lists 36 (textLines ("29 0000 000B 00000000 00000000 0001" ∷ [])))
+    asFile "" (lists 41 (textLines ("29 0000 0000 00000000 00000000 0001 0000" ∷ [])))
+    ∷ asFile " // no item" (lists 41 (textLines ("29 0000 000B 00000000 00000000 0001 0000" ∷ [])))
     -- a type item and a function; the program above them, "from 0 to the draft's length"
     ∷ asFile " type A=u8; fn f(){} "
-    (lists 252 (textLines (
-    "29 0000 0015 00000000 00000000 0007"
-    ∷ "2A 0001 000B 00000000 00000000 0003"
-    ∷ "02 0006 0007 00000000 00000000 0001"
-    ∷ "07 0008 000A 00000008 00000000 0001"
-    ∷ "01 000C 0014 00000000 00000000 0003"
-    ∷ "02 000F 0010 00000000 00000000 0001"
-    ∷ "12 0012 0014 00000000 00000000 0001"
+    (lists 287 (textLines (
+    "29 0000 0015 00000000 00000000 0007 0000"
+    ∷ "2A 0001 000B 00000000 00000000 0003 0001"
+    ∷ "02 0006 0007 00000000 00000000 0001 0001"
+    ∷ "07 0008 000A 00000008 00000000 0001 0002"
+    ∷ "01 000C 0014 00000000 00000000 0003 0004"
+    ∷ "02 000F 0010 00000000 00000000 0001 0001"
+    ∷ "12 0012 0014 00000000 00000000 0001 0002"
     ∷ [])))
     -- items of both sorts in any order; names that the rules tell apart but ALIAS_RESERVED has not
     ∷ asFile "fn f(){}pub fn g(){}type Left=Either;type fold=();" (records 13)

@@ -10,7 +10,7 @@ use Rattle.text.specs.Lists.{all}
 use Rattle.text.specs.Table.{first-of, second-of, pair, every, at, table_at}
 use Rattle.own.specs.Lists.{All, all-exactly}
 use Rattle.lines.specs.Hex.{upperHex, hex, hex-length, power}
-use Rattle.lines.specs.Lines.{halfDigits, widths}
+use Rattle.lines.specs.Lines.{halfDigits, sixWidths, widths}
 use Rattle.load.specs.listing.Read.{place_in, digitOf, areDigits, number_of}
 
 -- A table that gives each byte its value as a digit: its length and its entries are computed.
@@ -24,9 +24,16 @@ table-rule t e h = record { gives = table_at digitOf t 256 e h }
 abbrev pub Short : List ℕ → Type 0
 Short ws = All (λ n. n ≤ halfDigits) ws
 
+short-by : (ws : List ℕ) → T (all (λ n. leb n halfDigits) ws) → Short ws
+short-by ws t = (all-exactly (λ n. leb n halfDigits) (λ n. no_more n halfDigits) ws).0 t
+
+pub six-short : Short sixWidths
+unfolding all
+six-short = short-by sixWidths tt
+
 pub widths-short : Short widths
 unfolding all
-widths-short = (all-exactly (λ n. leb n halfDigits) (λ n. no_more n halfDigits) widths).0 tt
+widths-short = short-by widths tt
 
 -- A byte is found where it stands, if each of the list is: that is computed, and says that none stands there twice.
 place-back : (l : List ℕ) → T (every (λ v b. eqb (place_in l b) v) 0 l) → (v : ℕ) → v < length l → place_in l (get_or l v 0) ≡ v

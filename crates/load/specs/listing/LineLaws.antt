@@ -1,7 +1,7 @@
 -- Lines read back, of any form: bytes are in form exactly where they begin with a line of it, and its numbers are those that are read.
 -- Assumes nothing.
 use Rattle.std.specs.Prelude.{◌&&◌, List, [], ◌∷◌, ◌++◌, ◌≡◌, refl, ℕ, zero, suc, ◌+◌, ◌<◌, ◌≤◌, T, eqb, length, get_or, take, drop}
-use Rattle.std.proofs.Common.{append_assoc, sym, ap, ap₂, ◌∙◌, subst, arith, eqb→eq, length-append, length-drop, take-append-drop, drop_at, take-add, drop-cons}
+use Rattle.std.proofs.Common.{append_assoc, sym, ap, ap₂, ◌∙◌, subst, arith, eqb→eq, length-append, length-drop, take-append-drop, drop_at, take-add, drop-cons, drop-drop}
 use Rattle.std.proofs.Math.Decide.{dec_lt}
 use Rattle.std.proofs.Math.Dec.{eqb_refl}
 use Rattle.std.proofs.Math.ListN.{get_or-eq_default}
@@ -109,3 +109,29 @@ line-back (n ∷ ns) (v ∷ vs) rest f =
     let l = line_of ns vs in
     ap₂ (λ (x : ℕ) (y : List ℕ). x ∷ y) (ap (number_of n) (append_assoc (hex n v) (c ∷ l) rest) ∙ hex-back n v (c ∷ (l ++ rest)) f.0)
     (ap (values_of ns) (field-then n v c l rest) ∙ line-back ns vs rest f.1)
+
+-- The fields that a line begins with are read by their widths alone.
+pub values-front : (k : ℕ) (ws bs : List ℕ) → values_of (take k ws) bs ≡ take k (values_of ws bs)
+unfolding values_of
+values-front zero ws bs = refl
+values-front (suc k) [] bs = refl
+values-front (suc k) (n ∷ ns) bs = ap (λ (l : List ℕ). number_of n bs ∷ l) (values-front k ns (drop (n + 1) bs))
+
+pub wide-front : (k : ℕ) (ws : List ℕ) → wide (take k ws) ≤ wide ws
+wide-front zero ws = omega arith
+wide-front (suc k) [] = omega arith
+wide-front (suc k) (n ∷ ns) = omega (arith, wide-front k ns)
+
+-- A number is read behind the fields before it.
+pub value-at : (k : ℕ) (ws bs : List ℕ) → k < length ws → get_or (values_of ws bs) k 0 ≡ number_of (get_or ws k 0) (drop (wide (take k ws)) bs)
+unfolding values_of
+value-at k [] bs h = absurd (omega arith)
+value-at zero (n ∷ ns) bs h = refl
+value-at (suc k) (n ∷ ns) bs h =
+    value-at k ns (drop (n + 1) bs) (omega arith) ∙ ap (number_of (get_or ns k 0)) (drop-drop (wide (take k ns)) (n + 1) bs)
+
+-- No bytes begin with a line of a form and with one that has more fields behind the same: after the last of those LF stands, or a space.
+pub not-both : (ws : List ℕ) (n : ℕ) (ns bs : List ℕ) → 0 < length ws → T (inForm ws bs) → T (inForm (ws ++ (n ∷ ns)) bs) → ⊥
+not-both [] n ns bs h t u = absurd (omega arith)
+not-both (w ∷ []) n ns bs h t u = let a = its-after w [] bs t in let b = its-after w (n ∷ ns) bs u in absurd (omega arith)
+not-both (w ∷ v ∷ ws) n ns bs h t u = not-both (v ∷ ws) n ns (drop (w + 1) bs) (omega arith) (its-others w (v ∷ ws) bs t) (its-others w (v ∷ (ws ++ (n ∷ ns))) bs u)

@@ -1,5 +1,5 @@
--- Whole listings read back, of a form that has a field for each word of a record: where no line is bad they are the lines of the records read,
--- and the first bad line stands behind lines that are not.
+-- Whole listings read back, of any form: where no line is bad they are the lines of the numbers read, and the first bad line stands behind lines
+-- that are not.
 -- Assumes nothing.
 use Rattle.std.specs.Prelude.{Bool, false, ◌⊎◌, ◌≡◌, T}
 use Rattle.std.proofs.Math.Bool.{true, cond}
@@ -14,15 +14,13 @@ use Rattle.std.proofs.Math.Decide.{dec_lt}
 use Rattle.std.proofs.Math.ListN.{length, drop, length-append, length-drop}
 use Rattle.std.proofs.Math.Seq.{drop_at}
 use Rattle.text.specs.Table.{is_true, is_false}
-use Rattle.own.specs.Tree.{Rec}
 use Rattle.own.specs.Lists.{nil, ◌&◌, all_head, all_tail}
-use Rattle.own.specs.Words.{recs}
 use Rattle.lines.specs.Form.{wide, line_of, line-wide}
-use Rattle.lines.specs.Lines.{fieldCount, fields, lines_of, lines-wide}
+use Rattle.lines.specs.Lines.{lines_of, lines-wide}
 use Rattle.load.specs.listing.InForm.{Fitting, Begins}
-use Rattle.load.specs.listing.Read.{inForm, badFrom, badLine, valuesIn, recordsIn, recOf}
+use Rattle.load.specs.listing.Read.{inForm, badFrom, badLine, rowsFrom, linesRead}
 use Rattle.load.specs.listing.LineLaws.{line-in, line-back}
-use Rattle.load.specs.listing.RecordLaws.{recs-first, begins-exactly}
+use Rattle.load.specs.listing.RecordLaws.{begins-exactly}
 
 -- No line is bad where there is none;
 pub bad-none : (ws : List ℕ) (f i : ℕ) (bs : List ℕ) → length bs ≡ 0 → badFrom ws f i bs ≡ 0
@@ -45,13 +43,13 @@ module _ (ws : List ℕ) (f i : ℕ) (bs : List ℕ) (h : 0 < length bs) where
 
 -- A text that is lines of the form.
 pub record Good (ws text : List ℕ) : Type 0 where
-  pub its : List Rec
+  pub its : List (List ℕ)
   pub fitting : Fitting ws its
   pub they-are : text ≡ lines_of ws its
 
 -- A text whose first i lines are of the form, and the next, of which there is a byte at least, is not.
 pub record Bad (ws text : List ℕ) (i : ℕ) : Type 0 where
-  pub its : List Rec
+  pub its : List (List ℕ)
   pub rest : List ℕ
   pub fitting : Fitting ws its
   pub many : length its ≡ i
@@ -59,27 +57,33 @@ pub record Bad (ws text : List ℕ) (i : ℕ) : Type 0 where
   pub some : 0 < length rest
   pub other : Begins ws rest → ⊥
 
+-- Lines begin with the first.
+pub lines-begin : (ws : List ℕ) (vs : List (List ℕ)) (rest : List ℕ) → 0 < length vs → T (inForm ws (lines_of ws vs ++ rest))
+unfolding lines_of
+lines-begin ws [] rest h = absurd (omega arith)
+lines-begin ws (v ∷ vs) rest h = subst (λ (l : List ℕ). T (inForm ws l)) (sym (append_assoc (line_of ws v) (lines_of ws vs) rest)) (line-in ws v (lines_of ws vs ++ rest))
+
 some-wide : (ws : List ℕ) → 0 < length ws → 0 < wide ws
 some-wide [] h = h
 some-wide (n ∷ ns) h = omega arith
 
-module _ (ws : List ℕ) (full : length ws ≡ fieldCount) where
+module _ (ws : List ℕ) (fields : 0 < length ws) where
   line-some : 0 < wide ws
-  line-some = some-wide ws (omega arith)
+  line-some = some-wide ws fields
 
   -- Every text is one or the other:
   good-then : (bs : List ℕ) → Begins ws bs → Good ws (drop (wide ws) bs) → Good ws bs
   unfolding lines_of
   good-then bs b g =
-      let l = line_of ws (fields b.its) in
-      let e : drop (wide ws) bs ≡ b.rest = ap (drop (wide ws)) b.they-are ∙ drop_at l b.rest (wide ws) (line-wide ws (fields b.its)) in
+      let l = line_of ws b.its in
+      let e : drop (wide ws) bs ≡ b.rest = ap (drop (wide ws)) b.they-are ∙ drop_at l b.rest (wide ws) (line-wide ws b.its) in
       record { its = b.its ∷ g.its; fitting = b.fit & g.fitting; they-are = b.they-are ∙ ap (λ (x : List ℕ). l ++ x) (sym e ∙ g.they-are) }
 
   bad-then : (bs : List ℕ) (i : ℕ) → Begins ws bs → Bad ws (drop (wide ws) bs) i → Bad ws bs (suc i)
   unfolding lines_of
   bad-then bs i b g =
-      let l = line_of ws (fields b.its) in
-      let e : drop (wide ws) bs ≡ b.rest = ap (drop (wide ws)) b.they-are ∙ drop_at l b.rest (wide ws) (line-wide ws (fields b.its)) in
+      let l = line_of ws b.its in
+      let e : drop (wide ws) bs ≡ b.rest = ap (drop (wide ws)) b.they-are ∙ drop_at l b.rest (wide ws) (line-wide ws b.its) in
       record {
         its = b.its ∷ g.its;
         rest = g.rest;
@@ -107,43 +111,43 @@ module _ (ws : List ℕ) (full : length ws ≡ fieldCount) where
       go (yes l) true e r = next (r (omega (arith, length-drop (wide ws) bs, line-some)))
         where
           b : Begins ws bs
-          b = (begins-exactly ws full bs).0 (rw e tt)
+          b = (begins-exactly ws bs).0 (rw e tt)
 
           next : Good ws (drop (wide ws) bs) ⊎ ((i : ℕ) × Bad ws (drop (wide ws) bs) i) → Good ws bs ⊎ ((i : ℕ) × Bad ws bs i)
           next (inl g) = inl (good-then bs b g)
           next (inr g) = inr (suc g.0, bad-then bs g.0 b g.1)
       go (yes l) false e r =
-          inr (0, record { its = []; rest = bs; fitting = nil; many = refl; they-are = refl; some = l; other = λ x. subst T e ((begins-exactly ws full bs).1 x) })
+          inr (0, record { its = []; rest = bs; fitting = nil; many = refl; they-are = refl; some = l; other = λ x. subst T e ((begins-exactly ws bs).1 x) })
 
   -- Lines of the form are passed, one after the other.
-  past-lines : (rs : List Rec) (f i : ℕ) (rest : List ℕ) → badFrom ws (length rs + f) i (lines_of ws rs ++ rest) ≡ badFrom ws f (length rs + i) rest
+  past-lines : (vs : List (List ℕ)) (f i : ℕ) (rest : List ℕ) → badFrom ws (length vs + f) i (lines_of ws vs ++ rest) ≡ badFrom ws f (length vs + i) rest
   unfolding lines_of
   past-lines [] f i rest = let e : 0 + f ≡ f = omega arith in let d : i ≡ 0 + i = omega arith in λ j. badFrom ws (e j) (d j) rest
-  past-lines (r ∷ rs) f i rest =
-      let l = line_of ws (fields r) in
-      let bs = (l ++ lines_of ws rs) ++ rest in
-      let k = line-wide ws (fields r) in
-      let a = append_assoc l (lines_of ws rs) rest in
-      let e : suc (length rs) + f ≡ suc (length rs + f) = omega arith in
-      let d : length rs + suc i ≡ suc (length rs) + i = omega arith in
-      let t : inForm ws bs ≡ true = ap (inForm ws) a ∙ is_true (inForm ws (l ++ (lines_of ws rs ++ rest))) (line-in ws (fields r) (lines_of ws rs ++ rest)) in
+  past-lines (v ∷ vs) f i rest =
+      let l = line_of ws v in
+      let bs = (l ++ lines_of ws vs) ++ rest in
+      let k = line-wide ws v in
+      let a = append_assoc l (lines_of ws vs) rest in
+      let e : suc (length vs) + f ≡ suc (length vs + f) = omega arith in
+      let d : length vs + suc i ≡ suc (length vs) + i = omega arith in
+      let t : inForm ws bs ≡ true = ap (inForm ws) a ∙ is_true (inForm ws (l ++ (lines_of ws vs ++ rest))) (line-in ws v (lines_of ws vs ++ rest)) in
       ap (λ (n : ℕ). badFrom ws n i bs) e
-      ∙ bad-past ws (length rs + f) i bs (omega (arith, line-some, ap length a, length-append l (lines_of ws rs ++ rest))) t
-      ∙ ap (badFrom ws (length rs + f) (suc i)) (ap (drop (wide ws)) a ∙ drop_at l (lines_of ws rs ++ rest) (wide ws) k)
-      ∙ past-lines rs f (suc i) rest
+      ∙ bad-past ws (length vs + f) i bs (omega (arith, line-some, ap length a, length-append l (lines_of ws vs ++ rest))) t
+      ∙ ap (badFrom ws (length vs + f) (suc i)) (ap (drop (wide ws)) a ∙ drop_at l (lines_of ws vs ++ rest) (wide ws) k)
+      ∙ past-lines vs f (suc i) rest
       ∙ ap (λ (n : ℕ). badFrom ws f n rest) d
 
   -- So there are enough steps for what stands behind them.
-  bad-behind : (rs : List Rec) (rest : List ℕ) → (f : ℕ) × (length rest ≤ f) × (badLine ws (lines_of ws rs ++ rest) ≡ badFrom ws f (length rs) rest)
+  bad-behind : (vs : List (List ℕ)) (rest : List ℕ) → (f : ℕ) × (length rest ≤ f) × (badLine ws (lines_of ws vs ++ rest) ≡ badFrom ws f (length vs) rest)
   unfolding badLine
-  bad-behind rs rest =
-      let text = lines_of ws rs ++ rest in
-      let n = length rs in
+  bad-behind vs rest =
+      let text = lines_of ws vs ++ rest in
+      let n = length vs in
       let k : 1 * n ≤ wide ws * n = mul-le-mul_right n line-some in
-      let m = length-append (lines_of ws rs) rest in
-      let w = lines-wide ws rs in
+      let m = length-append (lines_of ws vs) rest in
+      let w = lines-wide ws vs in
       let e : length text ≡ n + (length text - n) = omega arith in
-      (length text - n, omega arith, ap (λ (f : ℕ). badFrom ws f 0 text) e ∙ past-lines rs (length text - n) 0 rest ∙ ap (λ (i : ℕ). badFrom ws (length text - n) i rest) (add-zero n))
+      (length text - n, omega arith, ap (λ (f : ℕ). badFrom ws f 0 text) e ∙ past-lines vs (length text - n) 0 rest ∙ ap (λ (i : ℕ). badFrom ws (length text - n) i rest) (add-zero n))
 
   no_line : {text : List ℕ} → Good ws text → badLine ws text ≡ 0
   no_line g =
@@ -157,38 +161,36 @@ module _ (ws : List ℕ) (full : length ws ≡ fieldCount) where
       let h = g.some in
       let l = b.1 in
       let e : b.0 ≡ suc (b.0 - 1) = omega arith in
-      let n = is_false (inForm ws g.rest) (λ t. g.other ((begins-exactly ws full g.rest).0 t)) in
+      let n = is_false (inForm ws g.rest) (λ t. g.other ((begins-exactly ws g.rest).0 t)) in
       ap (badLine ws) g.they-are ∙ b.2 ∙ ap (λ (f : ℕ). badFrom ws f (length g.its) g.rest) e
       ∙ bad-here ws (b.0 - 1) (length g.its) g.rest h n
       ∙ ap suc g.many
 
-  read_back : (rs : List Rec) → Fitting ws rs → recs (length rs) (valuesIn ws (length rs) (lines_of ws rs)) ≡ rs
-  unfolding lines_of
+  read_back : (vs : List (List ℕ)) → Fitting ws vs → rowsFrom ws (length vs) (lines_of ws vs) ≡ vs
+  unfolding lines_of rowsFrom
   read_back [] f = refl
-  read_back (r ∷ rs) f =
-      let l = line_of ws (fields r) in
-      recs-first ws full (length rs) (l ++ lines_of ws rs)
-      ∙ (λ i. recOf (line-back ws (fields r) (lines_of ws rs) (all_head f) i)
-      ∷ recs (length rs) (valuesIn ws (length rs) (drop_at l (lines_of ws rs) (wide ws) (line-wide ws (fields r)) i)))
-      ∙ ap (λ (x : List Rec). r ∷ x) (read_back rs (all_tail f))
+  read_back (v ∷ vs) f =
+      let l = line_of ws v in
+      (λ i. line-back ws v (lines_of ws vs) (all_head f) i ∷ rowsFrom ws (length vs) (drop_at l (lines_of ws vs) (wide ws) (line-wide ws v) i))
+      ∙ ap (λ (x : List (List ℕ)). v ∷ x) (read_back vs (all_tail f))
 
-  records-back : (rs : List Rec) → Fitting ws rs → recordsIn ws (lines_of ws rs) ≡ rs
-  unfolding recordsIn
-  records-back rs f =
-      let e : length (lines_of ws rs) / wide ws ≡ length rs = ap (λ (n : ℕ). n / wide ws) (lines-wide ws rs) ∙ mul-div_right (length rs) line-some in
-      ap (λ (n : ℕ). recs n (valuesIn ws n (lines_of ws rs))) e ∙ read_back rs f
+  lines-back : (vs : List (List ℕ)) → Fitting ws vs → linesRead ws (lines_of ws vs) ≡ vs
+  unfolding linesRead
+  lines-back vs f =
+      let e : length (lines_of ws vs) / wide ws ≡ length vs = ap (λ (n : ℕ). n / wide ws) (lines-wide ws vs) ∙ mul-div_right (length vs) line-some in
+      ap (λ (n : ℕ). rowsFrom ws n (lines_of ws vs)) e ∙ read_back vs f
 
-  -- "Writing and then loading restores the same records": no line is bad, and the records are those written;
-  pub lines-good : (rs : List Rec) → Fitting ws rs → (badLine ws (lines_of ws rs) ≡ 0) × (recordsIn ws (lines_of ws rs) ≡ rs)
-  lines-good rs f = (no_line (record { its = rs; fitting = f; they-are = refl }), records-back rs f)
+  -- "Writing and then loading restores the same records": no line is bad, and the numbers are those written;
+  pub lines-good : (vs : List (List ℕ)) → Fitting ws vs → (badLine ws (lines_of ws vs) ≡ 0) × (linesRead ws (lines_of ws vs) ≡ vs)
+  lines-good vs f = (no_line (record { its = vs; fitting = f; they-are = refl }), lines-back vs f)
 
   -- and where no line is bad, "loading and then writing restores the same bytes".
-  pub no-bad : (text : List ℕ) → badLine ws text ≡ 0 → (text ≡ lines_of ws (recordsIn ws text)) × Fitting ws (recordsIn ws text)
+  pub no-bad : (text : List ℕ) → badLine ws text ≡ 0 → (text ≡ lines_of ws (linesRead ws text)) × Fitting ws (linesRead ws text)
   no-bad text e = go (cut (length text) text (omega arith))
     where
-      go : Good ws text ⊎ ((i : ℕ) × Bad ws text i) → (text ≡ lines_of ws (recordsIn ws text)) × Fitting ws (recordsIn ws text)
+      go : Good ws text ⊎ ((i : ℕ) × Bad ws text i) → (text ≡ lines_of ws (linesRead ws text)) × Fitting ws (linesRead ws text)
       go (inl g) =
-          let k : g.its ≡ recordsIn ws text = sym (ap (recordsIn ws) g.they-are ∙ records-back g.its g.fitting) in
+          let k : g.its ≡ linesRead ws text = sym (ap (linesRead ws) g.they-are ∙ lines-back g.its g.fitting) in
           (g.they-are ∙ ap (lines_of ws) k, subst (Fitting ws) k g.fitting)
       go (inr g) = absurd (omega (arith, bad-first g.1))
 

@@ -1,9 +1,10 @@
--- Lines read back, as antt computes it: which line is the first that is not of the form, and the records of the lines. Said of any list of widths.
+-- Lines read back, as antt computes it: which line is the first that is not of the form, and the numbers of the lines. Said of any list of widths.
 -- Assumes nothing: these are definitions. That they undo what crate `lines` writes stands in the laws beside.
-use Rattle.std.specs.Prelude.{Bool, true, ◌&&◌, cond, List, [], ◌∷◌, ◌++◌, ℕ, zero, suc, ◌+◌, ◌*◌, ◌/◌, ◌%◌, eqb, ltb, length, get_or, drop}
+use Rattle.std.specs.Prelude.{Bool, true, ◌&&◌, cond, List, [], ◌∷◌, map, ℕ, zero, suc, ◌+◌, ◌*◌, ◌/◌, ◌%◌, eqb, ltb, length, get_or, drop}
 use Rattle.own.specs.Tree.{Rec}
 use Rattle.own.specs.Flat.{blank}
 use Rattle.own.specs.Words.{recs}
+use Rattle.up.specs.Buffer.{upPlace}
 use Rattle.lines.specs.Hex.{upperHex}
 use Rattle.lines.specs.Form.{after, wide}
 
@@ -43,15 +44,23 @@ badFrom ws (suc f) i bs = cond (eqb (length bs) 0) 0 (cond (inForm ws bs) (badFr
 unfoldable pub badLine : List ℕ → List ℕ → ℕ
 badLine ws text = badFrom ws (length text) 0 text
 
--- The numbers of the first n lines, one line after the other,
-unfoldable pub valuesIn : List ℕ → ℕ → List ℕ → List ℕ
-valuesIn ws zero bs = []
-valuesIn ws (suc n) bs = values_of ws bs ++ valuesIn ws n (drop (wide ws) bs)
+-- The numbers of the first n lines, a list for each,
+unfoldable pub rowsFrom : List ℕ → ℕ → List ℕ → List (List ℕ)
+rowsFrom ws zero bs = []
+rowsFrom ws (suc n) bs = values_of ws bs ∷ rowsFrom ws n (drop (wide ws) bs)
 
--- and the records that they are, of all lines.
-unfoldable pub recordsIn : List ℕ → List ℕ → List Rec
-recordsIn ws text = recs (length text / wide ws) (valuesIn ws (length text / wide ws) text)
+-- and of all lines.
+unfoldable pub linesRead : List ℕ → List ℕ → List (List ℕ)
+linesRead ws text = rowsFrom ws (length text / wide ws) text
 
--- The record of the numbers of one line.
+-- The record of the numbers of one line: it is the first six of them,
 abbrev pub recOf : List ℕ → Rec
 recOf vs = get_or (recs 1 vs) 0 blank
+
+-- and those of all lines.
+abbrev pub recordsIn : List ℕ → List ℕ → List Rec
+recordsIn ws text = map recOf (linesRead ws text)
+
+-- The way up that a line gives: the number behind those six.
+abbrev pub upOf : List ℕ → ℕ
+upOf vs = get_or vs upPlace 0

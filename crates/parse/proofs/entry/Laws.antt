@@ -4,7 +4,7 @@ use Rattle.std.proofs.Common.{◌≡◌, ℕ, zero, suc, ◌+◌, ◌-◌, ◌*�
 use mathlib.Core.Option.{Option, none, some}
 use lib.ListN.{length-replicate}
 use lib.Seq.{sets, sets-eq}
-use Rattle.grammar.specs.answers.TokensInOrder.{record-words-length}
+use Rattle.own.specs.WordLaws.{record-words-length}
 use Rattle.text.specs.Same.{differ}
 use Rattle.lexer.specs.Lexemes.{Token}
 use Rattle.lexer.specs.Buffer.{tokensIn}

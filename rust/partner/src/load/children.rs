@@ -13,7 +13,7 @@ pub fn allowed(parent: &Record, children: &[Record]) -> bool {
 
 /// Takes the children that a row names.
 fn take_row(parent: &Record, rest: &mut Rest) -> Option<()> {
-    let [kind, _, _, low, high, _] = *parent;
+    let [kind, _, _, low, high, ..] = *parent;
     match kind {
         record::FUNCTION => {
             rest.one(is_name)?;

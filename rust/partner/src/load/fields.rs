@@ -10,7 +10,7 @@ const LAST_BUILTIN: u32 = 23;
 const LEAST_NAMES: u32 = 2;
 
 pub fn allowed(record: &Record) -> bool {
-    let [kind, _, _, low, high, _] = *record;
+    let [kind, _, _, low, high, ..] = *record;
     match kind {
         // `pub` adds 1 and a result type 2; high counts the parameters.
         record::FUNCTION => low <= 3,

@@ -1,29 +1,49 @@
-//! The form of a line: six words in upper-case hexadecimal digits, one space between, a line end after.
+//! The two forms of a line: all seven words, or as it was before the way up the first six; in upper-case hexadecimal
+//! digits, one space between, a line end after.
 
-use crate::listing::LINE;
-use crate::Record;
+use crate::listing::WIDTHS;
+use crate::{Record, RECORD_WORDS};
 
-/// Digits of the six words.
-const WIDTHS: [usize; 6] = [2, 4, 4, 8, 8, 4];
-
-/// One record a line, or the number of the first bad line, from 1.
-pub fn records(listing: &[u8]) -> Result<Vec<Record>, usize> {
-    // What is left behind the last whole line is a line too, and a bad one.
-    let lines = listing.chunks(LINE).zip(1..);
-    lines
-        .map(|(line, number)| record(line).ok_or(number))
-        .collect()
+/// The records of a listing; in the shorter form they have no way up.
+pub struct Lines {
+    pub records: Vec<Record>,
+    pub have_ways: bool,
 }
 
-/// The record of a line in form.
-fn record(line: &[u8]) -> Option<Record> {
+/// One record a line, all in the form of the first, or the number of the first bad line, from 1.
+pub fn lines(listing: &[u8]) -> Result<Lines, usize> {
+    let is_first = |words: &usize| record(listing, *words).is_some();
+    let words = [RECORD_WORDS, RECORD_WORDS - 1]
+        .into_iter()
+        .find(is_first)
+        // Of no line nothing is asked.
+        .or(listing.is_empty().then_some(RECORD_WORDS))
+        .ok_or(1usize)?;
+    // What is left behind the last whole line is a line too, and a bad one.
+    let lines = listing.chunks(length(words)).zip(1..);
+    let records: Result<_, usize> = lines
+        .map(|(line, number)| record(line, words).ok_or(number))
+        .collect();
+    Ok(Lines {
+        records: records?,
+        have_ways: words == RECORD_WORDS,
+    })
+}
+
+/// Bytes of a line of so many words: each with a space or the line end behind it.
+fn length(words: usize) -> usize {
+    WIDTHS[..words].iter().map(|width| width + 1).sum()
+}
+
+/// The record of so many words that these bytes begin with.
+fn record(line: &[u8], words: usize) -> Option<Record> {
     let mut rest = line.iter().copied();
-    let mut record = [0; 6];
-    for (column, width) in WIDTHS.into_iter().enumerate() {
-        for _ in 0..width {
+    let mut record = [0; RECORD_WORDS];
+    for column in 0..words {
+        for _ in 0..WIDTHS[column] {
             record[column] = record[column] << 4 | digit(rest.next()?)?;
         }
-        let separator = if column == 5 { b'\n' } else { b' ' };
+        let separator = if column + 1 == words { b'\n' } else { b' ' };
         if rest.next()? != separator {
             return None;
         }

@@ -2,13 +2,18 @@
 
 use super::load;
 use crate::kinds::{arm, call, record};
-use crate::{listing, read_with_room, write_lines, Entry, Record};
+use crate::{listing, read_with_room, write_lines, write_short_lines, Entry, Record};
 
 /// A record over its children; all places are alike, so each is inside the others.
 fn over(kind: u32, (low, high): (u32, u32), children: &[Vec<Record>]) -> Vec<Record> {
-    let beneath = children.concat();
-    let size = beneath.len() as u32 + 1;
-    [vec![[kind, 0, 1, low, high, size]], beneath].concat()
+    let mut tree = vec![[kind, 0, 1, low, high, 1, 0]];
+    for child in children {
+        let way = tree.len();
+        tree.extend_from_slice(child);
+        tree[way][6] = way as u32;
+    }
+    tree[0][5] = tree.len() as u32;
+    tree
 }
 
 fn node(kind: u32, children: &[Vec<Record>]) -> Vec<Record> {
@@ -35,9 +40,11 @@ fn value() -> Vec<Record> {
     leaf(record::DECIMAL)
 }
 
+/// Whether the records load, from lines of either form.
 fn loads(records: &[Record]) -> bool {
-    let listing = write_lines(records);
-    match load(&listing, usize::MAX) {
+    let loaded = load(&write_lines(records), usize::MAX);
+    assert_eq!(load(&write_short_lines(records), usize::MAX), loaded);
+    match loaded {
         Ok(loaded) => loaded == records,
         Err(refusal) => {
             assert_eq!(refusal, (17, 0));
@@ -125,7 +132,10 @@ fn files() {
 #[test]
 fn places_of_tops() {
     for (start, end) in (0..3).flat_map(|start| (0..3).map(move |end| (start, end))) {
-        assert_eq!(loads(&[[record::PROGRAM, start, end, 0, 0, 1]]), start == 0);
+        assert_eq!(
+            loads(&[[record::PROGRAM, start, end, 0, 0, 1, 0]]),
+            start == 0
+        );
         let mut function = node(record::FUNCTION, &[name(), leaf(record::BLOCK)]);
         (function[0][1], function[0][2]) = (start, end);
         // The others have the place from 0 to 1.
@@ -295,7 +305,8 @@ fn calls() {
 #[test]
 fn deepest() {
     let depth = 0xFFFF - 4;
-    let chain = (0..depth).map(|above| [record::OPTION, 0, 1, 0, 0, depth + 1 - above]);
-    let result: Vec<Record> = chain.chain(alias()).collect();
+    let chain = (0..depth).map(|above| [record::OPTION, 0, 1, 0, 0, depth + 1 - above, 1]);
+    let mut result: Vec<Record> = chain.chain(alias()).collect();
+    result[depth as usize][6] = 1;
     assert!(loads_type(result));
 }

@@ -80,7 +80,7 @@ impl Parser<'_> {
         } else {
             // A call has its name as first child; the arguments move up by one record.
             self.records
-                .insert(at + 1, [record::NAME, start, end, 0, 0, 1]);
+                .insert(at + 1, [record::NAME, start, end, 0, 0, 1, 0]);
             self.close(at, record::CALL, (call::CUSTOM, 0))
         }
     }

@@ -3,17 +3,18 @@
 use super::Parser;
 use crate::kinds::{record, token};
 use crate::names::is_reserved_type;
-use crate::Step;
+use crate::{Step, RECORD_WORDS};
 
 impl Parser<'_> {
     /// Items up to the end. The record above them is the first; its place is the whole draft, so an empty file has it too.
     pub(super) fn file(&mut self) -> Step {
-        self.records.push([0; 6]);
+        self.records.push([0; RECORD_WORDS]);
         while !self.next_is(token::END) {
             self.item()?;
         }
         let size = self.records.len() as u32;
-        self.records[0] = [record::PROGRAM, 0, self.draft.len() as u32, 0, 0, size];
+        self.records[0] = [record::PROGRAM, 0, self.draft.len() as u32, 0, 0, size, 0];
+        self.adopt(0);
         Ok(())
     }
 

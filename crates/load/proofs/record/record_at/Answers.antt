@@ -1,8 +1,13 @@
 -- `record_at` meets its contract.
 -- Assumes nothing.
 use Rattle.std.proofs.Common.{refl}
+use Rattle.own.specs.Lists.{all_take}
+use Rattle.load.specs.listing.LineForm.{sixFields}
 use Rattle.load.proofs.RecordLaws.{record-read}
 use Rattle.load.proofs.record.record_at.Goals as goal
 
+pub values-requires-clause-short : goal.values-requires-clause-short
+values-requires-clause-short c = all_take sixFields c.requires.short
+
 pub returns : goal.returns
-returns c = record-read _ _ _ c.requires.widths_len refl c.values.ensures
+returns c = record-read _ _ _ c.requires.full refl c.values.ensures

@@ -1,0 +1,54 @@
+/* What the tests of the entries for C share: checks that are counted, and the lines of documents 01 and 02. */
+#ifndef CHECK_H
+#define CHECK_H
+
+#include <stdio.h>
+#include <string.h>
+
+#include "togmelic.h"
+
+static int checks, failures;
+
+#define CHECK(condition) check((condition), #condition, __FILE__, __LINE__)
+
+static void check(int holds, const char *condition, const char *file, int line)
+{
+    checks++;
+    if (!holds) {
+        failures++;
+        fprintf(stderr, "%s:%d: failed: %s\n", file, line, condition);
+    }
+}
+
+/* Writes how many checks passed or failed, and answers the status. */
+static int finish(const char *name)
+{
+    if (failures > 0) {
+        fprintf(stderr, "c: %s: %d of %d checks failed\n", name, failures, checks);
+        return 1;
+    }
+    printf("c: %s: %d checks passed\n", name, checks);
+    return 0;
+}
+
+/* Units behind a lent buffer that no call may touch, and what each of its bytes is before. */
+enum { GUARD = 64, FILL = 0xAA };
+
+/* The lines of the example, `fn f(){match b{true=>1,false=>2,}}`. */
+static const char EXAMPLE_LINES[] =
+    "29 0000 0022 00000000 00000000 000A 0000\n"
+    "01 0000 0022 00000000 00000000 0009 0001\n"
+    "02 0003 0004 00000000 00000000 0001 0001\n"
+    "12 0006 0022 00000001 00000000 0007 0002\n"
+    "23 0007 0021 00000000 00000000 0006 0001\n"
+    "1D 000D 000E 00000000 00000000 0001 0001\n"
+    "25 0017 0020 00000005 00000000 0002 0002\n"
+    "18 001E 001F 00000000 00000000 0001 0001\n"
+    "25 000F 0017 00000006 00000000 0002 0004\n"
+    "18 0015 0016 00000000 00000000 0001 0001\n";
+enum { EXAMPLE_COUNT = 10, EXAMPLE_BYTES = EXAMPLE_COUNT * TOGMELIC_LINE, SHORT_BYTES = EXAMPLE_COUNT * TOGMELIC_SHORT_LINE };
+/* The lines of a draft that is refused with 8 at 11, and of the empty draft. */
+static const char REFUSED_LINE[] = "00 000B 000B 00000008 00000000 0001 0000\n";
+static const char EMPTY_LINE[] = "29 0000 0000 00000000 00000000 0001 0000\n";
+
+#endif

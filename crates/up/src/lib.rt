@@ -1,0 +1,63 @@
+// The way up: how many records back the parent of each record begins, found through the sizes of records that lie one after the other.
+#![tactic(auto)]
+
+ghost use Rattle.std.specs.Prelude.{◌≡◌, ◌≤◌, ◌<◌, ◌*◌, ◌+◌, ◌-◌, ℕ, length, get_or};
+ghost use Rattle.std.proofs.Common.{Fits, w32};
+ghost use Rattle.text.specs.Widths.{recWide};
+ghost use Rattle.up.specs.Ways.{wayUp, upward};
+ghost use Rattle.up.specs.Buffer.{upPlace, sizeIn};
+
+use text::RECORD_WORDS;
+
+// Where the size of a record and its way up stand among its words.
+const SIZE: usize = 5;
+
+pub const UP: usize = 6;
+
+// The record that holds record i, whose words begin at w, where those before it have their ways up; i itself if none does. `before` is what holds the record
+// before it, or that record itself. If the record before holds i, there is no way to go; else from `before` on, from parent to parent, up to the first that
+// reaches over i. Each record is passed at most once in all, since it is no parent of what comes after.
+fn above(tree: &[u32], before: usize, i: usize, w: usize) -> usize
+    requires i_nonzero { 0 < i }
+    requires w_value { w ≡ recWide * i }
+    requires w_in_bounds { w ≤ length tree.now }
+    requires before_value { before ≡ i - 1 - wayUp (sizeIn tree.now) (i - 1) }
+    requires raised { (q : ℕ) → q < i → get_or tree.now (recWide * q + upPlace) 0 ≡ wayUp (sizeIn tree.now) q }
+    ensures is { result ≡ i - wayUp (sizeIn tree.now) i }
+    ensures small { Fits w32 (i - result) }
+{
+    if tree[w - RECORD_WORDS + SIZE] > 1 {
+        return i - 1;
+    }
+    let mut p = before;
+    while i - p >= tree[RECORD_WORDS * p + SIZE] as usize {
+        let up = tree[RECORD_WORDS * p + UP] as usize;
+        if up == 0 {
+            return i;
+        }
+        p -= up;
+    }
+    p
+}
+
+// Gives each of the first records its way up, where the buffer has so many.
+pub fn way_up(tree: &mut [u32], records: usize)
+    ensures { tree.new ≡ upward records tree.old }
+{
+    if tree.len() / RECORD_WORDS < records {
+        return;
+    }
+    if records == 0 {
+        return;
+    }
+    tree[UP] = 0;
+    let mut p = 0;
+    let mut i = 1;
+    let mut w = RECORD_WORDS;
+    while i < records {
+        p = above(tree, p, i, w);
+        tree[w + UP] = (i - p) as u32;
+        i += 1;
+        w += RECORD_WORDS;
+    }
+}
