@@ -1,13 +1,11 @@
 -- What `load_listing` hands over (order 1) besides the words of the buffer, which are those of `load`: the number of records; and the number and the line of
 -- the refusal, 0 and 0 where the listing is loaded.
 -- Assumes nothing.
-use Rattle.std.specs.Prelude.{List, [], ◌∷◌, ◌↔◌, ◌≡◌, refl, ℕ, ◌<◌, length}
+use Rattle.std.specs.Prelude.{List, [], ◌∷◌, ◌↔◌, ◌≡◌, refl, ℕ}
 use Rattle.std.proofs.Common.{sym, ◌∙◌, arith}
 use Rattle.text.specs.Answers.{Answer, accepted, refused, values}
-use Rattle.own.specs.Tree.{Rec}
-use Rattle.load.specs.Function.{Whole}
 use Rattle.load.specs.Load.{load_of}
-use Rattle.load.specs.Laws.{Taken, accepted-taken}
+use Rattle.load.specs.Laws.{Taken, accepted-taken, some-record}
 
 -- As many records as are loaded; 0 on a refusal.
 abbrev pub recordsLoaded : List ℕ → ℕ → ℕ
@@ -23,10 +21,6 @@ Refusing (accepted n m) = ⊥
 Refusing (refused c l) = Unit {0}
 
 -- A function or program has a record,
-some-record : (rs : List Rec) → Whole rs → 0 < length rs
-some-record [] o = absurd o.top
-some-record (r ∷ rs) o = omega arith
-
 by_answer : (listing : List ℕ) (room : ℕ) (a : Answer) → load_of listing room ≡ a → ((values a).records ≡ 0) ↔ Refusing a
 by_answer listing room (refused c l) e = (λ z. tt, λ u. refl)
 by_answer listing room (accepted n m) e = ((λ z. none (accepted-taken listing room e) z), λ u. absurd u)
