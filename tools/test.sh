@@ -36,7 +36,7 @@ finish() {
     return "$status"
 }
 
-for script in tools/words.py tools/words_cases.py tools/bytes.py tools/lexer_cases.py tools/grammar.py tools/choice.py tools/digits.py \
+for script in tools/words.py tools/words_cases.py tools/bytes.py tools/lexer_cases.py tools/grammar.py tools/choice.py tools/digits.py tools/pairs.py \
     tools/children.py tools/believed.py; do
     run python3 "$script" --check
 done

@@ -1,2 +1,3 @@
+pub mod TwoDigits
 pub mod Fields
 pub mod Listing

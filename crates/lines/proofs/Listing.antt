@@ -10,30 +10,25 @@ use borrow.Author.Tests.{lt-ltb, le-ltb}
 use borrow.Rule.Slice.PartMut.{put_mid, mid_of}
 use lib.ListN.{length, drop, take, replicate}
 use lib.Seq.{sets, sets-eq, length-sets, drop-drop, take_at}
-use Rattle.std.proofs.lemmas.List.{get_or-take}
 use Rattle.text.specs.Clear.{cleared}
 use Rattle.text.specs.Widths.{recWide}
 use Rattle.up.specs.Ways.{rowsIn}
 use Rattle.up.specs.Laws.{rows-length}
-use Rattle.lines.specs.Form.{line_of, wide, same_line}
+use Rattle.lines.specs.Form.{line_of, wide}
 use Rattle.lines.specs.Lines.{widths, lineBytes, lines_of, lines-wide}
 use Rattle.lines.specs.Written.{used, padded, held, linesIn}
 use Rattle.text.specs.Sets.{sets-next}
 
--- the numbers of the first record of a buffer are its first words
-first-line : (ws w : List ℕ) → length ws ≤ recWide → line_of ws (take recWide w) ≡ line_of ws w
-first-line ws w h = same_line ws (take recWide w) w (λ k b. get_or-take recWide w k 0 (omega (arith, h, b)))
-
 -- one record more
-lines_more : (ws : List ℕ) → length ws ≤ recWide → (n : ℕ) (w : List ℕ) → lines_of ws (rowsIn (suc n) w) ≡ lines_of ws (rowsIn n w) ++ line_of ws (drop (recWide * n) w)
+lines_more : (ws : List ℕ) (n : ℕ) (w : List ℕ) → lines_of ws (rowsIn (suc n) w) ≡ lines_of ws (rowsIn n w) ++ line_of ws (take recWide (drop (recWide * n) w))
 unfolding lines_of
-lines_more ws h zero w = append-nil (line_of ws (take recWide w)) ∙ first-line ws w h
-lines_more ws h (suc n) w =
+lines_more ws zero w = append-nil (line_of ws (take recWide w))
+lines_more ws (suc n) w =
     let l = line_of ws (take recWide w) in
     let e : recWide + recWide * n ≡ recWide * suc n = omega arith in
-    ap (λ (x : List ℕ). l ++ x) (lines_more ws h n (drop recWide w))
-    ∙ ap (λ (x : List ℕ). l ++ (lines_of ws (rowsIn n (drop recWide w)) ++ line_of ws x)) (drop-drop (recWide * n) recWide w ∙ ap (λ (j : ℕ). drop j w) e)
-    ∙ sym (append_assoc l (lines_of ws (rowsIn n (drop recWide w))) (line_of ws (drop (recWide * suc n) w)))
+    ap (λ (x : List ℕ). l ++ x) (lines_more ws n (drop recWide w))
+    ∙ ap (λ (x : List ℕ). l ++ (lines_of ws (rowsIn n (drop recWide w)) ++ line_of ws (take recWide x))) (drop-drop (recWide * n) recWide w ∙ ap (λ (j : ℕ). drop j w) e)
+    ∙ sym (append_assoc l (lines_of ws (rowsIn n (drop recWide w))) (line_of ws (take recWide (drop (recWide * suc n) w))))
 
 lines_long : (ws : List ℕ) (n : ℕ) (w : List ℕ) → length (lines_of ws (rowsIn n w)) ≡ wide ws * n
 lines_long ws n w = lines-wide ws (rowsIn n w) ∙ ap (λ (k : ℕ). wide ws * k) (rows-length n w)
@@ -57,18 +52,19 @@ module _ {o ws w : List ℕ} {n : ℕ} {l : List ℕ} {p i : ℕ} (x : Listing o
   pub line-fits : i < n → wide ws * n ≤ length o → p + wide ws ≤ length l
   line-fits h r = let e = x.long in let m : wide ws * suc i ≤ wide ws * n = mul-le-mul_left (wide ws) h in omega (arith, e, m, r, next-end)
 
-  pub listing-more : {l₁ : List ℕ} {q : ℕ} → length ws ≤ recWide → i < n → q ≡ p + wide ws → l₁ ≡ sets l p (line_of ws (drop (recWide * i) w)) → Listing o ws w n l₁ q (i + 1)
-  listing-more {l₁} {q} f h d e =
+  pub listing-more : {l₁ : List ℕ} {q : ℕ} → i < n → q ≡ p + wide ws → l₁ ≡ sets l p (line_of ws (take recWide (drop (recWide * i) w))) → Listing o ws w n l₁ q (i + 1)
+  listing-more {l₁} {q} h d e =
       let s : suc i ≡ i + 1 = omega arith in
+      let next = line_of ws (take recWide (drop (recWide * i) w)) in
       let k = lines_long ws i w in
       let z = x.ends in
       let t : 0 + length (lines_of ws (rowsIn i w)) ≡ p = omega (arith, k, z) in
       record {
         within = omega arith;
-        long = ap length e ∙ length-sets l p (line_of ws (drop (recWide * i) w)) ∙ x.long;
+        long = ap length e ∙ length-sets l p next ∙ x.long;
         ends = d ∙ next-end ∙ ap (λ (j : ℕ). wide ws * j) s;
-        done = sets-next o (lines_of ws (rowsIn i w)) (line_of ws (drop (recWide * i) w)) 0 p x.done e t
-            ∙ ap (sets o 0) (sym (lines_more ws f i w)) ∙ ap (λ (j : ℕ). sets o 0 (lines_of ws (rowsIn j w))) s;
+        done = sets-next o (lines_of ws (rowsIn i w)) next 0 p x.done e t
+            ∙ ap (sets o 0) (sym (lines_more ws i w)) ∙ ap (λ (j : ℕ). sets o 0 (lines_of ws (rowsIn j w))) s;
       }
 
   pub listing-end : n ≤ i → (p ≡ wide ws * n) × (l ≡ sets o 0 (lines_of ws (rowsIn n w)))

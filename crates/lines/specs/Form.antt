@@ -1,8 +1,8 @@
 -- The form of a line is a list of widths: a number for each of its fields, of so many digits, "one space between, LF after" (document 01,
 -- "The listing program"). Everything here is said of any widths, so that a listing may have lines of another form.
 -- Assumes nothing.
-use Rattle.std.specs.Prelude.{List, [], ◌∷◌, ◌++◌, ◌≡◌, refl, ℕ, zero, suc, ◌+◌, ◌<◌, length, get_or, drop}
-use Rattle.std.proofs.Common.{sym, ap₂, ◌∙◌, arith, length-append, get_or-drop}
+use Rattle.std.specs.Prelude.{List, [], ◌∷◌, ◌++◌, ◌≡◌, refl, ℕ, zero, suc, ◌+◌, length, get_or, drop}
+use Rattle.std.proofs.Common.{arith, length-append}
 use Rattle.lines.specs.Hex.{hex, hex-length}
 
 abbrev pub space : ℕ
@@ -26,7 +26,7 @@ abbrev pub wide : List ℕ → ℕ
 wide [] = 0
 wide (n ∷ ns) = n + 1 + wide ns
 
--- It has as many,
+-- It has as many.
 pub line-wide : (ws vs : List ℕ) → length (line_of ws vs) ≡ wide ws
 unfolding line_of
 line-wide [] vs = refl
@@ -34,11 +34,3 @@ line-wide (n ∷ ns) vs =
     let h = line-wide ns (drop 1 vs) in
     let k = hex-length n (get_or vs 0 0) in
     omega (arith, length-append (hex n (get_or vs 0 0)) (after (length ns) ∷ line_of ns (drop 1 vs)))
-
--- and is told by as many values as it has fields.
-pub same_line : (ws vs us : List ℕ) → ((k : ℕ) → k < length ws → get_or vs k 0 ≡ get_or us k 0) → line_of ws vs ≡ line_of ws us
-unfolding line_of
-same_line [] vs us e = refl
-same_line (n ∷ ns) vs us e =
-    ap₂ (λ (v : ℕ) (l : List ℕ). hex n v ++ (after (length ns) ∷ l)) (e 0 (omega arith))
-    (same_line ns (drop 1 vs) (drop 1 us) (λ k h. get_or-drop 1 vs k 0 ∙ e (1 + k) (omega arith) ∙ sym (get_or-drop 1 us k 0)))

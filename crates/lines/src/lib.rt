@@ -4,6 +4,8 @@
 ghost use Rattle.std.specs.Prelude.{◌≡◌, min, length};
 ghost use Rattle.lines.specs.Written.{used, padded, linesIn};
 
+mod digits;
+mod pairs;
 mod write;
 
 pub use write::after;
@@ -57,8 +59,7 @@ pub fn list(tree: &[u32], records: usize, out: &mut [u8]) -> usize
         text::clear_bytes(out);
         return 0;
     }
-    let widths = WIDTHS;
-    let end = write::lines(&widths, out, tree, n);
+    let end = write::lines(out, tree, n);
     text::clear_bytes(&mut out[end..]);
     end
 }

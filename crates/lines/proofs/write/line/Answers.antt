@@ -1,23 +1,18 @@
 -- Assumes nothing.
-use Rattle.std.proofs.Common.{sym, arith}
-use lib.Seq.{get_or-drop}
-use Rattle.lines.proofs.Fields.{fields-start, field_fits, fields-more, fields-end}
+use Rattle.std.proofs.Common.{◌∙◌, arith}
+use Rattle.lines.specs.Form.{line_of}
+use Rattle.lines.specs.Lines.{widths}
+use Rattle.lines.proofs.Fields.{field-then}
 use Rattle.lines.proofs.write.line.Goals as goal
 
-pub loop-k-init : goal.loop-k-init
-loop-k-init c = fields-start _ _ _ _
-
-pub hex-requires : goal.hex-requires
-hex-requires c =
-    let fits = field_fits c.loop-k.invariant c.loop-k-test.true in
-    record {
-      digits_value = c.requires.digits_value;
-      n_in_bounds = omega (arith, fits, c.requires.widths_in_bounds, c.loop-k.invariant.long);
-    }
-
-pub loop-k-preserved : goal.loop-k-preserved
-loop-k-preserved c =
-    fields-more c.loop-k.invariant c.loop-k-test.true (sym (get_or-drop c.args.w c.args.tree.now _ 0)) c.hex.ensures c.after.ensures
-
-pub returns : goal.returns
-returns c = let e = fields-end c.loop-k.invariant (omega arith) in record { end = e.0; bytes = e.1 }
+pub returns-clause-bytes : goal.returns-clause-bytes
+unfolding line_of
+returns-clause-bytes c =
+    let next = field-then widths c.args.words.now in
+    next 6 _ _ _ _ (omega arith) c.place.ensures.bytes c.place.ensures.end
+    ∙ next 5 _ _ _ _ (omega arith) c.place-way.ensures.bytes c.place-way.ensures.end
+    ∙ next 4 _ _ _ _ (omega arith) c.half-size.ensures.bytes c.half-size.ensures.end
+    ∙ next 3 _ _ _ _ (omega arith) c.half-high.ensures.bytes c.half-high.ensures.end
+    ∙ next 2 _ _ _ _ (omega arith) c.place-low.ensures.bytes c.place-low.ensures.end
+    ∙ next 1 _ _ _ _ (omega arith) c.place-end.ensures.bytes c.place-end.ensures.end
+    ∙ next 0 _ _ _ _ (omega arith) c.kind-start.ensures.bytes c.kind-start.ensures.end
