@@ -4,18 +4,20 @@ use mathlib.Core.Bool.{Bool, true, false, cond}
 use mathlib.Core.List.{List, [], ◌∷◌, ◌++◌, append-nil, append_assoc}
 use mathlib.Core.Option.{Option, none, some}
 use mathlib.Core.Path.{◌≡◌, refl, sym, ◌∙◌, ap, ap₂, subst}
-use Prim.Native.Nat.{ℕ, suc, ◌+◌, ◌-◌, ◌*◌, ◌≤◌, ◌<◌}
+use Prim.Native.Nat.{ℕ, suc, ◌+◌, ◌*◌, ◌≤◌, ◌<◌}
 use native.Mathlib.Omega.{arith}
 use borrow.Author.Tests.{lt-ltb, ltb-true, ltb-false, eqb-true, eqb-false}
 use lib.Dec.{ltb, eqb}
-use lib.ListN.{length, get_or, drop, take, set, replicate, length-drop, length-append, length-set, get_or-append}
+use lib.ListN.{length, get_or, drop, set, length-drop, length-append, length-set, get_or-append}
 use lib.Seq.{sets-eq, take_at, drop_at, drop-drop, get_or_at}
 use Rattle.text.specs.Answers.{Answer, accepted, refused}
 use Rattle.text.specs.Refusals as refusal
 use Rattle.text.specs.Widths.{tokWide}
+use Rattle.text.specs.Front.{front}
 use Rattle.lexer.specs.Lexemes.{Token, Lexemes, tokens, refusedAt, with-token, lexemesFrom, lexemes}
-use Rattle.lexer.specs.Limits.{noToken, meant, tooDeep, deep, judgedIn, tokenWords, tokensOf, content}
+use Rattle.lexer.specs.Limits.{noToken, meant, tooDeep, deep, judgedIn, tokenWords, tokensOf}
 use Rattle.lexer.specs.Buffer.{put_at, Held}
+use Rattle.lexer.specs.Fits.{no-refusal, token-words-length}
 use Rattle.lexer.specs.Nesting.{isPast, nestAfter, nestOf, outermost, passed_at}
 use Rattle.lexer.specs.Step.{step_of}
 use Rattle.lexer.specs.declared.Step.{Step}
@@ -27,11 +29,6 @@ use Rattle.lexer.proofs.Nesting.{nest-snoc, nest_deep}
 use Rattle.lexer.proofs.Steps.{follow, Leads, rest-follows, step-leads}
 
 -- ---- the words of the buffer
-
-words-length : (ts : List Token) → length (tokenWords ts) ≡ tokWide * length ts
-unfolding tokenWords
-words-length [] = refl
-words-length (t ∷ ts) = let ih = words-length ts in omega arith
 
 abbrev words_of : Token → List ℕ
 words_of t = t.kind ∷ t.start ∷ t.end ∷ []
@@ -141,7 +138,7 @@ module _ {s : List ℕ} {room : ℕ} {o : List ℕ} {i n w : ℕ} {x : Nest} {ou
     put_written : tokWide * room ≤ length o → n + 1 ≤ room → put_at out room n k i e ≡ tokenWords (v.done ++ this ∷ []) ++ drop (tokWide * (n + 1)) o
     unfolding put_at
     put_written f h =
-        let l : length (tokenWords v.done) ≡ tokWide * n = words-length v.done ∙ ap (λ x. tokWide * x) v.number in
+        let l : length (tokenWords v.done) ≡ tokWide * n = token-words-length v.done ∙ ap (λ x. tokWide * x) v.number in
         let a : tokWide * n + tokWide ≡ tokWide * (n + 1) = omega arith in
         let b : n < room = omega arith in
         ap (λ x. cond x (set (set (set out (tokWide * n) k) (tokWide * n + 1) i) (tokWide * n + 2) e) out) (lt-ltb n room b)
@@ -177,9 +174,6 @@ module _ {s : List ℕ} {room : ℕ} {o : List ℕ} {i n w : ℕ} {x : Nest} {ou
   abbrev said : Bool → Bool → Answer
   said a b = cond a (refused refusal.TooMany w) (cond b (refused refusal.TooDeep x.place) (accepted n 0))
 
-  abbrev left_in : Bool → Bool → List ℕ
-  left_in a b = cond a out (cond b out (take (tokWide * n) out ++ replicate (length out - tokWide * n) 0))
-
   deep_is : cond (isPast x) (refused refusal.TooDeep x.place) (accepted n 0) ≡ deep (tooDeep 0 0 v.done) n
   deep_is = go (isPast x) ∙ sym (ap (λ (p : Option ℕ). deep p n) (sym (nest_deep v.done 0 0 0 (omega arith)) ∙ ap passed_at v.nested))
     where
@@ -201,16 +195,12 @@ module _ {s : List ℕ} {room : ℕ} {o : List ℕ} {i n w : ℕ} {x : Nest} {ou
       go false f = deep_is
 
   -- the tokens stand in the buffer unless they are refused
-  pub fill-held : (r : Lexed) (z : List ℕ) → step_of s i ≡ S.Nothing → meant r ≡ said (ltb room n) (isPast x) → z ≡ left_in (ltb room n) (isPast x)
-      → Held r z (tokensOf (lexemes s)) (length o)
-  fill-held r z q e g = record { holds = go (ltb room n) (isPast x) refl e g }
+  pub fill-held : (r : Lexed) → step_of s i ≡ S.Nothing → meant r ≡ said (ltb room n) (isPast x) → Held r out (tokensOf (lexemes s)) o
+  fill-held r q e = record { holds = go (ltb room n) (isPast x) refl e }
     where
-      go : (a b : Bool) → ltb room n ≡ a → meant r ≡ said a b → z ≡ left_in a b → (m : ℕ) → r ≡ L.Tokens m → z ≡ content (meant r) (tokensOf (lexemes s)) (length o)
-      go true b f e g m h = let k = sym (ap meant h) ∙ e in let y : ◌≡◌ {A = ℕ} 0 1 = cc in absurd (omega arith)
-      go false true f e g m h = let k = sym (ap meant h) ∙ e in let y : ◌≡◌ {A = ℕ} 0 1 = cc in absurd (omega arith)
-      go false false f e g m h =
-          let l : length (tokenWords v.done) ≡ tokWide * n = words-length v.done ∙ ap (λ y. tokWide * y) v.number in
-          let a : take (tokWide * n) out ≡ tokenWords v.done = ap (take (tokWide * n)) (v.written (ltb-false room n f)) ∙ take_at (tokenWords v.done) (drop (tokWide * n) o) (tokWide * n) l in
-          let b : length out - tokWide * n ≡ length o - tokWide * length v.done = ap₂ (λ y z. y - tokWide * z) v.long (sym v.number) in
-          g ∙ ap₂ (λ y z. y ++ replicate z 0) a b
-          ∙ sym (ap₂ (λ y z. content y (tokensOf z) (length o)) (ap meant h) (fill-over q))
+      go : (a b : Bool) → ltb room n ≡ a → meant r ≡ said a b → (m : ℕ) → r ≡ L.Tokens m → out ≡ front (tokenWords (tokensOf (lexemes s))) o
+      go true b f e m h = absurd (no-refusal (sym (sym (ap meant h) ∙ e)))
+      go false true f e m h = absurd (no-refusal (sym (sym (ap meant h) ∙ e)))
+      go false false f e m h =
+          let l : length (tokenWords v.done) ≡ tokWide * n = token-words-length v.done ∙ ap (λ y. tokWide * y) v.number in
+          v.written (ltb-false room n f) ∙ ap (λ (k : ℕ). tokenWords v.done ++ drop k o) (sym l) ∙ ap (λ (y : Lexemes). front (tokenWords (tokensOf y)) o) (sym (fill-over q))

@@ -2,8 +2,9 @@
 -- Assumes nothing.
 use Rattle.std.specs.Prelude.{cond, List, [], ◌∷◌, ◌≡◌, ℕ, zero, suc, ◌+◌, ◌*◌, ltb, get_or, drop, set}
 use Rattle.text.specs.Widths.{tokWide}
+use Rattle.text.specs.Front.{front}
 use Rattle.lexer.specs.Lexemes.{Token}
-use Rattle.lexer.specs.Limits.{meant, content}
+use Rattle.lexer.specs.Limits.{tokenWords}
 use Rattle.lexer.specs.declared.Lexed.{Lexed}
 use Rattle.lexer.specs.declared.Lexed.TheVariants.{Tokens}
 
@@ -16,6 +17,6 @@ unfoldable pub tokensIn : ℕ → List ℕ → List Token
 tokensIn zero words = []
 tokensIn (suc n) words = record { kind = get_or words 0 0; start = get_or words 1 0; end = get_or words 2 0 } ∷ tokensIn n (drop tokWide words)
 
--- unless they are refused, the tokens stand in the buffer with zeros behind them
-pub record Held (r : Lexed) (out : List ℕ) (ts : List Token) (size : ℕ) : Type 0 where
-  pub holds : (n : ℕ) → r ≡ Tokens n → out ≡ content (meant r) ts size
+-- unless they are refused, the tokens stand at the front of the buffer, and what was behind them is still there
+pub record Held (r : Lexed) (out : List ℕ) (ts : List Token) (old : List ℕ) : Type 0 where
+  pub holds : (n : ℕ) → r ≡ Tokens n → out ≡ front (tokenWords ts) old

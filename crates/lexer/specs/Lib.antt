@@ -14,6 +14,7 @@ pub mod Trivia
 pub mod Places
 pub mod Limits
 pub mod Buffer
+pub mod Fits
 pub mod Nesting
 pub mod Class
 pub mod Samples

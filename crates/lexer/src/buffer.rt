@@ -1,18 +1,9 @@
-// The token buffer: `TOKEN_WORDS` words a token, zeros behind the tokens.
-ghost use Rattle.std.specs.Prelude.{◌≡◌, ◌++◌, ◌*◌, ◌-◌, ◌≤◌, length, take, replicate};
+// The token buffer: `TOKEN_WORDS` words a token.
+ghost use Rattle.std.specs.Prelude.{◌≡◌, ◌*◌, ◌≤◌, length};
 ghost use Rattle.text.specs.Widths.{tokWide};
 ghost use Rattle.lexer.specs.Buffer.{put_at};
 
 use text::TOKEN_WORDS;
-
-// Sets every word behind the first n tokens to 0.
-pub(crate) fn clear_behind(out: &mut [u32], n: usize)
-    requires { tokWide * n ≤ length out.old }
-    ensures { out.new ≡ take (tokWide * n) out.old ++ replicate (length out.old - tokWide * n) 0 }
-{
-    let at = TOKEN_WORDS * n;
-    text::clear(&mut out[at..]);
-}
 
 // Writes token number n, if it is below the room.
 pub(crate) fn put(out: &mut [u32], room: usize, n: usize, kind: u32, start: u32, end: u32)

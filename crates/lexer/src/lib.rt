@@ -7,7 +7,9 @@ ghost use Rattle.lexer.specs.Classes as t;
 ghost use Rattle.lexer.specs.Class.{class_of};
 ghost use Rattle.lexer.specs.ClassLaw.{ClassLaw};
 ghost use Rattle.lexer.specs.Texts.{OneToken};
-ghost use Rattle.lexer.specs.Limits.{draftLimits, meant, lexedOf, bufferOf};
+ghost use Rattle.lexer.specs.Lexemes.{lexemes};
+ghost use Rattle.lexer.specs.Limits.{draftLimits, meant, lexedOf, bufferOf, tokensOf};
+ghost use Rattle.lexer.specs.Buffer.{Held};
 
 use words::{Found, Table};
 
@@ -52,6 +54,14 @@ pub fn lex(draft: &[u8], out: &mut [u32]) -> Lexed
     ensures out_after { out.new ≡ bufferOf draftLimits draft.now (length out.old) }
 {
     limits::lex_within(draft, out, DRAFT_BYTES, DRAFT_TOKENS)
+}
+
+// The same for who needs no zeros: the words behind the tokens stay as they are, and on a refusal nothing is said of the words.
+pub fn lex_front(draft: &[u8], out: &mut [u32]) -> Lexed
+    ensures result_value { meant result ≡ lexedOf draftLimits draft.now (length out.old) }
+    ensures held { Held result out.new (tokensOf (lexemes draft.now)) out.old }
+{
+    limits::lex_front_within(draft, out, DRAFT_BYTES, DRAFT_TOKENS)
 }
 
 // Whether a token of this kind may be a word that the rules single out.

@@ -1,5 +1,5 @@
 // The tokens of a draft within limits: refusals 1 to 7 in their order.
-ghost use Rattle.std.specs.Prelude.{cond, ◌++◌, ◌≡◌, ◌+◌, ◌*◌, ◌-◌, ◌≤◌, ◌<◌, ◌^◌, min, eqb, ltb, length, take, replicate};
+ghost use Rattle.std.specs.Prelude.{cond, ◌≡◌, ◌+◌, ◌*◌, ◌-◌, ◌≤◌, ◌<◌, ◌^◌, min, eqb, ltb, length};
 ghost use Rattle.text.specs.Answers.{accepted, refused};
 ghost use Rattle.text.specs.Refusals as refusal;
 ghost use Rattle.text.specs.Widths.{tokWide};
@@ -26,13 +26,9 @@ fn first_over(n: usize, room: usize, start: usize, over: usize) -> usize
     if n == room { start } else { over }
 }
 
-// Too many tokens, then too deep; else zeros behind the n tokens.
-fn count(out: &mut [u32], room: usize, n: usize, over: usize, nest: Nest) -> Lexed
-    requires { tokWide * room ≤ length out.old }
-    ensures result_value { meant result ≡ cond (ltb room n) (refused refusal.TooMany over)
-        (cond (isPast nest) (refused refusal.TooDeep nest.place) (accepted n 0)) }
-    ensures out_after { out.new ≡ cond (ltb room n) out.old (cond (isPast nest) out.old
-        (take (tokWide * n) out.old ++ replicate (length out.old - tokWide * n) 0)) }
+// Too many tokens, then too deep; else the n tokens.
+fn count(room: usize, n: usize, over: usize, nest: Nest) -> Lexed
+    ensures { meant result ≡ cond (ltb room n) (refused refusal.TooMany over) (cond (isPast nest) (refused refusal.TooDeep nest.place) (accepted n 0)) }
 {
     if room < n {
         return Lexed::Refused {
@@ -47,7 +43,6 @@ fn count(out: &mut [u32], room: usize, n: usize, over: usize, nest: Nest) -> Lex
             place,
         };
     }
-    buffer::clear_behind(out, n);
     Lexed::Tokens(n)
 }
 
@@ -55,7 +50,7 @@ fn count(out: &mut [u32], room: usize, n: usize, over: usize, nest: Nest) -> Lex
 fn fill(draft: &[u8], out: &mut [u32], room: usize) -> Lexed
     requires { (length draft.now < 2 ^ 32) × (tokWide * room ≤ length out.old) }
     ensures result_value { meant result ≡ judgedIn room (lexemes draft.now) }
-    ensures held { Held result out.new (tokensOf (lexemes draft.now)) (length out.old) }
+    ensures held { Held result out.new (tokensOf (lexemes draft.now)) out.old }
 {
     let classes = class_table();
     let mut at: usize = 0;
@@ -79,30 +74,40 @@ fn fill(draft: &[u8], out: &mut [u32], room: usize) -> Lexed
                 return Lexed::Refused { number, place };
             }
             Step::Nothing => {
-                return count(out, room, n, over, nest);
+                return count(room, n, over, nest);
             }
         }
     }
 }
 
-// Writes the tokens of a draft of so many bytes and tokens at most, zeros behind them; on a refusal every word is 0.
-pub(crate) fn lex_within(draft: &[u8], out: &mut [u32], bytes: usize, tokens: usize) -> Lexed
+// Writes the tokens of a draft of so many bytes and tokens at most, and leaves what is behind them.
+pub(crate) fn lex_front_within(draft: &[u8], out: &mut [u32], bytes: usize, tokens: usize) -> Lexed
     requires { bytes < 2 ^ 32 }
     ensures result_value { meant result ≡ lexedOf (limitsOf bytes tokens) draft.now (length out.old) }
-    ensures out_after { out.new ≡ bufferOf (limitsOf bytes tokens) draft.now (length out.old) }
+    ensures held { Held result out.new (tokensOf (lexemes draft.now)) out.old }
 {
     if draft.len() > bytes {
-        text::clear(out);
         return Lexed::Refused {
             number: refusal::TOO_LONG,
             place: bytes,
         };
     }
     let room = least(tokens, out.len() / TOKEN_WORDS);
-    let r = fill(draft, out, room);
+    fill(draft, out, room)
+}
+
+// The same with zeros behind the tokens; on a refusal every word is 0.
+pub(crate) fn lex_within(draft: &[u8], out: &mut [u32], bytes: usize, tokens: usize) -> Lexed
+    requires { bytes < 2 ^ 32 }
+    ensures result_value { meant result ≡ lexedOf (limitsOf bytes tokens) draft.now (length out.old) }
+    ensures out_after { out.new ≡ bufferOf (limitsOf bytes tokens) draft.now (length out.old) }
+{
+    let r = lex_front_within(draft, out, bytes, tokens);
     let Lexed::Tokens(n) = r else {
         text::clear(out);
         return r;
     };
+    let used = TOKEN_WORDS * n;
+    text::clear_from(out, used);
     Lexed::Tokens(n)
 }

@@ -1,5 +1,6 @@
 -- The whole draft.
 pub mod Ends
 pub mod Holds
+pub mod Cleared
 pub mod Closed
 pub mod Laws

@@ -4,7 +4,7 @@ ghost use Rattle.text.specs.Widths.{tokWide};
 ghost use Rattle.lexer.specs.Buffer.{tokensIn};
 ghost use Rattle.grammar.specs.answers.Answer.{start_of};
 ghost use Rattle.parse.specs.Contract.{text, countable, Ready};
-ghost use Rattle.parse.specs.Entry.{entry_of, tooMany, tooLong, WholeRead, Starts, ended, judged, answered, answer_of, tree_of};
+ghost use Rattle.parse.specs.Entry.{entry_of, tooMany, tooLong, WholeRead, Starts, ended, judged, answered, answer_of, tree_of, Held};
 
 use crate::{Answer, State, Step, file, program, token};
 use text::{RECORD_WORDS, TOKEN_WORDS, refusal};
@@ -121,8 +121,8 @@ fn whole(
     program::function(draft, tokens, count, tree, st)
 }
 
-// Writes the records of a draft of so many tokens at most, a file or one function, zeros behind them; on a refusal every word is 0.
-pub(crate) fn parse_within(
+// Writes the records of a draft of so many tokens at most, a file or one function, and leaves what is behind them.
+pub(crate) fn parse_front_within(
     draft: &[u8],
     tokens: &[u32],
     count: usize,
@@ -132,9 +132,8 @@ pub(crate) fn parse_within(
 ) -> Answer
     requires { most ≤ countable }
     ensures value { result ≡ answered (answer_of (entry_of file) most draft.now tokens.now count (length tree.old)) }
-    ensures tree_after { tree.new ≡ tree_of (entry_of file) most draft.now tokens.now count (length tree.old) }
+    ensures held { Held (entry_of file) draft.now tokens.now count result tree.new tree.old }
 {
-    text::clear(tree);
     if too_many(most, count, tokens.len()) {
         return Answer::Refused {
             number: refusal::TOO_MANY,
@@ -149,10 +148,28 @@ pub(crate) fn parse_within(
     }
     let st = start(draft, tokens, count);
     let step = whole(draft, tokens, count, tree, st, file);
-    let answer = judge(draft, tokens, count, tree.len(), step);
+    judge(draft, tokens, count, tree.len(), step)
+}
+
+// The same with zeros behind the records; on a refusal every word is 0.
+pub(crate) fn parse_within(
+    draft: &[u8],
+    tokens: &[u32],
+    count: usize,
+    tree: &mut [u32],
+    most: usize,
+    file: bool,
+) -> Answer
+    requires { most ≤ countable }
+    ensures value { result ≡ answered (answer_of (entry_of file) most draft.now tokens.now count (length tree.old)) }
+    ensures tree_after { tree.new ≡ tree_of (entry_of file) most draft.now tokens.now count (length tree.old) }
+{
+    let answer = parse_front_within(draft, tokens, count, tree, most, file);
     let Answer::Records(records) = answer else {
         text::clear(tree);
         return answer;
     };
+    let used = RECORD_WORDS * records;
+    text::clear_from(tree, used);
     Answer::Records(records)
 }

@@ -4,7 +4,7 @@
 ghost use Rattle.std.specs.Prelude.{◌≡◌, length};
 ghost use Rattle.lexer.specs.Limits.{draftLimits};
 ghost use Rattle.grammar.specs.Entry.{oneFunction, wholeFile};
-ghost use Rattle.parse.specs.Entry.{meant, answer_of, tree_of};
+ghost use Rattle.parse.specs.Entry.{entry_of, meant, answer_of, tree_of, Held};
 
 mod arms;
 mod choice;
@@ -63,4 +63,18 @@ pub fn parse_file(draft: &[u8], tokens: &[u32], count: usize, tree: &mut [u32]) 
     ensures tree { tree.new ≡ tree_of wholeFile draftLimits.tokens draft.now tokens.now count (length tree.old) }
 {
     entry::parse_within(draft, tokens, count, tree, lexer::DRAFT_TOKENS, true)
+}
+
+// The same of a file, or of one function, for who needs no zeros: the words behind the records stay as they are, and on a refusal nothing is said of the words.
+pub fn parse_front(
+    draft: &[u8],
+    tokens: &[u32],
+    count: usize,
+    tree: &mut [u32],
+    file: bool,
+) -> Answer
+    ensures answer { meant count result ≡ answer_of (entry_of file) draftLimits.tokens draft.now tokens.now count (length tree.old) }
+    ensures held { Held (entry_of file) draft.now tokens.now count result tree.new tree.old }
+{
+    entry::parse_front_within(draft, tokens, count, tree, lexer::DRAFT_TOKENS, file)
 }

@@ -1,79 +1,33 @@
 -- From what the lexer and the parser ensure to what the reader hands over.
 -- Assumes nothing.
 use mathlib.Core.Bool.{Bool, true, false, cond, ◌||◌}
-use mathlib.Core.List.{List, [], ◌∷◌, ◌++◌}
-use mathlib.Core.Option.{Option, none, some}
+use mathlib.Core.List.{List, ◌++◌}
 use mathlib.Core.Path.{◌≡◌, refl, sym, ap, ap₂, ◌∙◌}
 use Prim.Native.Nat.{ℕ, ◌-◌, ◌*◌, ◌≤◌}
 use native.Mathlib.Omega.{arith}
-use borrow.Author.Tests.{ltb-false, le-ltb, lt-leb}
+use borrow.Author.Tests.{le-ltb, lt-leb}
 use lib.Dec.{ltb}
-use lib.ListN.{length, get_or, replicate}
-use Rattle.text.specs.Same.{differ}
-use Rattle.lexer.specs.Lexemes.{Token, Lexemes, tokens, refusedAt, lexemes}
-use Rattle.lexer.specs.Limits as lexer
-use Rattle.lexer.specs.Limits.{Limits, draftLimits, room, noToken, tooDeep, deep, judged, lexedOf, bufferOf, tokensOf, tokenWords}
+use lib.ListN.{length, replicate, take, drop}
+use Rattle.text.specs.Front.{front, front-cleared}
+use Rattle.lexer.specs.Lexemes.{Token, lexemes}
+use Rattle.lexer.specs.Limits.{draftLimits, room, lexedOf, tokensOf, tokenWords}
 use Rattle.lexer.specs.Buffer.{tokensIn}
+use Rattle.lexer.specs.Fits.{no-refusal, lexed-fits, lexed-short, read-back, words-fit, tokens-cleared}
 use Rattle.text.specs.Widths.{tokWide, recWide}
 use Rattle.text.specs.Answers.{Answer, accepted, refused}
 use Rattle.text.specs.Refusals as refusal
+use Rattle.own.specs.Tree.{Rec, classesOf}
 use Rattle.own.specs.Words.{recWords}
 use Rattle.own.specs.WordLaws.{record-words-length}
 use Rattle.up.specs.Ways.{upWords, upward}
 use Rattle.up.specs.Laws.{up-words-long, raised-words}
-use Rattle.own.specs.Tree.{classesOf}
 use Rattle.grammar.specs.Entry.{Entry, oneFunction, wholeFile}
 use Rattle.grammar.specs.shapes.WellShaped.{shape_of}
 use Rattle.grammar.specs.answers.Answer.{toks_of, Reading, unread, read, shaped, lexed, reading, fitted, answer, content, recordsIn, tokenBuffer, treeBuffer, recordsRead}
-use Rattle.grammar.specs.answers.Laws.{token-buffer-lexed, law-4-refused}
+use Rattle.grammar.specs.answers.OutcomeLaws.{lexed-within}
+use Rattle.grammar.specs.answers.Laws.{law-1, token-buffer-lexed, law-4-refused}
 use Rattle.parse.specs.Contract.{u32Count}
-use Rattle.parse.specs.Entry.{tooMany, tooLong, reading_of, answer_of, tree_of}
-
-abbrev lexing : Answer → Bool
-lexing (accepted n m) = true
-lexing (refused c p) = false
-
-abbrev count : Answer → ℕ
-count (accepted n m) = n
-count (refused c p) = 0
-
-no-refusal : {c p n : ℕ} → refused c p ≡ accepted n 0 → ⊥
-no-refusal e = differ (ap lexing e)
-
--- The lexer's answer is so many tokens only if there are so many, and they fit.
-deep_is : (o : Option ℕ) {k n : ℕ} → deep o k ≡ accepted n 0 → k ≡ n
-deep_is none e = ap count e
-deep_is (some p) e = absurd (no-refusal e)
-
-fits : (l : Limits) (tw n : ℕ) (x : Lexemes) → judged l tw x ≡ accepted n 0 → (length (tokensOf x) ≡ n) × (length (tokensOf x) ≤ room l tw)
-fits l tw n (refusedAt c p) e = absurd (no-refusal e)
-fits l tw n (tokens ts) e = go (ltb (room l tw) (length ts)) refl e
-  where
-    go : (b : Bool) → ltb (room l tw) (length ts) ≡ b → cond b (refused refusal.TooMany (get_or ts (room l tw) noToken).start) (deep (tooDeep 0 0 ts) (length ts)) ≡ accepted n 0 → (length ts ≡ n) × (length ts ≤ room l tw)
-    go true q f = absurd (no-refusal f)
-    go false q f = (deep_is (tooDeep 0 0 ts) f, ltb-false (room l tw) (length ts) q)
-
-lexed-fits : (l : Limits) (draft : List ℕ) (tw n : ℕ) → lexedOf l draft tw ≡ accepted n 0 → (length (tokensOf (lexemes draft)) ≡ n) × (length (tokensOf (lexemes draft)) ≤ room l tw)
-unfolding lexedOf
-lexed-fits l draft tw n e = go (ltb l.bytes (length draft)) e
-  where
-    go : (b : Bool) → cond b (refused refusal.TooLong l.bytes) (judged l tw (lexemes draft)) ≡ accepted n 0 → (length (tokensOf (lexemes draft)) ≡ n) × (length (tokensOf (lexemes draft)) ≤ room l tw)
-    go true f = absurd (no-refusal f)
-    go false f = fits l tw n (lexemes draft) f
-
--- Then the draft is short, too.
-lexed-short : (l : Limits) (draft : List ℕ) (tw n : ℕ) → lexedOf l draft tw ≡ accepted n 0 → length draft ≤ l.bytes
-unfolding lexedOf
-lexed-short l draft tw n e = go (ltb l.bytes (length draft)) refl e
-  where
-    go : (b : Bool) → ltb l.bytes (length draft) ≡ b → cond b (refused refusal.TooLong l.bytes) (judged l tw (lexemes draft)) ≡ accepted n 0 → length draft ≤ l.bytes
-    go true q f = absurd (no-refusal f)
-    go false q f = ltb-false l.bytes (length draft) q
-
-read_again : (ts : List Token) (z : List ℕ) → tokensIn (length ts) (tokenWords ts ++ z) ≡ ts
-unfolding tokensIn tokenWords
-read_again [] z = refl
-read_again (t ∷ ts) z = ap (λ l. t ∷ l) (read_again ts z)
+use Rattle.parse.specs.Entry.{tooMany, tooLong, reading_of, answer_of}
 
 -- An accepted draft has as many records as were read.
 abbrev records-of : Answer → ℕ
@@ -81,26 +35,20 @@ records-of (accepted n m) = m
 records-of (refused c p) = 0
 
 as-many : (space : ℕ) (x : Reading) {n m : ℕ} → fitted space x ≡ accepted n m → m ≡ length (recordsIn x)
-as-many space (unread c p) e = absurd (differ (ap lexing e))
+as-many space (unread c p) e = absurd (no-refusal e)
 as-many space (read ts rs) {n} {m} e = go (ltb space (recWide * length rs)) e
   where
     go : (b : Bool) → cond b (refused refusal.NoRoom 0) (accepted (length ts) (length rs)) ≡ accepted n m → m ≡ length rs
-    go true f = absurd (differ (ap lexing f))
+    go true f = absurd (no-refusal f)
     go false f = sym (ap records-of f)
 
-module _ (en : Entry) (draft words : List ℕ) (n rw : ℕ) (e : lexedOf draftLimits draft (length words) ≡ accepted n 0) (w : words ≡ bufferOf draftLimits draft (length words)) where
-  its : List Token
-  its = tokensOf (lexemes draft)
+-- The buffer holds the draft's tokens.
+pub tokens-held : (draft words old : List ℕ) (n : ℕ) → lexedOf draftLimits draft (length old) ≡ accepted n 0 → words ≡ front (tokenWords (tokensOf (lexemes draft))) old → tokensIn n words ≡ tokensOf (lexemes draft)
+tokens-held draft words old n e w =
+    let ts = tokensOf (lexemes draft) in
+    ap₂ (λ (k : ℕ) (u : List ℕ). tokensIn k u) (sym (lexed-fits draftLimits draft (length old) n e).0) w ∙ read-back ts (drop (length (tokenWords ts)) old)
 
-  -- the buffer holds the draft's tokens
-  tokens-are : tokensIn n words ≡ tokensOf (lexemes draft)
-  unfolding bufferOf
-  tokens-are =
-      let ts = tokensOf (lexemes draft) in
-      let f = (lexed-fits draftLimits draft (length words) n e).0 in
-      ap₂ (λ (k : ℕ) (u : List ℕ). tokensIn k u) (sym f) (w ∙ ap (λ (x : Answer). lexer.content x ts (length words)) e)
-      ∙ read_again ts (replicate (length words - tokWide * length ts) 0)
-
+module _ (en : Entry) (draft words : List ℕ) (n rw : ℕ) (e : lexedOf draftLimits draft (length words) ≡ accepted n 0) (tokens-are : tokensIn n words ≡ tokensOf (lexemes draft)) where
   not-many : tooMany draftLimits.tokens n (length words) ≡ false
   unfolding tooMany room
   not-many =
@@ -137,37 +85,50 @@ module _ (en : Entry) (draft words : List ℕ) (n rw : ℕ) (e : lexedOf draftLi
   parsed-answer =
       ap₂ (λ (b c : Bool). cond b (refused refusal.TooMany 0) (cond c (refused refusal.TooLong 0) (fitted rw (reading_of en draft (tokensIn n words))))) not-many not-long ∙ sym its-answer
 
-  -- and the words of the tree buffer are those of the records, without their ways up.
-  parsed-words : tree_of en draftLimits.tokens draft words n rw ≡ content (answer en draftLimits draft (length words) rw) (recWords (recordsIn (reading en draftLimits draft (length words)))) rw
-  unfolding tree_of
-  parsed-words =
-      ap₂ (λ (b c : Bool). cond b (replicate rw 0) (cond c (replicate rw 0) (content (fitted rw (reading_of en draft (tokensIn n words))) (recWords (recordsIn (reading_of en draft (tokensIn n words)))) rw))) not-many not-long
-      ∙ ap₂ (λ (x : Answer) (r : Reading). content x (recWords (recordsIn r)) rw) (sym its-answer) (sym its-reading)
-
-  -- Where the draft is accepted they are given,
-  pub parsed-raised : {k m : ℕ} → answer en draftLimits draft (length words) rw ≡ accepted k m → upward m (tree_of en draftLimits.tokens draft words n rw) ≡ treeBuffer en draftLimits draft (length words) rw
-  unfolding treeBuffer recordsRead
-  parsed-raised {k} {m} e =
+  -- and where the draft is accepted its records, given their ways up, are at the front of the buffer.
+  pub parsed-raised : (old : List ℕ) {out : List ℕ} {k m : ℕ} → answer en draftLimits draft (length words) rw ≡ accepted k m
+      → out ≡ front (recWords (recordsIn (reading_of en draft (tokensIn n words)))) old → upward m out ≡ front (upWords (recordsRead en draftLimits draft (length words))) old
+  unfolding recordsRead
+  parsed-raised old {out} {k} {m} a h =
       let rs = recordsIn (reading en draftLimits draft (length words)) in
-      let many : m ≡ length rs = as-many rw (reading en draftLimits draft (length words)) (its-fitted ∙ e) in
+      let many : m ≡ length rs = as-many rw (reading en draftLimits draft (length words)) (its-fitted ∙ a) in
       let long : length (recWords rs) ≡ length (upWords rs) = record-words-length rs ∙ sym (up-words-long rs) in
-      (λ i. upward (many i) ((parsed-words ∙ ap (λ (x : Answer). content x (recWords rs) rw) e) i))
-      ∙ raised-words rs (replicate (rw - length (recWords rs)) 0)
-      ∙ ap (λ (j : ℕ). upWords rs ++ replicate (rw - j) 0) long
-      ∙ sym (ap (λ (x : Answer). content x (upWords rs) rw) e)
-
-  -- and where it is refused every word is 0.
-  pub parsed-zeros : {c p : ℕ} → answer en draftLimits draft (length words) rw ≡ refused c p → tree_of en draftLimits.tokens draft words n rw ≡ treeBuffer en draftLimits draft (length words) rw
-  parsed-zeros {c} {p} e =
-      parsed-words
-      ∙ ap (λ (x : Answer). content x (recWords (recordsIn (reading en draftLimits draft (length words)))) rw) e
-      ∙ sym (law-4-refused en draftLimits draft (length words) rw c p e).1
+      ap₂ upward many (h ∙ ap (λ (r : Reading). front (recWords (recordsIn r)) old) (sym its-reading))
+      ∙ raised-words rs (drop (length (recWords rs)) old)
+      ∙ ap (λ (j : ℕ). upWords rs ++ drop j old) long
 
 module _ (en : Entry) where
-  -- The tokens of an accepted draft stay where they are.
-  pub accepted-tokens : (draft words : List ℕ) (rw : ℕ) {n m : ℕ} → words ≡ bufferOf draftLimits draft (length words) → answer en draftLimits draft (length words) rw ≡ accepted n m
-      → words ≡ tokenBuffer en draftLimits draft (length words) rw
-  accepted-tokens draft words rw {n} {m} w f = w ∙ sym (token-buffer-lexed en draftLimits draft (length words) rw n m f)
+  -- Of an accepted draft the tokens fit, and cleared behind them the buffer is the one that is handed over;
+  module _ (draft old : List ℕ) (rw : ℕ) {n m : ℕ} (e : answer en draftLimits draft (length old) rw ≡ accepted n m) where
+    its-lexed : lexedOf draftLimits draft (length old) ≡ accepted n 0
+    its-lexed =
+        let a = (law-1 en draftLimits draft (length old) rw n m).0 e in
+        lexed-within en draftLimits draft (length old) rw a.its-tokens a.shaped.within ∙ ap (λ (k : ℕ). accepted k 0) (sym a.tokens-number)
+
+    pub tokens-fit : tokWide * n ≤ length old
+    tokens-fit = (words-fit draftLimits draft old n its-lexed).0
+
+    pub accepted-tokens : {out : List ℕ} → out ≡ front (tokenWords (tokensOf (lexemes draft))) old → take (tokWide * n) out ++ replicate (length out - tokWide * n) 0 ≡ tokenBuffer en draftLimits draft (length old) rw
+    accepted-tokens h = tokens-cleared draftLimits draft old n its-lexed h ∙ sym (token-buffer-lexed en draftLimits draft (length old) rw n m e)
+
+  -- and so do the records.
+  module _ (draft old : List ℕ) (tw : ℕ) {n m : ℕ} (e : answer en draftLimits draft tw (length old) ≡ accepted n m) where
+    abbrev rs : List Rec
+    rs = recordsRead en draftLimits draft tw
+
+    many : m ≡ length rs
+    unfolding answer recordsRead
+    many = as-many (length old) (reading en draftLimits draft tw) e
+
+    pub records-room : recWide * m ≤ length old
+    records-room = let a = (law-1 en draftLimits draft tw (length old) n m).0 e in omega (arith, a.fits, a.records-number)
+
+    pub accepted-tree : {out : List ℕ} → out ≡ front (upWords rs) old → take (recWide * m) out ++ replicate (length out - recWide * m) 0 ≡ treeBuffer en draftLimits draft tw (length old)
+    unfolding treeBuffer
+    accepted-tree h =
+        ap (λ (z : List ℕ). take (recWide * m) z ++ replicate (length z - recWide * m) 0) h
+        ∙ front-cleared (upWords rs) old (recWide * m) (omega (arith, many, up-words-long rs)) records-room
+        ∙ sym (ap (λ (x : Answer). content x (upWords rs) (length old)) e)
 
   -- A refusal: every word of both buffers is 0.
   pub refused-tokens : (draft : List ℕ) (tw rw : ℕ) {c p : ℕ} → answer en draftLimits draft tw rw ≡ refused c p → replicate tw 0 ≡ tokenBuffer en draftLimits draft tw rw
@@ -180,7 +141,3 @@ module _ (en : Entry) where
   pub lexer-refused : (draft : List ℕ) (tw rw : ℕ) {c p : ℕ} → lexedOf draftLimits draft tw ≡ refused c p → answer en draftLimits draft tw rw ≡ refused c p
   unfolding answer reading
   lexer-refused draft tw rw e = ap (λ (x : Answer). fitted rw (lexed en x draft (tokensOf (lexemes draft)))) e
-
-pub lexer-zeros : (draft : List ℕ) (tw : ℕ) {c p : ℕ} → lexedOf draftLimits draft tw ≡ refused c p → bufferOf draftLimits draft tw ≡ replicate tw 0
-unfolding bufferOf
-lexer-zeros draft tw e = ap (λ (x : Answer). lexer.content x (tokensOf (lexemes draft)) tw) e

@@ -1,6 +1,7 @@
--- A draft of few bytes has as few tokens, and no more records but one, so that buffers for as many give the same listing as those for the limits.
+-- Buffers that are shorter than the limits give the same listing, where they have room for the tokens of a draft: it has no more of them than bytes; and for
+-- as many records, and the one over.
 -- Assumes nothing.
-use Rattle.std.specs.Prelude.{Bool, List, [], ◌∷◌, ◌≡◌, ℕ, ◌+◌, ◌*◌, ◌≤◌, get_or}
+use Rattle.std.specs.Prelude.{Bool, List, [], ◌∷◌, ◌≡◌, ℕ, ◌+◌, ◌*◌, ◌/◌, ◌≤◌, get_or}
 use Rattle.std.proofs.Math.Bool.{true, false, cond}
 use Rattle.std.proofs.Math.Path.{refl, sym, ap}
 use Rattle.std.proofs.Common.{◌∙◌, arith, le-ltb}
@@ -8,6 +9,7 @@ use Rattle.std.proofs.Math.Dec.{ltb}
 use Rattle.std.proofs.Math.ListN.{length}
 use Rattle.lexer.specs.Lexemes.{Token, Lexemes, tokens, refusedAt, lexemes}
 use Rattle.lexer.specs.Limits.{Limits, limitsOf, draftLimits, tooDeep, room, noToken, deep, judged, lexedOf, tokensOf}
+use Rattle.lexer.specs.Fits.{lexed-fits}
 use Rattle.lexer.specs.Tokens.{Between, tokens-between}
 use Rattle.text.specs.Widths.{tokWide, recWide}
 use Rattle.text.specs.Refusals as refusal
@@ -17,23 +19,31 @@ use Rattle.grammar.specs.answers.Answer.{Reading, unread, read, lexed, reading, 
 use Rattle.grammar.specs.answers.Laws.{space-enough}
 use Rattle.lines.specs.Lines.{lines}
 use Rattle.grammar.specs.answers.Lines.{listed, listing}
-use Rattle.reader.specs.Listed.{recordsMost}
+use Rattle.reader.specs.Listed.{recordsMost, listingOf}
 
-few-tokens : (at m : ℕ) (ts : List Token) → at ≤ m → Between at m ts → at + length ts ≤ m
-few-tokens at m [] h b = omega arith
-few-tokens at m (u ∷ ts) h b = let n = few-tokens u.end m ts b.2 b.3 in omega (arith, n, b.0, b.1)
+few-between : (at m : ℕ) (ts : List Token) → at ≤ m → Between at m ts → at + length ts ≤ m
+few-between at m [] h b = omega arith
+few-between at m (u ∷ ts) h b = let n = few-between u.end m ts b.2 b.3 in omega (arith, n, b.0, b.1)
+
+-- No more tokens than bytes.
+pub few-tokens : (draft : List ℕ) → length (tokensOf (lexemes draft)) ≤ length draft
+few-tokens draft = go (lexemes draft) refl
+  where
+    go : (x : Lexemes) → lexemes draft ≡ x → length (tokensOf x) ≤ length draft
+    go (refusedAt c p) e = omega arith
+    go (tokens ts) e = let h = few-between 0 (length draft) ts (omega arith) (tokens-between draft ts e) in omega (arith, h)
 
 -- What the lexer answers where there is room for every token.
 abbrev roomy : Lexemes → Answer
 roomy (refusedAt c p) = refused c p
 roomy (tokens ts) = deep (tooDeep 0 0 ts) (length ts)
 
-module _ (draft : List ℕ) (k : ℕ) (short : length draft ≤ k) where
+module _ (draft : List ℕ) (k : ℕ) (few : length (tokensOf (lexemes draft)) ≤ k) where
   judged-roomy : (l : Limits) (tw : ℕ) → k ≤ room l tw → (x : Lexemes) → lexemes draft ≡ x → judged l tw x ≡ roomy x
   judged-roomy l tw h (refusedAt c p) e = refl
   judged-roomy l tw h (tokens ts) e =
-      let n = few-tokens 0 (length draft) ts (omega arith) (tokens-between draft ts e) in
-      ap (λ (b : Bool). cond b (refused refusal.TooMany (get_or ts (room l tw) noToken).start) (deep (tooDeep 0 0 ts) (length ts))) (le-ltb (room l tw) (length ts) (omega (arith, n, short, h)))
+      let n = ap (λ (x : Lexemes). length (tokensOf x)) e in
+      ap (λ (b : Bool). cond b (refused refusal.TooMany (get_or ts (room l tw) noToken).start) (deep (tooDeep 0 0 ts) (length ts))) (le-ltb (room l tw) (length ts) (omega (arith, n, few, h)))
 
   reading-roomy : (en : Entry) (bytes count tw : ℕ) → k ≤ room (limitsOf bytes count) tw
       → reading en (limitsOf bytes count) draft tw ≡ lexed en (cond (ltb bytes (length draft)) (refused refusal.TooLong bytes) (roomy (lexemes draft))) draft (tokensOf (lexemes draft))
@@ -63,18 +73,30 @@ module _ (draft : List ℕ) (k : ℕ) (short : length draft ≤ k) where
             go true q = absurd (space-enough en (limitsOf bytes k) draft (tokWide * k) rw h 0
                 (ap (fitted rw) e ∙ ap (λ (b : Bool). cond b (refused refusal.NoRoom 0) (accepted (length ts) (length rs))) q))
 
--- So the listing is the same with buffers for k tokens, and the records of as many.
-pub short-listing : (draft : List ℕ) (k : ℕ) → length draft ≤ k → k ≤ draftLimits.tokens
-    → listing wholeFile draftLimits draft (tokWide * k) (recWide * (over wholeFile + k)) ≡ listing wholeFile draftLimits draft (tokWide * draftLimits.tokens) (recWide * recordsMost)
+  -- So the listing is the same by any buffers that have room for k tokens;
+  pub same-tokens : (tw tw' rw : ℕ) → k ≤ room draftLimits tw → k ≤ room draftLimits tw' → listing wholeFile draftLimits draft tw rw ≡ listing wholeFile draftLimits draft tw' rw
+  unfolding listing answer recordsRead
+  same-tokens tw tw' rw h h' =
+      ap (λ (r : Reading). lines (listed (fitted rw r) (recordsIn r))) (same-reading wholeFile draftLimits.bytes draftLimits.tokens tw draftLimits.tokens tw' h h')
+
+-- and where so many tokens are found, by any that have room for the records of as many.
+pub same-records : (draft : List ℕ) (n tw rw rw' : ℕ) → lexedOf draftLimits draft tw ≡ accepted n 0 → recWide * (over wholeFile + n) ≤ rw → recWide * (over wholeFile + n) ≤ rw'
+    → listing wholeFile draftLimits draft tw rw ≡ listing wholeFile draftLimits draft tw rw'
 unfolding listing answer recordsRead room
-short-listing draft k short h =
+same-records draft n tw rw rw' e h h' =
+    let f = lexed-fits draftLimits draft tw n e in
+    let many = f.0 in
+    let fit = f.1 in
     let en = wholeFile in
     let bytes = draftLimits.bytes in
-    let most = draftLimits.tokens in
-    let here = recWide * (over en + k) in
-    let few = reading en (limitsOf bytes k) draft (tokWide * k) in
-    let a : reading en draftLimits draft (tokWide * k) ≡ few = same-reading draft k short en bytes most (tokWide * k) k (tokWide * k) (omega (arith, h)) (omega arith) in
-    let b : reading en draftLimits draft (tokWide * most) ≡ few = same-reading draft k short en bytes most (tokWide * most) k (tokWide * k) (omega (arith, h)) (omega arith) in
-    let c : fitted (recWide * recordsMost) few ≡ fitted here few = records-fit draft k short en bytes (recWide * recordsMost) here (omega (arith, h)) (omega arith) few refl in
-    ap (λ (r : Reading). lines (listed (fitted here r) (recordsIn r))) a
-    ∙ sym (ap (λ (r : Reading). lines (listed (fitted (recWide * recordsMost) r) (recordsIn r))) b ∙ ap (λ (x : Answer). lines (listed x (recordsIn few))) c)
+    let few : length (tokensOf (lexemes draft)) ≤ n = omega (arith, many) in
+    let r = reading en (limitsOf bytes n) draft (tokWide * n) in
+    let s : reading en draftLimits draft tw ≡ r = same-reading draft n few en bytes draftLimits.tokens tw n (tokWide * n) (omega (arith, many, fit)) (omega arith) in
+    ap (λ (r : Reading). lines (listed (fitted rw r) (recordsIn r))) s
+    ∙ ap (λ (x : Answer). lines (listed x (recordsIn r))) (records-fit draft n few en bytes rw rw' h h' r refl)
+    ∙ sym (ap (λ (r : Reading). lines (listed (fitted rw' r) (recordsIn r))) s)
+
+-- So a draft is listed as by the largest buffers, where that for its tokens has room for as many as it has bytes.
+pub short-listing : (draft : List ℕ) (tw : ℕ) → length draft ≤ tw / tokWide → tw ≤ tokWide * draftLimits.tokens → listing wholeFile draftLimits draft tw (recWide * recordsMost) ≡ listingOf draft
+unfolding room
+short-listing draft tw h k = same-tokens draft (length draft) (few-tokens draft) tw (tokWide * draftLimits.tokens) (recWide * recordsMost) (omega arith) (omega arith)

@@ -1,14 +1,19 @@
 // The listing of a draft into a buffer of bytes, as the entry for C does it (crate togmelic).
-ghost use Rattle.std.specs.Prelude.{◌≡◌, [], ◌↔◌, ◌<◌, length};
-ghost use Rattle.lexer.specs.Limits.{draftLimits};
+ghost use Rattle.std.specs.Prelude.{◌≡◌, [], ◌↔◌, ◌+◌, ◌*◌, ◌/◌, ◌<◌, ◌≤◌, length};
+ghost use Rattle.text.specs.Answers.{accepted, refused};
+ghost use Rattle.text.specs.Widths.{tokWide, recWide};
+ghost use Rattle.lexer.specs.Lexemes.{lexemes};
+ghost use Rattle.lexer.specs.Limits.{draftLimits, lexedOf, tokensOf};
+ghost use Rattle.lexer.specs.Buffer.{tokensIn};
 ghost use Rattle.lines.specs.Lines.{lines};
 ghost use Rattle.lines.specs.Written.{used, padded};
-ghost use Rattle.grammar.specs.Entry.{wholeFile};
-ghost use Rattle.text.specs.Answers.{refused};
+ghost use Rattle.grammar.specs.Entry.{wholeFile, over};
 ghost use Rattle.grammar.specs.answers.Lines as spec;
-ghost use Rattle.reader.specs.Listed.{listingOf, usedOf, bytes_of};
+ghost use Rattle.reader.specs.Listed.{recordsMost, listingOf, usedOf, bytes_of};
 
 use crate::Reading;
+use lexer::Lexed;
+use text::{RECORD_WORDS, TOKEN_WORDS};
 
 // A file has no more records than tokens but one, that of the whole file.
 const RECORDS_OVER: usize = 1;
@@ -16,8 +21,23 @@ const RECORDS_OVER: usize = 1;
 // Room for the lines of every draft.
 pub const LISTING_BYTES: usize = lines::LINE_BYTES * (lexer::DRAFT_TOKENS + RECORDS_OVER);
 
-// A draft of at most so many bytes is short: its tokens and records get smaller buffers.
-const SHORT_BYTES: usize = 512;
+// The words of the arrays for the tokens of shorter drafts, and for the records of fewer tokens. One is cleared where it is made, so it is the smallest that will do.
+const TINY: usize = 128;
+
+const SMALL: usize = 512;
+
+const LESS: usize = 1024;
+
+const MIDDLE: usize = 2048;
+
+const LARGE: usize = 4096;
+
+const LARGER: usize = 8192;
+
+// The words that are enough for every draft.
+const MOST_TOKENS: usize = TOKEN_WORDS * lexer::DRAFT_TOKENS;
+
+const MOST_RECORDS: usize = RECORD_WORDS * (lexer::DRAFT_TOKENS + RECORDS_OVER);
 
 // Lists a refusal: kind 0, the place twice, the number as low, high 0, size 1, way up 0. A line has digits for the low part of a place.
 fn refusal(number: u32, place: usize, out: &mut [u8]) -> usize
@@ -25,7 +45,7 @@ fn refusal(number: u32, place: usize, out: &mut [u8]) -> usize
     ensures bytes { out.new ≡ padded (lines (spec.listed (refused number place) [])) (length out.old) }
 {
     let p = (place % lines::PLACES) as u32;
-    let mut words = [0u32; text::RECORD_WORDS];
+    let mut words = [0u32; RECORD_WORDS];
     words[1] = p;
     words[2] = p;
     words[3] = number;
@@ -33,31 +53,122 @@ fn refusal(number: u32, place: usize, out: &mut [u8]) -> usize
     lines::list(&words, 1, out)
 }
 
-// Lists a draft by way of these buffers for its tokens and its tree.
-fn list_by(draft: &[u8], out: &mut [u8], tokens: &mut [u32], tree: &mut [u32]) -> usize
-    ensures used { result ≡ used (spec.listing wholeFile draftLimits draft.now (length tokens.old) (length tree.old)) (length out.old) }
-    ensures bytes { out.new ≡ padded (spec.listing wholeFile draftLimits draft.now (length tokens.old) (length tree.old)) (length out.old) }
+// Lists a draft by way of its tokens, which stand in a buffer, and of this buffer for its tree.
+fn list_by(draft: &[u8], out: &mut [u8], tokens: &[u32], count: usize, tree: &mut [u32]) -> usize
+    requires lexed { lexedOf draftLimits draft.now (length tokens.now) ≡ accepted count 0 }
+    requires held { tokensIn count tokens.now ≡ tokensOf (lexemes draft.now) }
+    ensures used { result ≡ used (spec.listing wholeFile draftLimits draft.now (length tokens.now) (length tree.old)) (length out.old) }
+    ensures bytes { out.new ≡ padded (spec.listing wholeFile draftLimits draft.now (length tokens.now) (length tree.old)) (length out.old) }
 {
-    let reading = crate::read_file(draft, tokens, tree);
+    let reading = crate::parsed(draft, tokens, count, tree, true);
     match reading {
         Reading::Accepted { tokens: _, records } => lines::list(tree, records, out),
         Reading::Refused { number, place } => refusal(number, place, out),
     }
 }
 
-// Lists a draft: its lines, zeros behind them; 0 and zeros alone if the buffer is too short for them. A short draft has no more tokens than
-// bytes, and no more records than tokens but one: smaller buffers give the same, and take less time to clear.
+// The same by way of an array of so many words, which has room for the records of as many tokens and the one over. Out of line, so that no frame has two.
+#[inline(never)]
+fn list_in<const WORDS: usize>(draft: &[u8], out: &mut [u8], tokens: &[u32], count: usize) -> usize
+    requires lexed { lexedOf draftLimits draft.now (length tokens.now) ≡ accepted count 0 }
+    requires held { tokensIn count tokens.now ≡ tokensOf (lexemes draft.now) }
+    requires room { (recWide * (over wholeFile + count) ≤ WORDS) × (WORDS ≤ recWide * recordsMost) }
+    ensures used { result ≡ used (spec.listing wholeFile draftLimits draft.now (length tokens.now) (recWide * recordsMost)) (length out.old) }
+    ensures bytes { out.new ≡ padded (spec.listing wholeFile draftLimits draft.now (length tokens.now) (recWide * recordsMost)) (length out.old) }
+{
+    let mut tree = [0u32; WORDS];
+    list_by(draft, out, tokens, count, &mut tree)
+}
+
+// By way of the smallest array that has room for the records of so many tokens.
+fn list_counted(draft: &[u8], out: &mut [u8], tokens: &[u32], count: usize) -> usize
+    requires lexed { lexedOf draftLimits draft.now (length tokens.now) ≡ accepted count 0 }
+    requires held { tokensIn count tokens.now ≡ tokensOf (lexemes draft.now) }
+    ensures used { result ≡ used (spec.listing wholeFile draftLimits draft.now (length tokens.now) (recWide * recordsMost)) (length out.old) }
+    ensures bytes { out.new ≡ padded (spec.listing wholeFile draftLimits draft.now (length tokens.now) (recWide * recordsMost)) (length out.old) }
+{
+    if count < TINY / RECORD_WORDS {
+        return list_in::<TINY>(draft, out, tokens, count);
+    }
+    if count < SMALL / RECORD_WORDS {
+        return list_in::<SMALL>(draft, out, tokens, count);
+    }
+    if count < LESS / RECORD_WORDS {
+        return list_in::<LESS>(draft, out, tokens, count);
+    }
+    if count < MIDDLE / RECORD_WORDS {
+        return list_in::<MIDDLE>(draft, out, tokens, count);
+    }
+    if count < LARGE / RECORD_WORDS {
+        return list_in::<LARGE>(draft, out, tokens, count);
+    }
+    if count < LARGER / RECORD_WORDS {
+        return list_in::<LARGER>(draft, out, tokens, count);
+    }
+    list_in::<MOST_RECORDS>(draft, out, tokens, count)
+}
+
+// Lists a draft by way of this buffer for its tokens.
+fn list_lexed(draft: &[u8], out: &mut [u8], tokens: &mut [u32]) -> usize
+    ensures used { result ≡ used (spec.listing wholeFile draftLimits draft.now (length tokens.old) (recWide * recordsMost)) (length out.old) }
+    ensures bytes { out.new ≡ padded (spec.listing wholeFile draftLimits draft.now (length tokens.old) (recWide * recordsMost)) (length out.old) }
+{
+    let lexed = lexer::lex_front(draft, tokens);
+    match lexed {
+        Lexed::Refused { number, place } => refusal(number, place, out),
+        Lexed::Tokens(count) => list_counted(draft, out, tokens, count),
+    }
+}
+
+// Lists a draft by way of an array of so many words, which has room for as many tokens as it has bytes.
+#[inline(never)]
+fn list_short<const WORDS: usize>(draft: &[u8], out: &mut [u8]) -> usize
+    requires { (length draft.now ≤ WORDS / tokWide) × (WORDS ≤ tokWide * draftLimits.tokens) }
+    ensures used { result ≡ usedOf draft.now (length out.old) }
+    ensures bytes { out.new ≡ bytes_of draft.now (length out.old) }
+{
+    let mut tokens = [0u32; WORDS];
+    list_lexed(draft, out, &mut tokens)
+}
+
+// Lists any draft by way of an array that has room for as many tokens as a draft may have.
+#[inline(never)]
+fn list_long(draft: &[u8], out: &mut [u8]) -> usize
+    ensures used { result ≡ usedOf draft.now (length out.old) }
+    ensures bytes { out.new ≡ bytes_of draft.now (length out.old) }
+{
+    let mut tokens = [0u32; MOST_TOKENS];
+    list_lexed(draft, out, &mut tokens)
+}
+
+// By way of the smallest array that has room for as many tokens as the draft has bytes.
+fn list_sized(draft: &[u8], out: &mut [u8]) -> usize
+    ensures used { result ≡ usedOf draft.now (length out.old) }
+    ensures bytes { out.new ≡ bytes_of draft.now (length out.old) }
+{
+    if draft.len() <= TINY / TOKEN_WORDS {
+        return list_short::<TINY>(draft, out);
+    }
+    if draft.len() <= SMALL / TOKEN_WORDS {
+        return list_short::<SMALL>(draft, out);
+    }
+    if draft.len() <= LESS / TOKEN_WORDS {
+        return list_short::<LESS>(draft, out);
+    }
+    if draft.len() <= MIDDLE / TOKEN_WORDS {
+        return list_short::<MIDDLE>(draft, out);
+    }
+    if draft.len() <= LARGE / TOKEN_WORDS {
+        return list_short::<LARGE>(draft, out);
+    }
+    list_long(draft, out)
+}
+
+// Lists a draft: its lines, zeros behind them; 0 and zeros alone if the buffer is too short for them.
 pub fn list_draft(draft: &[u8], out: &mut [u8]) -> usize
     ensures used { result ≡ usedOf draft.now (length out.old) }
     ensures bytes { out.new ≡ bytes_of draft.now (length out.old) }
     ensures nothing { (result ≡ 0) ↔ (length out.old < length (listingOf draft.now)) }
 {
-    if draft.len() <= SHORT_BYTES {
-        let mut tokens = [0u32; text::TOKEN_WORDS * SHORT_BYTES];
-        let mut tree = [0u32; text::RECORD_WORDS * (SHORT_BYTES + RECORDS_OVER)];
-        return list_by(draft, out, &mut tokens, &mut tree);
-    }
-    let mut tokens = [0u32; text::TOKEN_WORDS * lexer::DRAFT_TOKENS];
-    let mut tree = [0u32; text::RECORD_WORDS * (lexer::DRAFT_TOKENS + RECORDS_OVER)];
-    list_by(draft, out, &mut tokens, &mut tree)
+    list_sized(draft, out)
 }

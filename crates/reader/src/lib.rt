@@ -2,16 +2,19 @@
 #![tactic(auto)]
 
 ghost use Rattle.std.specs.Prelude.{◌≡◌, length};
-ghost use Rattle.lexer.specs.Limits.{draftLimits, lexedOf, bufferOf};
+ghost use Rattle.lexer.specs.Lexemes.{lexemes};
+ghost use Rattle.lexer.specs.Limits.{draftLimits, lexedOf, tokensOf, tokenWords};
+ghost use Rattle.lexer.specs.Buffer.{tokensIn};
+ghost use Rattle.up.specs.Ways.{upWords};
 ghost use Rattle.grammar.specs.Entry.{oneFunction, wholeFile};
-ghost use Rattle.parse.specs.Entry as parser;
-ghost use Rattle.parse.specs.Entry.{entry_of, answer_of, tree_of};
+ghost use Rattle.parse.specs.Entry.{entry_of};
 ghost use Rattle.text.specs.Answers.{accepted, values};
-ghost use Rattle.grammar.specs.answers.Answer.{answer, tokenBuffer, treeBuffer};
+ghost use Rattle.grammar.specs.answers.Answer.{answer, tokenBuffer, treeBuffer, recordsRead};
 ghost use Rattle.grammar.specs.answers.Promised.{Promised};
-ghost use Rattle.reader.specs.Read.{meant, returned};
+ghost use Rattle.reader.specs.Read.{meant, returned, Held};
 
 use lexer::Lexed;
+use text::{RECORD_WORDS, TOKEN_WORDS};
 
 pub mod entry;
 pub mod loading;
@@ -45,31 +48,53 @@ pub fn read_file(draft: &[u8], tokens: &mut [u32], tree: &mut [u32]) -> Reading
     read_as(draft, tokens, tree, true)
 }
 
-// Reads a draft as a file, or as one function.
+// Reads a draft as a file, or as one function; what is behind the words of both buffers is cleared, on a refusal every word.
 fn read_as(draft: &[u8], tokens: &mut [u32], tree: &mut [u32], file: bool) -> Reading
     ensures answer { meant result ≡ answer (entry_of file) draftLimits draft.now (length tokens.old) (length tree.old) }
     ensures tokens { tokens.new ≡ tokenBuffer (entry_of file) draftLimits draft.now (length tokens.old) (length tree.old) }
     ensures tree { tree.new ≡ treeBuffer (entry_of file) draftLimits draft.now (length tokens.old) (length tree.old) }
 {
-    let lexed = lexer::lex(draft, tokens);
+    let reading = read_front(draft, tokens, tree, file);
+    let Reading::Accepted {
+        tokens: count,
+        records,
+    } = reading
+    else {
+        text::clear(tokens);
+        text::clear(tree);
+        return reading;
+    };
+    let used = TOKEN_WORDS * count;
+    text::clear_from(tokens, used);
+    let written = RECORD_WORDS * records;
+    text::clear_from(tree, written);
+    Reading::Accepted {
+        tokens: count,
+        records,
+    }
+}
+
+// The same, where the words behind those of the tokens and of the records stay as they are.
+fn read_front(draft: &[u8], tokens: &mut [u32], tree: &mut [u32], file: bool) -> Reading
+    ensures answer { meant result ≡ answer (entry_of file) draftLimits draft.now (length tokens.old) (length tree.old) }
+    ensures tokens { Held result (tokenWords (tokensOf (lexemes draft.now))) tokens.old tokens.new }
+    ensures tree { Held result (upWords (recordsRead (entry_of file) draftLimits draft.now (length tokens.old))) tree.old tree.new }
+{
+    let lexed = lexer::lex_front(draft, tokens);
     match lexed {
-        Lexed::Refused { number, place } => {
-            text::clear(tree);
-            Reading::Refused { number, place }
-        }
+        Lexed::Refused { number, place } => Reading::Refused { number, place },
         Lexed::Tokens(count) => parsed(draft, tokens, count, tree, file),
     }
 }
 
-// The answer of the parser over the tokens that were lexed, its records given their ways up; on a refusal the tokens are cleared too.
-fn parsed(draft: &[u8], tokens: &mut [u32], count: usize, tree: &mut [u32], file: bool) -> Reading
-    requires tokens_value { lexedOf draftLimits draft.now (length tokens.old) ≡ accepted count 0 }
-    requires tokens_value_2 { tokens.old ≡ bufferOf draftLimits draft.now (length tokens.old) }
-    ensures answer { meant result ≡ answer (entry_of file) draftLimits draft.now (length tokens.old) (length tree.old) }
-    ensures tokens { tokens.new ≡ tokenBuffer (entry_of file) draftLimits draft.now (length tokens.old) (length tree.old) }
-    ensures tree { tree.new ≡ treeBuffer (entry_of file) draftLimits draft.now (length tokens.old) (length tree.old) }
+// The answer of the parser over the tokens that were lexed, its records given their ways up.
+fn parsed(draft: &[u8], tokens: &[u32], count: usize, tree: &mut [u32], file: bool) -> Reading
+    requires lexed { lexedOf draftLimits draft.now (length tokens.now) ≡ accepted count 0 }
+    requires held { tokensIn count tokens.now ≡ tokensOf (lexemes draft.now) }
+    ensures answer { meant result ≡ answer (entry_of file) draftLimits draft.now (length tokens.now) (length tree.old) }
+    ensures tree { Held result (upWords (recordsRead (entry_of file) draftLimits draft.now (length tokens.now))) tree.old tree.new }
 {
-    let answer = parse_as(draft, tokens, count, tree, file);
+    let answer = parse::parse_front(draft, tokens, count, tree, file);
     match answer {
         parse::Answer::Records(records) => {
             up::way_up(tree, records);
@@ -78,26 +103,6 @@ fn parsed(draft: &[u8], tokens: &mut [u32], count: usize, tree: &mut [u32], file
                 records,
             }
         }
-        parse::Answer::Refused { number, place } => {
-            text::clear(tokens);
-            Reading::Refused { number, place }
-        }
+        parse::Answer::Refused { number, place } => Reading::Refused { number, place },
     }
-}
-
-// The parser of files, or that of one function.
-fn parse_as(
-    draft: &[u8],
-    tokens: &[u32],
-    count: usize,
-    tree: &mut [u32],
-    file: bool,
-) -> parse::Answer
-    ensures answer { parser.meant count result ≡ answer_of (entry_of file) draftLimits.tokens draft.now tokens.now count (length tree.old) }
-    ensures tree { tree.new ≡ tree_of (entry_of file) draftLimits.tokens draft.now tokens.now count (length tree.old) }
-{
-    if file {
-        return parse::parse_file(draft, tokens, count, tree);
-    }
-    parse::parse(draft, tokens, count, tree)
 }

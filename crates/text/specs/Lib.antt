@@ -14,3 +14,4 @@ pub mod Ranges
 pub mod Counts
 pub mod Rest
 pub mod Sets
+pub mod Front

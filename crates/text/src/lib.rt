@@ -1,7 +1,7 @@
 // The text of a draft by its places, lent buffers, and the numbers of refusals.
 #![tactic(auto)]
 
-ghost use Rattle.std.specs.Prelude.{◌≡◌, length, get_or, replicate};
+ghost use Rattle.std.specs.Prelude.{◌≡◌, ◌++◌, ◌-◌, length, get_or, replicate, take};
 ghost use Rattle.text.specs.Part.{part_of};
 
 pub mod refusal;
@@ -41,6 +41,15 @@ pub fn clear(out: &mut [u32])
     while i < out.len() {
         out[i] = 0;
         i += 1;
+    }
+}
+
+// Sets every word from `at` on to 0.
+pub fn clear_from(out: &mut [u32], at: usize)
+    ensures { out.new ≡ take at out.old ++ replicate (length out.old - at) 0 }
+{
+    if at < out.len() {
+        clear(&mut out[at..]);
     }
 }
 

@@ -12,6 +12,7 @@ use Rattle.theory.specs.Ebnf.{Items}
 use Rattle.theory.specs.Parse.{found}
 use Rattle.lexer.specs.Lexemes.{Token}
 use Rattle.lexer.specs.Limits.{Limits, tokenWords, tokensOf, bufferOf}
+use Rattle.lexer.specs.Fits.{token-words-length}
 use Rattle.lexer.specs.Limits as lexer
 use Rattle.lexer.specs.RowLaws as rows
 use Rattle.lexer.specs.Tokens.{lexeme-refused}
@@ -41,7 +42,7 @@ use Rattle.grammar.specs.answers.Answer.{toks_of, treesOf, recordsFor, upsFor, r
 use Rattle.grammar.specs.answers.Outcome.{Shaped, Misshapen, Refusal, too_long, bad-bytes, too_many, too-deep, misshapen, faulted, no_room, Accepted, Written}
 use Rattle.grammar.specs.answers.OutcomeLaws.{refused-exactly, accepted-exactly, lexed-within, read-faultless}
 use Rattle.grammar.specs.answers.Promised.{Promised}
-use Rattle.grammar.specs.answers.TokensInOrder.{tokens-in-order, tokens-inside, toks-length, token-words-length, tokens-read-back}
+use Rattle.grammar.specs.answers.TokensInOrder.{tokens-in-order, tokens-inside, toks-length, tokens-read-back}
 
 -- Right trees that are what an entry reads, none of whose tokens ends past the draft, are owned as it promises; and then there are no more records
 -- than it says.

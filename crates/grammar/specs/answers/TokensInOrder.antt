@@ -1,12 +1,11 @@
 -- The tokens of a draft as the record tree and the buffers have them: in order, none empty; and what the token buffer's words hold.
 -- Assumes nothing.
-use Rattle.std.specs.Prelude.{List, [], ◌∷◌, ◌++◌, ◌≡◌, refl, ℕ, ◌*◌, ◌≤◌, length}
+use Rattle.std.specs.Prelude.{List, [], ◌∷◌, ◌++◌, ◌≡◌, refl, ℕ, ◌≤◌, length}
 use Rattle.std.proofs.Common.{ap, ◌∙◌, arith}
 use Rattle.lexer.specs.Lexemes.{Token, tokens, lexemes}
 use Rattle.lexer.specs.Limits.{tokenWords}
 use Rattle.lexer.specs.Tokens.{Between, tokens-between}
 use Rattle.own.specs.Tree.{InOrder, end, classesOf}
-use Rattle.text.specs.Widths.{tokWide}
 use Rattle.own.specs.Words.{toks}
 use Rattle.kinds.specs.Class.{class_of}
 use Rattle.grammar.specs.spelled.TreeTokens.{length-classes}
@@ -38,12 +37,6 @@ toks-length draft (t ∷ ts) = let h = toks-length draft ts in omega arith
 
 pub classes-length : (draft : List ℕ) (ts : List Token) → length (classesOf (toks_of draft ts)) ≡ length ts
 classes-length draft ts = length-classes (toks_of draft ts) ∙ toks-length draft ts
-
--- Three words a token.
-pub token-words-length : (ts : List Token) → length (tokenWords ts) ≡ tokWide * length ts
-unfolding tokenWords
-token-words-length [] = refl
-token-words-length (t ∷ ts) = let h = token-words-length ts in omega arith
 
 -- The words of tokens, read back with the classes that the draft gives them.
 pub tokens-read-back : (draft : List ℕ) (ts : List Token) (z : List ℕ) → toks (class_of draft) (length ts) (tokenWords ts ++ z) ≡ toks_of draft ts

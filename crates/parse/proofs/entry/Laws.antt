@@ -1,8 +1,7 @@
 -- The laws of the entry: what the parser says of a whole draft is what grammar's `Answer` says of it.
 -- Assumes nothing.
-use Rattle.std.proofs.Common.{◌≡◌, ℕ, zero, suc, ◌+◌, ◌-◌, ◌*◌, ◌/◌, ◌<◌, ◌≤◌, Bool, true, false, cond, eqb, ltb, List, [], ◌∷◌, ◌++◌, length, get_or, drop, replicate, sym, refl, ap, ◌∙◌, subst, ap₂, arith, ltb-false, ltb-true, le-ltb, lt-ltb}
+use Rattle.std.proofs.Common.{◌≡◌, ℕ, zero, suc, ◌+◌, ◌*◌, ◌/◌, ◌<◌, ◌≤◌, Bool, true, false, cond, eqb, ltb, List, [], ◌∷◌, ◌++◌, length, get_or, drop, sym, refl, ap, ◌∙◌, subst, ap₂, arith, ltb-false, ltb-true, le-ltb, lt-ltb}
 use mathlib.Core.Option.{Option, none, some}
-use lib.ListN.{length-replicate}
 use lib.Seq.{sets, sets-eq}
 use Rattle.own.specs.WordLaws.{record-words-length}
 use Rattle.text.specs.Same.{differ}
@@ -17,6 +16,7 @@ use Rattle.own.specs.Law.{Keeps}
 use Rattle.own.specs.Rules.{each_map}
 use Rattle.own.specs.Flat.{no-token}
 use Rattle.text.specs.Widths.{tokWide, recWide}
+use Rattle.text.specs.Front.{front}
 use Rattle.text.specs.Answers as paper
 use Rattle.text.specs.Refusals as refusal
 use Rattle.own.specs.Words.{toks, wordGroups, recWords}
@@ -30,11 +30,11 @@ use Rattle.grammar.specs.spelled.TreeTokens.{length-classes, whole-trees, is-sha
 use Rattle.grammar.specs.spelled.RecordLaws.{all-spelled}
 use Rattle.grammar.specs.records.Records.{recordItems}
 use Rattle.grammar.specs.records.Faults.{Fault, faults, earliest, faultOf}
-use Rattle.grammar.specs.answers.Answer.{toks_of, start_of, treesOf, recordsFor, Reading, unread, read, faulty, shaped, fitted, content, recordsIn}
+use Rattle.grammar.specs.answers.Answer.{toks_of, start_of, treesOf, recordsFor, Reading, unread, read, faulty, shaped, fitted, recordsIn}
 use Rattle.parse.specs.Contract as contract
 use Rattle.parse.specs.Contract.{Text, text, countable, classes, tokAt, Read, Stuck, raw, faultIn, sooner, kept, fault, Holds, Info, asItems, Went}
-use Rattle.parse.specs.Infos.{behind, file-read, file-stuck}
-use Rattle.parse.specs.Entry.{tooMany, tooLong, WholeRead, one-read, all_read, reading_of, meant, answered, answer_of, tree_of, Starts, ended, judged}
+use Rattle.parse.specs.Infos.{file-read, file-stuck}
+use Rattle.parse.specs.Entry.{tooMany, tooLong, WholeRead, one-read, all_read, reading_of, meant, answered, answer_of, Held, Starts, ended, judged}
 use Rattle.parse.specs.declared.State.{State}
 use Rattle.parse.specs.declared.Step.{Step}
 use Rattle.parse.specs.declared.Answer.{Answer}
@@ -42,7 +42,7 @@ use Rattle.parse.specs.declared.Answer.TheVariants.{Records, Refused}
 use Rattle.parse.proofs.rule.Lists.{length-words}
 use Rattle.parse.proofs.token.Tokens.{length-toks}
 use Rattle.parse.proofs.entry.Holds.{spelled_holds}
-use Rattle.parse.proofs.entry.Closed.{drop-zeros, Closed, closed-function, closed-file, behind-zeros}
+use Rattle.parse.proofs.entry.Closed.{Closed, closed-function, closed-file}
 
 -- Tokens as the code reads them are those of the paper.
 pub toks-of : (draft : List ℕ) (n : ℕ) (w : List ℕ) → toks_of draft (tokensIn n w) ≡ toks (class_of draft) n w
@@ -104,19 +104,19 @@ module _ (draft words' : List ℕ) (n : ℕ) (h : tokWide * n ≤ length words')
     unfolding reading_of
     reading-is f e = ap (shaped en draft ts) (ap (λ (u : List Tok). shape_of en (classesOf u)) (sym text-is) ∙ e)
 
-    module _ (k : ℕ) where
-      -- What a step says, of the buffer that it leaves.
+    module _ (o : List ℕ) where
+      -- What a step says, of the buffer that it makes of o.
       abbrev Says : List ℕ → Answer → Type 0
-      Says l a = (answered (fitted k R) ≡ a) × ((m : ℕ) → a ≡ Records m → l ≡ content (fitted k R) (recWords (recordsIn R)) k)
+      Says l a = (answered (fitted (length o) R) ≡ a) × Held en draft words' n a l o
 
       refuses : {l : List ℕ} (c p : ℕ) → R ≡ unread c p → Says l (Refused c p)
-      refuses c p e = (ap (λ r. answered (fitted k r)) e, λ m q. absurd (differ (ap taken q)))
+      refuses c p e = (ap (λ r. answered (fitted (length o) r)) e, record { holds = λ m q. absurd (differ (ap taken q)) })
 
       sticks : {l : List ℕ} (p : ℕ) → shape_of en (classes x) ≡ stuck p → Says l (Refused refusal.Misshapen (start_of draft ts p))
       sticks p e = refuses refusal.Misshapen (start_of draft ts p) (reading-is (stuck p) e)
 
-  -- What is read at an entry from the first state on, into a buffer l of j words; each token of what is laid is as it was.
-  module _ (en : Entry) {st : State} (s : Starts x st) (j : ℕ) {l l' : List ℕ} (zeros : l ≡ replicate j 0) {I : Info} {z : State} {a b : ℕ} (w : Went x (nt (startNt en) ∷ []) asItems I st l z l' a b)
+  -- What is read at an entry from the first state on, into a buffer l; each token of what is laid is as it was.
+  module _ (en : Entry) {st : State} (s : Starts x st) {l l' : List ℕ} {I : Info} {z : State} {a b : ℕ} (w : Went x (nt (startNt en) ∷ []) asItems I st l z l' a b)
       (same : w.L ≡ raw x st.at w.items) where
     abbrev r : shape.Items
     r = w.items
@@ -156,15 +156,13 @@ module _ (draft words' : List ℕ) (n : ℕ) (h : tokWide * n ≤ length words')
       its-count : length (records ns) ≡ z.out
       its-count = omega (arith, length-words w.L, ap length its-words, record-words-length (records ns), w.lays.sized, s.out-is)
 
-      its-fit : Each Holds w.L → recWide * z.out ≤ j → l' ≡ recWords (records ns) ++ replicate (j - length (recWords (records ns))) 0
+      its-fit : Each Holds w.L → recWide * z.out ≤ length l → l' ≡ front (recWords (records ns)) l
       its-fit hold g =
           let ws : List ℕ = concat (wordGroups w.L) in
-          let m : length l ≡ j = ap length zeros ∙ length-replicate j 0 in
           let v = length-words w.L in
           let t₀ : 0 + length ws ≡ length ws = omega arith in
-          w.lays.laid hold (omega arith) ∙ ap (λ (o : ℕ). sets l (recWide * o) ws) s.out-is ∙ sets-eq ws l 0 (omega (arith, w.lays.sized, s.out-is))
-          ∙ (λ i. ws ++ drop (t₀ i) (zeros i)) ∙ ap (λ (u : List ℕ). ws ++ u) (drop-zeros (length ws) j 0)
-          ∙ ap (λ (u : List ℕ). u ++ replicate (j - length u) 0) its-words
+          w.lays.laid hold g ∙ ap (λ (o : ℕ). sets l (recWide * o) ws) s.out-is ∙ sets-eq ws l 0 (omega (arith, w.lays.sized, s.out-is))
+          ∙ ap (λ (i : ℕ). ws ++ drop i l) t₀ ∙ ap (λ (u : List ℕ). front u l) its-words
 
       its-kept : (d : Bool) → eqb z.fault 0 ≡ d → kept z ≡ cond d none (some (record { number = z.fault; place = z.place }))
       unfolding fault
@@ -182,8 +180,11 @@ module _ (draft words' : List ℕ) (n : ℕ) (h : tokWide * n ≤ length words')
           let clear : faultOf draft (toks_of draft ts) r ≡ none = fault-is ∙ its-kept true f in
           subst (Each Holds) (sym laid-is) (each_map (Keeps Spelled) Holds spelled_holds (roots ns) (all-spelled en draft (toks_of draft ts) r shape-of clear))
 
-    -- The last state z' and the whole buffer l'', of k words, that are made of these.
-    module _ {k : ℕ} {z' : State} {l'' : List ℕ} (c : Closed en (length draft) j k z l' z' l'') where
+    -- The last state z' and the whole buffer l'', made of o, that are made of these.
+    module _ {z' : State} {o l'' : List ℕ} (c : Closed en (length draft) z l l' z' o l'') where
+      abbrev k : ℕ
+      k = length o
+
       abbrev end_of : Answer
       end_of = cond (ltb k (recWide * z'.out)) (Refused refusal.NoRoom 0) (Records z'.out)
 
@@ -196,64 +197,56 @@ module _ (draft words' : List ℕ) (n : ℕ) (h : tokWide * n ≤ length words')
             ap (fitted k) read_all ∙ ap (λ (m : ℕ). cond (ltb k (recWide * m)) (paper.refused refusal.NoRoom 0) (paper.accepted (length ts) m)) (c.counts (ns e) (its-count e))
             ∙ ap (λ (b : Bool). cond b (paper.refused refusal.NoRoom 0) (paper.accepted (length ts) z'.out)) g
 
-        says-read : (b : Bool) → ltb k (recWide * z'.out) ≡ b → Says en k l'' (cond b (Refused refusal.NoRoom 0) (Records z'.out))
-        says-read true g = (ap answered (fitted-is true g), λ m q. absurd (differ (ap taken q)))
+        says-read : (b : Bool) → ltb k (recWide * z'.out) ≡ b → Says en o l'' (cond b (Refused refusal.NoRoom 0) (Records z'.out))
+        says-read true g = (ap answered (fitted-is true g), record { holds = λ m q. absurd (differ (ap taken q)) })
         says-read false g = (
           ap answered (fitted-is false g),
-          λ m q. c.words_are (ns e) (its-count e) (ltb-false k (recWide * z'.out) g) (its-fit e (numbers_fit e f))
-              ∙ sym (ap₂ (λ (c : paper.Answer) (q : Reading). content c (recWords (recordsIn q)) k) (fitted-is false g) read_all),
+          record {
+            holds = λ m q.
+                c.words_are (ns e) (its-count e) (ltb-false k (recWide * z'.out) g) (its-fit e (numbers_fit e f))
+                ∙ sym (ap (λ (q : Reading). front (recWords (recordsIn q)) o) read_all);
+          },
         )
 
       its-end : ltb z.at n ≡ false → z.at ≡ n
       its-end e = omega (arith, ltb-false z.at n e, w.lays.stands.within, length-is)
 
-      by_state : (b : Bool) → ltb z.at n ≡ b → (d : Bool) → eqb z.fault 0 ≡ d → Says en k l'' (cond b (Refused refusal.Misshapen (start_of draft ts z.at)) (cond d end_of (Refused z.fault z.place)))
-      by_state true e d f = sticks en k z.at (reads-too-few en (classes x) r z.at its-read (omega (arith, ltb-true z.at n e, its-length)))
+      by_state : (b : Bool) → ltb z.at n ≡ b → (d : Bool) → eqb z.fault 0 ≡ d → Says en o l'' (cond b (Refused refusal.Misshapen (start_of draft ts z.at)) (cond d end_of (Refused z.fault z.place)))
+      by_state true e d f = sticks en o z.at (reads-too-few en (classes x) r z.at its-read (omega (arith, ltb-true z.at n e, its-length)))
       by_state false e true f = says-read (its-end e) f (ltb k (recWide * z'.out)) refl
-      by_state false e false f = refuses en k z.fault z.place (reading-faulty (its-end e) (some (record { number = z.fault; place = z.place })) (its-kept (its-end e) false f))
+      by_state false e false f = refuses en o z.fault z.place (reading-faulty (its-end e) (some (record { number = z.fault; place = z.place })) (its-kept (its-end e) false f))
 
-      says-ended : Says en k l'' (ended draft words' n k z')
+      says-ended : Says en o l'' (ended draft words' n k z')
       unfolding ended
       says-ended =
-          subst (λ (i : ℕ). Says en k l'' (cond (ltb i n) (Refused refusal.Misshapen (start_of draft ts i)) (cond (eqb z'.fault 0) end_of (Refused z'.fault z'.place)))) (sym c.at-is)
-          (subst (λ (i : ℕ). Says en k l'' (cond (ltb z.at n) (Refused refusal.Misshapen (start_of draft ts z.at)) (cond (eqb i 0) end_of (Refused i z'.place)))) (sym c.fault-is)
-          (subst (λ (i : ℕ). Says en k l'' (cond (ltb z.at n) (Refused refusal.Misshapen (start_of draft ts z.at)) (cond (eqb z.fault 0) end_of (Refused z.fault i)))) (sym c.place_is)
+          subst (λ (i : ℕ). Says en o l'' (cond (ltb i n) (Refused refusal.Misshapen (start_of draft ts i)) (cond (eqb z'.fault 0) end_of (Refused z'.fault z'.place)))) (sym c.at-is)
+          (subst (λ (i : ℕ). Says en o l'' (cond (ltb z.at n) (Refused refusal.Misshapen (start_of draft ts z.at)) (cond (eqb i 0) end_of (Refused i z'.place)))) (sym c.fault-is)
+          (subst (λ (i : ℕ). Says en o l'' (cond (ltb z.at n) (Refused refusal.Misshapen (start_of draft ts z.at)) (cond (eqb z.fault 0) end_of (Refused z.fault i)))) (sym c.place_is)
           (by_state (ltb z.at n) refl (eqb z.fault 0) refl)))
 
   -- What a whole draft says is the reader's answer, and the buffer holds what the reader says.
-  module _ {st : State} (s : Starts x st) (k : ℕ) (few : n ≤ countable) where
-    stuck_at : (en : Entry) {l' : List ℕ} {p : ℕ} → Stuck x (nt (startNt en) ∷ []) st.at p → Says en k l' (Refused refusal.Misshapen (start_of draft ts p))
-    stuck_at en {p = p} g = sticks en k p (sticks-shape en (classes x) p (subst (λ i. Stuck x (nt (startNt en) ∷ []) i p) s.at-is g))
+  module _ {st : State} (s : Starts x st) (l : List ℕ) (few : n ≤ countable) where
+    stuck_at : (en : Entry) {l' : List ℕ} {p : ℕ} → Stuck x (nt (startNt en) ∷ []) st.at p → Says en l l' (Refused refusal.Misshapen (start_of draft ts p))
+    stuck_at en {p = p} g = sticks en l p (sticks-shape en (classes x) p (subst (λ i. Stuck x (nt (startNt en) ∷ []) i p) s.at-is g))
 
-    says : {en : Entry} {l l' : List ℕ} {p : Step} → l ≡ replicate k 0 → WholeRead x (length draft) st l l' p en → Says en k l' (judged draft words' n k p)
-    says zeros (one-read (contract.read {st' = z} w)) = says-ended oneFunction s k zeros w (w.info.laid-is ∙ sym w.info.raw-is) (closed-function (length draft) k z _)
-    says zeros (one-read (contract.stuck h g)) = stuck_at oneFunction (g [])
-    says {l = l} {l' = l'} zeros (all_read (file-read {l₁ = l₁} (contract.read {st' = z} w) p)) =
-        says-ended wholeFile s (k - behind k) (behind-zeros k zeros) w w.info.same
-        (closed-file (length draft) k l l₁ l' zeros z (omega (arith, w.lays.few, s.out-is, s.at-is, w.lays.stands.within, length-is)) w.lays.long p)
-    says zeros (all_read (file-stuck (contract.stuck h g))) = stuck_at wholeFile (g [])
+    says : {en : Entry} {l' : List ℕ} {p : Step} → WholeRead x (length draft) st l l' p en → Says en l l' (judged draft words' n (length l) p)
+    says {l' = l'} (one-read (contract.read {st' = z} w)) = says-ended oneFunction s w (w.info.laid-is ∙ sym w.info.raw-is) (closed-function (length draft) z l l')
+    says (one-read (contract.stuck h g)) = stuck_at oneFunction (g [])
+    says {l' = l'} (all_read (file-read {l₁ = l₁} (contract.read {st' = z} w) p)) =
+        says-ended wholeFile s w w.info.same
+        (closed-file (length draft) l l₁ l' z (omega (arith, w.lays.few, s.out-is, s.at-is, w.lays.stands.within, length-is)) w.lays.long p)
+    says (all_read (file-stuck (contract.stuck h g))) = stuck_at wholeFile (g [])
 
-    module _ (en : Entry) (most : ℕ) (fewer : tooMany most n (length words') ≡ false) (short : tooLong en (length draft) ≡ false) {l l' : List ℕ} {p : Step} (zeros : l ≡ replicate k 0) (v : WholeRead x (length draft) st l l' p en)
-        {a : Answer} (e : a ≡ judged draft words' n k p) where
-      pub said-answer : a ≡ answered (answer_of en most draft words' n k)
+    module _ (en : Entry) (most : ℕ) (fewer : tooMany most n (length words') ≡ false) (short : tooLong en (length draft) ≡ false) {l' : List ℕ} {p : Step} (v : WholeRead x (length draft) st l l' p en)
+        {a : Answer} (e : a ≡ judged draft words' n (length l) p) where
+      pub said-answer : a ≡ answered (answer_of en most draft words' n (length l))
       unfolding answer_of
       said-answer =
-          e ∙ sym (says zeros v).0
-          ∙ sym (ap₂ (λ (b c : Bool). answered (cond b (paper.refused refusal.TooMany 0) (cond c (paper.refused refusal.TooLong 0) (fitted k (R en))))) fewer short)
+          e ∙ sym (says v).0
+          ∙ sym (ap₂ (λ (b c : Bool). answered (cond b (paper.refused refusal.TooMany 0) (cond c (paper.refused refusal.TooLong 0) (fitted (length l) (R en))))) fewer short)
 
-      tree_is : content (fitted k (R en)) (recWords (recordsIn (R en))) k ≡ tree_of en most draft words' n k
-      unfolding tree_of
-      tree_is = sym (ap₂ (λ (b c : Bool). cond b (replicate k 0) (cond c (replicate k 0) (content (fitted k (R en)) (recWords (recordsIn (R en))) k))) fewer short)
-
-      pub said-tree : {m : ℕ} → a ≡ Records m → l' ≡ tree_of en most draft words' n k
-      said-tree {m} q = (says zeros v).1 m (sym e ∙ q) ∙ tree_is
-
-      no-records : (c : paper.Answer) (ws : List ℕ) {d p : ℕ} → answered c ≡ Refused d p → content c ws k ≡ replicate k 0
-      no-records (paper.accepted i m) ws q = absurd (differ (sym (ap taken q)))
-      no-records (paper.refused i m) ws q = refl
-
-      pub said-zeros : {d p : ℕ} → a ≡ Refused d p → replicate k 0 ≡ tree_of en most draft words' n k
-      said-zeros q = sym (no-records (fitted k (R en)) (recWords (recordsIn (R en))) ((says zeros v).0 ∙ sym e ∙ q)) ∙ tree_is
+      pub said-held : Held en draft words' n a l' l
+      said-held = subst (λ (a : Answer). Held en draft words' n a l' l) (sym e) (says v).1
 
 -- Too many tokens, or a file that is too long.
 pub too-many-answer : (en : Entry) (most : ℕ) (draft words' : List ℕ) (n k : ℕ) → tooMany most n (length words') ≡ true → Refused refusal.TooMany 0 ≡ answered (answer_of en most draft words' n k)
@@ -261,22 +254,11 @@ unfolding answer_of
 too-many-answer en most draft words' n k e =
     sym (ap (λ (b : Bool). answered (cond b (paper.refused refusal.TooMany 0) (cond (tooLong en (length draft)) (paper.refused refusal.TooLong 0) (fitted k (reading_of en draft (tokensIn n words')))))) e)
 
-pub too-many-tree : (en : Entry) (most : ℕ) (draft words' : List ℕ) (n k : ℕ) → tooMany most n (length words') ≡ true → replicate k 0 ≡ tree_of en most draft words' n k
-unfolding tree_of
-too-many-tree en most draft words' n k e =
-    let r = reading_of en draft (tokensIn n words') in
-    sym (ap (λ (b : Bool). cond b (replicate k 0) (cond (tooLong en (length draft)) (replicate k 0) (content (fitted k r) (recWords (recordsIn r)) k))) e)
-
-module _ (en : Entry) (most : ℕ) (draft words' : List ℕ) (n k : ℕ) (fewer : tooMany most n (length words') ≡ false) (e : tooLong en (length draft) ≡ true) where
-  pub too-long-answer : Refused refusal.TooLong 0 ≡ answered (answer_of en most draft words' n k)
-  unfolding answer_of
-  too-long-answer = sym (ap₂ (λ (b c : Bool). answered (cond b (paper.refused refusal.TooMany 0) (cond c (paper.refused refusal.TooLong 0) (fitted k (reading_of en draft (tokensIn n words')))))) fewer e)
-
-  pub too-long-tree : replicate k 0 ≡ tree_of en most draft words' n k
-  unfolding tree_of
-  too-long-tree =
-      let r = reading_of en draft (tokensIn n words') in
-      sym (ap₂ (λ (b c : Bool). cond b (replicate k 0) (cond c (replicate k 0) (content (fitted k r) (recWords (recordsIn r)) k))) fewer e)
+pub too-long-answer : (en : Entry) (most : ℕ) (draft words' : List ℕ) (n k : ℕ) → tooMany most n (length words') ≡ false → tooLong en (length draft) ≡ true
+    → Refused refusal.TooLong 0 ≡ answered (answer_of en most draft words' n k)
+unfolding answer_of
+too-long-answer en most draft words' n k fewer e =
+    sym (ap₂ (λ (b c : Bool). answered (cond b (paper.refused refusal.TooMany 0) (cond c (paper.refused refusal.TooLong 0) (fitted k (reading_of en draft (tokensIn n words')))))) fewer e)
 
 -- What the code's answer means is the paper's, whose tokens are the n that were handed in.
 shaped-count : (en : Entry) (draft : List ℕ) (ts : List Token) (rw' : ℕ) (f : Found) → meant (length ts) (answered (fitted rw' (shaped en draft ts f))) ≡ fitted rw' (shaped en draft ts f)

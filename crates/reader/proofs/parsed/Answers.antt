@@ -1,8 +1,7 @@
--- The parser's answer and the words of both buffers are the definition's.
+-- The parser's answer is the definition's, and its records are given their ways up.
 -- Assumes nothing.
-use Rattle.std.specs.Prelude.{length}
-use Rattle.std.proofs.Common.{sym, ap, ◌∙◌}
-use Rattle.up.specs.Ways.{upward}
+use Rattle.std.specs.Prelude.{refl, length}
+use Rattle.std.proofs.Common.{sym, ◌∙◌}
 use Rattle.parse.specs.Entry.{entry_of}
 use Rattle.reader.proofs.Laws as law
 use Rattle.reader.proofs.parsed.Goals as goal
@@ -10,28 +9,17 @@ use Rattle.reader.proofs.parsed.Goals as goal
 pub returns-in-Records-clause-answer : goal.returns-in-Records-clause-answer
 returns-in-Records-clause-answer c =
     c.in-Records.ensures.answer
-    ∙ law.parsed-answer (entry_of c.args.file) c.args.draft.now c.args.tokens.now c.args.count (length c.args.tree.now) c.requires.tokens_value c.requires.tokens_value_2
-
-pub returns-in-Records-clause-tokens : goal.returns-in-Records-clause-tokens
-returns-in-Records-clause-tokens c =
-    law.accepted-tokens (entry_of c.args.file) c.args.draft.now c.args.tokens.now (length c.args.tree.now) c.requires.tokens_value_2 (sym (returns-in-Records-clause-answer c))
+    ∙ law.parsed-answer (entry_of c.args.file) c.args.draft.now c.args.tokens.now c.args.count (length c.args.tree.now) c.requires.lexed c.requires.held
 
 pub returns-in-Records-clause-tree : goal.returns-in-Records-clause-tree
-returns-in-Records-clause-tree c =
-    c.way_up.ensures
-    ∙ ap (upward _) c.in-Records.ensures.tree
-    ∙ law.parsed-raised (entry_of c.args.file) c.args.draft.now c.args.tokens.now c.args.count (length c.args.tree.now) c.requires.tokens_value c.requires.tokens_value_2 (sym (returns-in-Records-clause-answer c))
+returns-in-Records-clause-tree c = record {
+  holds = λ n m e.
+      c.way_up.ensures
+      ∙ law.parsed-raised (entry_of c.args.file) c.args.draft.now c.args.tokens.now c.args.count (length c.args.tree.now) c.requires.lexed c.requires.held
+      c.args.tree.now (sym (returns-in-Records-clause-answer c)) (c.in-Records.ensures.held.holds _ refl);
+}
 
 pub returns-in-Refused-clause-answer : goal.returns-in-Refused-clause-answer
 returns-in-Refused-clause-answer c =
     c.in-Refused.ensures.answer
-    ∙ law.parsed-answer (entry_of c.args.file) c.args.draft.now c.args.tokens.now c.args.count (length c.args.tree.now) c.requires.tokens_value c.requires.tokens_value_2
-
-pub returns-in-Refused-clause-tokens : goal.returns-in-Refused-clause-tokens
-returns-in-Refused-clause-tokens c =
-    c.clear.ensures ∙ law.refused-tokens (entry_of c.args.file) c.args.draft.now (length c.args.tokens.now) (length c.args.tree.now) (sym (returns-in-Refused-clause-answer c))
-
-pub returns-in-Refused-clause-tree : goal.returns-in-Refused-clause-tree
-returns-in-Refused-clause-tree c =
-    c.in-Refused.ensures.tree
-    ∙ law.parsed-zeros (entry_of c.args.file) c.args.draft.now c.args.tokens.now c.args.count (length c.args.tree.now) c.requires.tokens_value c.requires.tokens_value_2 (sym (returns-in-Refused-clause-answer c))
+    ∙ law.parsed-answer (entry_of c.args.file) c.args.draft.now c.args.tokens.now c.args.count (length c.args.tree.now) c.requires.lexed c.requires.held

@@ -1,20 +1,49 @@
--- What the lexer refuses is refused, and both buffers are cleared.
+-- What is behind the words that were written is cleared; on a refusal every word is.
 -- Assumes nothing.
-use Rattle.std.specs.Prelude.{length}
-use Rattle.std.proofs.Common.{sym, ◌∙◌}
+use Rattle.std.specs.Prelude.{length, replicate}
+use Rattle.std.proofs.Common.{arith, sym, ap, ◌∙◌}
 use Rattle.parse.specs.Entry.{entry_of}
+use Rattle.reader.specs.Read.{meant}
 use Rattle.reader.proofs.Laws as law
 use Rattle.reader.proofs.read_as.Goals as goal
 
-pub returns-in-Refused-clause-answer : goal.returns-in-Refused-clause-answer
-returns-in-Refused-clause-answer c = sym (law.lexer-refused (entry_of c.args.file) c.args.draft.now (length c.args.tokens.now) (length c.args.tree.now) (sym c.in-Refused.ensures.result_value))
+pub returns-in_default-clause-tokens : goal.returns-in_default-clause-tokens
+returns-in_default-clause-tokens c =
+    let r = c.read_front-reading in
+    c.clear.ensures ∙ ap (λ n. replicate n 0) r.auto.tokens
+    ∙ law.refused-tokens (entry_of c.args.file) c.args.draft.now (length c.args.tokens.now) (length c.args.tree.now) (sym r.ensures.answer ∙ ap meant c.in_default.is)
 
-pub returns-in-Refused-clause-tokens : goal.returns-in-Refused-clause-tokens
-returns-in-Refused-clause-tokens c =
-    c.in-Refused.ensures.out_after
-    ∙ law.lexer-zeros c.args.draft.now (length c.args.tokens.now) (sym c.in-Refused.ensures.result_value)
-    ∙ law.refused-tokens (entry_of c.args.file) c.args.draft.now (length c.args.tokens.now) (length c.args.tree.now) (sym (returns-in-Refused-clause-answer c))
+pub returns-in_default-clause-tree : goal.returns-in_default-clause-tree
+returns-in_default-clause-tree c =
+    let r = c.read_front-reading in
+    c.clear-in_default.ensures ∙ ap (λ n. replicate n 0) r.auto.tree
+    ∙ law.refused-tree (entry_of c.args.file) c.args.draft.now (length c.args.tokens.now) (length c.args.tree.now) (sym r.ensures.answer ∙ ap meant c.in_default.is)
 
-pub returns-in-Refused-clause-tree : goal.returns-in-Refused-clause-tree
-returns-in-Refused-clause-tree c =
-    c.clear.ensures ∙ law.refused-tree (entry_of c.args.file) c.args.draft.now (length c.args.tokens.now) (length c.args.tree.now) (sym (returns-in-Refused-clause-answer c))
+pub overflow_mul-used : goal.overflow_mul-used
+overflow_mul-used c =
+    let r = c.read_front-reading in
+    let h = law.tokens-fit (entry_of c.args.file) c.args.draft.now c.args.tokens.now (length c.args.tree.now) (sym r.ensures.answer ∙ ap meant c.in-Accepted.is) in
+    omega (arith, h)
+
+pub overflow_mul-written : goal.overflow_mul-written
+overflow_mul-written c =
+    let r = c.read_front-reading in
+    let h = law.records-room (entry_of c.args.file) c.args.draft.now c.args.tree.now (length c.args.tokens.now) (sym r.ensures.answer ∙ ap meant c.in-Accepted.is) in
+    omega (arith, h)
+
+pub returns-clause-answer : goal.returns-clause-answer
+returns-clause-answer c = sym (ap meant c.in-Accepted.is) ∙ c.read_front-reading.ensures.answer
+
+pub returns-clause-tokens : goal.returns-clause-tokens
+returns-clause-tokens c =
+    let r = c.read_front-reading in
+    c.clear_from.ensures
+    ∙ law.accepted-tokens (entry_of c.args.file) c.args.draft.now c.args.tokens.now (length c.args.tree.now) (sym r.ensures.answer ∙ ap meant c.in-Accepted.is)
+    (r.ensures.tokens.holds _ _ c.in-Accepted.is)
+
+pub returns-clause-tree : goal.returns-clause-tree
+returns-clause-tree c =
+    let r = c.read_front-reading in
+    c.clear_from-2.ensures
+    ∙ law.accepted-tree (entry_of c.args.file) c.args.draft.now c.args.tree.now (length c.args.tokens.now) (sym r.ensures.answer ∙ ap meant c.in-Accepted.is)
+    (r.ensures.tree.holds _ _ c.in-Accepted.is)

@@ -37,8 +37,7 @@ returns-in-Refused-clause-result_value c =
 
 pub returns-in-Nothing-clause-result_value : goal.returns-in-Nothing-clause-result_value
 returns-in-Nothing-clause-result_value c =
-    c.count.ensures.result_value ∙ fill-answer c.loop-kind.invariant (sym c.step_with-found.ensures ∙ c.in-Nothing.is)
+    c.count.ensures ∙ fill-answer c.loop-kind.invariant (sym c.step_with-found.ensures ∙ c.in-Nothing.is)
 
 pub returns-in-Nothing-clause-held : goal.returns-in-Nothing-clause-held
-returns-in-Nothing-clause-held c =
-    fill-held c.loop-kind.invariant _ _ (sym c.step_with-found.ensures ∙ c.in-Nothing.is) c.count.ensures.result_value c.count.ensures.out_after
+returns-in-Nothing-clause-held c = fill-held c.loop-kind.invariant _ (sym c.step_with-found.ensures ∙ c.in-Nothing.is) c.count.ensures

@@ -1,0 +1,86 @@
+-- What a buffer holds once it is cleared: zeros on a refusal, and else the records with zeros behind them.
+-- Assumes nothing.
+use Rattle.std.proofs.Common.{◌≡◌, ℕ, ◌-◌, ◌*◌, ◌≤◌, Bool, true, false, cond, ltb, List, ◌++◌, length, take, replicate, sym, refl, ap, ◌∙◌, arith, ltb-false}
+use Rattle.text.specs.Answers as paper
+use Rattle.text.specs.Front.{front-cleared}
+use Rattle.text.specs.Refusals as refusal
+use Rattle.text.specs.Same.{differ}
+use Rattle.text.specs.Widths.{recWide}
+use Rattle.own.specs.Words.{recWords}
+use Rattle.own.specs.WordLaws.{record-words-length}
+use Rattle.lexer.specs.Buffer.{tokensIn}
+use Rattle.grammar.specs.Entry.{Entry}
+use Rattle.grammar.specs.answers.Answer.{Reading, unread, read, fitted, content, recordsIn}
+use Rattle.parse.specs.Entry.{tooMany, tooLong, reading_of, answered, answer_of, tree_of, Held}
+use Rattle.parse.specs.declared.Answer.{Answer}
+use Rattle.parse.specs.declared.Answer.TheVariants.{Records, Refused}
+
+abbrev recording : Answer → Bool
+recording (Records m) = true
+recording (Refused c p) = false
+
+abbrev many : Answer → ℕ
+many (Records m) = m
+many (Refused c p) = 0
+
+-- What is read, into k words.
+module _ (k : ℕ) where
+  abbrev kept : Reading → List ℕ
+  kept r = recWords (recordsIn r)
+
+  -- Too many tokens, then too long a file, then what is read: the answer, and the words.
+  abbrev answer-by : Bool → Bool → Reading → paper.Answer
+  answer-by b c r = cond b (paper.refused refusal.TooMany 0) (cond c (paper.refused refusal.TooLong 0) (fitted k r))
+
+  abbrev words-by : Bool → Bool → Reading → List ℕ
+  words-by b c r = cond b (replicate k 0) (cond c (replicate k 0) (content (fitted k r) (kept r) k))
+
+  record Fitting (m : ℕ) (r : Reading) (l : List ℕ) : Type 0 where
+    room : recWide * m ≤ k
+    long : length (kept r) ≡ recWide * m
+    words_are : kept r ++ replicate (k - length (kept r)) 0 ≡ l
+
+  fitting : (b c : Bool) (r : Reading) {m : ℕ} → Records m ≡ answered (answer-by b c r) → Fitting m r (words-by b c r)
+  fitting true c r e = absurd (differ (sym (ap recording e)))
+  fitting false true r e = absurd (differ (sym (ap recording e)))
+  fitting false false (unread c p) e = absurd (differ (sym (ap recording e)))
+  fitting false false (read ts rs) {m} e = go (ltb k (recWide * length rs)) refl e
+    where
+      answer-if : Bool → paper.Answer
+      answer-if b = cond b (paper.refused refusal.NoRoom 0) (paper.accepted (length ts) (length rs))
+
+      go : (b : Bool) → ltb k (recWide * length rs) ≡ b → Records m ≡ answered (answer-if b) → Fitting m (read ts rs) (content (answer-if b) (recWords rs) k)
+      go true q f = absurd (differ (sym (ap recording f)))
+      go false q f =
+          let n : m ≡ length rs = ap many f in
+          record { room = omega (arith, n, ltb-false k (recWide * length rs) q); long = omega (arith, n, record-words-length rs); words_are = refl }
+
+  zeros : (b c : Bool) (r : Reading) {d p : ℕ} → Refused d p ≡ answered (answer-by b c r) → replicate k 0 ≡ words-by b c r
+  zeros true c r e = refl
+  zeros false true r e = refl
+  zeros false false r {d} {p} e = go (fitted k r) e
+    where
+      go : (a : paper.Answer) → Refused d p ≡ answered a → replicate k 0 ≡ content a (kept r) k
+      go (paper.accepted n m) f = absurd (differ (ap recording f))
+      go (paper.refused n m) f = refl
+
+module _ (en : Entry) (most : ℕ) (draft words' o : List ℕ) (n : ℕ) {a : Answer} (e : a ≡ answered (answer_of en most draft words' n (length o))) where
+  -- On a refusal;
+  pub refused-tree : {d p : ℕ} → a ≡ Refused d p → replicate (length o) 0 ≡ tree_of en most draft words' n (length o)
+  unfolding answer_of tree_of
+  refused-tree q = zeros (length o) (tooMany most n (length words')) (tooLong en (length draft)) (reading_of en draft (tokensIn n words')) (sym q ∙ e)
+
+  -- and of so many records, which fit.
+  module _ {m : ℕ} (q : a ≡ Records m) where
+    fits : Fitting (length o) m (reading_of en draft (tokensIn n words')) (tree_of en most draft words' n (length o))
+    unfolding answer_of tree_of
+    fits = fitting (length o) (tooMany most n (length words')) (tooLong en (length draft)) (reading_of en draft (tokensIn n words')) (sym q ∙ e)
+
+    pub records-fit : recWide * m ≤ length o
+    records-fit = fits.room
+
+    pub cleared-tree : (out : List ℕ) → Held en draft words' n a out o → take (recWide * m) out ++ replicate (length out - recWide * m) 0 ≡ tree_of en most draft words' n (length o)
+    cleared-tree out h =
+        ap (λ (z : List ℕ). take (recWide * m) z ++ replicate (length z - recWide * m) 0) (h.holds m q)
+        ∙ front-cleared (recWords (recordsIn (reading_of en draft (tokensIn n words')))) o (recWide * m) fits.long fits.room
+        ∙ fits.words_are
