@@ -1,31 +1,32 @@
-//! Reads one draft, or loads its listing, again and again, for bench/reader/run.sh. Use: bench CASE WHICH REPEATS, where WHICH is `here`,
-//! the proved reader through its entry for C, or `partner`, the plain Rust reader; `load-here` and `load-partner` load the draft's listing,
-//! `short-here` and `short-partner` the same in lines of 36 bytes, without the way up.
-//! Both are called in the same loop and with the same buffer, of 84,009 bytes or 14,343 words, lent again each time. The
-//! checksum is taken once, after the loop, so that it cancels where two runs are subtracted.
-//! `bench CASE tokens` and `bench CASE records` write the numbers of tokens and records, and `bench cases` the names of the cases.
+//! Measures how drafts are listed and listings are loaded, for bench/reader/run.sh.
+//!     bench KIND times                        a line for each case: microseconds of both, the least of batches in turn
+//!     bench KIND CASE size                    tokens, or records
+//!     bench KIND CASE here|partner REPEATS    calls one of the two: what it used of the buffer, and a checksum
+//!     bench tokens|depth                      times over tokens and over open brackets
+//! KIND is `list`, a draft in and its listing out; `load`, that listing in and its records out; or `short`, the same
+//! listing in lines of 36 bytes, without the way up. `here` is the proved reader through its entries for C, `partner` the
+//! plain Rust reader. Both are called by the same loop with the same buffer, of 84,009 bytes or 14,343 words, lent again
+//! each time. The checksum is taken once, after the loop, so that it cancels where two runs are subtracted.
 
+mod calls;
 mod cases;
+mod scaling;
+mod times;
+mod turned;
 
-use std::hint::black_box;
+use calls::{LIST, LIST_ROOM, LOAD, LOAD_ROOM};
 use std::process::ExitCode;
-use std::time::Instant;
-
-/// Lists a draft into a buffer: the bytes used.
-type List = fn(&[u8], &mut [u8]) -> usize;
-/// The lines of a draft.
-type Lines = fn(&[u8]) -> Vec<u8>;
-/// Loads a listing into a buffer: the records.
-type Load = fn(&[u8], &mut [u32]) -> usize;
+use times::{Call, Row};
 
 fn main() -> ExitCode {
     let arguments: Vec<String> = std::env::args().skip(1).collect();
     let words: Vec<&str> = arguments.iter().map(String::as_str).collect();
-    match run(&words) {
-        Some(line) => println!("{line}"),
+    match answer(&words) {
+        Some(lines) => println!("{lines}"),
         None => {
             eprintln!(
-                "use: bench CASE [load-|short-]here|[load-|short-]partner REPEATS, bench CASE tokens|records, bench cases"
+                "use: bench list|load|short times, bench list|load|short CASE size, \
+                 bench list|load|short CASE here|partner REPEATS, bench tokens|depth"
             );
             return ExitCode::FAILURE;
         }
@@ -33,113 +34,68 @@ fn main() -> ExitCode {
     ExitCode::SUCCESS
 }
 
-fn run(words: &[&str]) -> Option<String> {
+fn answer(words: &[&str]) -> Option<String> {
     match *words {
-        ["cases"] => Some(cases::NAMES.join(" ")),
-        [case, "tokens"] => tokens(&cases::draft(case)?).map(|count| count.to_string()),
-        [case, "records"] => Some(records(&cases::draft(case)?).to_string()),
-        [case, "load-here", repeats] => loads(case, lines, load_here, repeats),
-        [case, "load-partner", repeats] => loads(case, lines, load_partner, repeats),
-        [case, "short-here", repeats] => loads(case, short_lines, load_here, repeats),
-        [case, "short-partner", repeats] => loads(case, short_lines, load_partner, repeats),
-        [case, "here", repeats] => measure(&cases::draft(case)?, here, repeats.parse().ok()?),
-        [case, "partner", repeats] => measure(
-            &cases::draft(case)?,
-            partner::list_into,
-            repeats.parse().ok()?,
-        ),
+        ["tokens"] => Some(scaling::over_tokens()),
+        ["depth"] => Some(scaling::over_depth()),
+        ["list", "times"] => Some(times::table(&rows("list")?, LIST, &mut vec![0; LIST_ROOM])),
+        [kind, "times"] => Some(times::table(&rows(kind)?, LOAD, &mut vec![0; LOAD_ROOM])),
+        [kind, case, "size"] => size(kind, &cases::draft(case)?),
+        [kind, case, which, repeats] => {
+            let input = input(kind, &cases::draft(case)?)?;
+            let which = ["here", "partner"].iter().position(|name| *name == which)?;
+            let repeats = repeats.parse().ok()?;
+            Some(match kind {
+                "list" => repeated(LIST[which], &input, vec![0; LIST_ROOM], repeats),
+                _ => repeated(LOAD[which], &input, vec![0; LOAD_ROOM], repeats),
+            })
+        }
         _ => None,
     }
 }
 
-/// How many tokens the draft has, if it is accepted.
-fn tokens(draft: &[u8]) -> Option<usize> {
-    let reading = partner::read_with_room(draft, partner::Entry::File);
-    reading.ok().map(|(tokens, _)| tokens.len())
-}
-
-/// How many records the listing of the draft has.
-fn records(draft: &[u8]) -> usize {
-    togmelic::listing(draft).len() / togmelic::LINE
-}
-
-fn here(draft: &[u8], out: &mut [u8]) -> usize {
-    togmelic::list(draft, out).map_or(0, <[u8]>::len)
-}
-
-/// Bytes used, checksum of them, and microseconds of one reading.
-fn measure(draft: &[u8], list: List, repeats: u32) -> Option<String> {
-    let mut out = vec![0; togmelic::MOST_BYTES];
-    let mut used = 0;
-    let start = Instant::now();
-    for _ in 0..repeats {
-        used = black_box(list)(black_box(draft), black_box(&mut out));
-    }
-    let microseconds = start.elapsed().as_secs_f64() * 1e6 / f64::from(repeats);
-    Some(format!(
-        "{used} {:016x} {microseconds:.2}",
-        checksum(&out[..used])
-    ))
-}
-
-fn load_here(listing: &[u8], words: &mut [u32]) -> usize {
-    togmelic::load_into(listing, words).unwrap_or(0)
-}
-
-fn load_partner(listing: &[u8], words: &mut [u32]) -> usize {
-    let Ok(records) = partner::load(listing, words.len()) else {
-        return 0;
-    };
-    let (loaded, rest) = words.split_at_mut(togmelic::RECORD_WORDS * records.len());
-    for (words, record) in loaded
-        .chunks_exact_mut(togmelic::RECORD_WORDS)
-        .zip(&records)
-    {
-        words.copy_from_slice(record);
-    }
-    rest.fill(0);
-    records.len()
-}
-
-/// The lines of a draft as they are written.
-fn lines(draft: &[u8]) -> Vec<u8> {
-    togmelic::listing(draft)
-}
-
-/// Its lines as they were written before the way up.
-fn short_lines(draft: &[u8]) -> Vec<u8> {
-    let short = |line: &[u8]| [&line[..togmelic::SHORT_LINE - 1], b"\n"].concat();
-    lines(draft)
-        .chunks(togmelic::LINE)
-        .flat_map(short)
+/// The cases that are measured so, each with what is read. All are listed, and the listings of accepted ones loaded.
+fn rows(kind: &str) -> Option<Vec<Row>> {
+    let drafts = cases::CASES.iter().map(|(name, draft)| (*name, draft()));
+    drafts
+        .filter(|(_, draft)| kind == "list" || togmelic::read(draft).is_ok())
+        .map(|(name, draft)| Some((name.to_string(), vec![input(kind, &draft)?])))
         .collect()
 }
 
-/// What loading a case's listing measures.
-fn loads(case: &str, lines: Lines, load: Load, repeats: &str) -> Option<String> {
-    let listing = lines(&cases::draft(case)?);
-    measure_load(&listing, load, repeats.parse().ok()?)
-}
-
-/// Records, checksum of their words, and microseconds of one loading.
-fn measure_load(listing: &[u8], load: Load, repeats: u32) -> Option<String> {
-    let mut words = vec![0; togmelic::RECORD_WORDS * togmelic::MOST_LINES];
-    let mut records = 0;
-    let start = Instant::now();
-    for _ in 0..repeats {
-        records = black_box(load)(black_box(listing), black_box(&mut words));
+/// What is read of a draft.
+fn input(kind: &str, draft: &[u8]) -> Option<Vec<u8>> {
+    match kind {
+        "list" => Some(draft.to_vec()),
+        "load" => Some(togmelic::listing(draft)),
+        "short" => Some(calls::short_lines(draft)),
+        _ => None,
     }
-    let microseconds = start.elapsed().as_secs_f64() * 1e6 / f64::from(repeats);
-    let bytes: Vec<u8> = words.iter().flat_map(|word| word.to_le_bytes()).collect();
-    Some(format!(
-        "{records} {:016x} {microseconds:.2}",
-        checksum(&bytes)
-    ))
 }
 
-/// The FNV-1a checksum of 64 bits.
-fn checksum(bytes: &[u8]) -> u64 {
-    bytes.iter().fold(0xcbf2_9ce4_8422_2325, |sum, byte| {
-        (sum ^ u64::from(*byte)).wrapping_mul(0x100_0000_01b3)
+fn size(kind: &str, draft: &[u8]) -> Option<String> {
+    let size = match kind {
+        "list" => calls::tokens(draft),
+        "load" | "short" => togmelic::listing(draft).len() / togmelic::LINE,
+        _ => return None,
+    };
+    Some(size.to_string())
+}
+
+/// What a call used of the buffer, and the checksum of the buffer.
+fn repeated<Word: Copy + Into<u64>>(
+    call: Call<Word>,
+    input: &[u8],
+    mut out: Vec<Word>,
+    repeats: u32,
+) -> String {
+    let used = times::repeat((call, input), &mut out, repeats);
+    format!("{used} {:016x}", checksum(&out))
+}
+
+/// The FNV-1a checksum of 64 bits, over bytes or words.
+fn checksum<Word: Copy + Into<u64>>(words: &[Word]) -> u64 {
+    words.iter().fold(0xcbf2_9ce4_8422_2325, |sum, word| {
+        (sum ^ (*word).into()).wrapping_mul(0x100_0000_01b3)
     })
 }
