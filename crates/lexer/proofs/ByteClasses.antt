@@ -123,6 +123,10 @@ decimal-run b =
     by-half (inClasses byte.Underscore byte.Digit) (λ b. among decimalDigits b || among underscore b) b (λ h. alike_same _ _ (test_at b h 4)) (over-classes byte.Underscore byte.Digit b (omega arith))
     (λ h. rw (over-among decimalDigits tt b h) (over-among underscore tt b h))
 
+-- a decimal digit is of a decimal run
+pub starts_run : (b : ℕ) → among decimalDigits b ≡ true → inClasses byte.Underscore byte.Digit b ≡ true
+starts_run b h = decimal-run b ∙ simp h
+
 pub hex-classes : (b : ℕ) → inClasses byte.BinaryDigit byte.HexLetter b ≡ among hexDigits b
 unfolding hexDigits
 hex-classes b = by-half (inClasses byte.BinaryDigit byte.HexLetter) (among hexDigits) b (λ h. alike_same _ _ (test_at b h 5)) (over-classes byte.BinaryDigit byte.HexLetter b (omega arith)) (over-among hexDigits tt b)

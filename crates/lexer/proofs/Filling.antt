@@ -6,7 +6,7 @@ use mathlib.Core.Option.{Option, none, some}
 use mathlib.Core.Path.{◌≡◌, refl, sym, ◌∙◌, ap, ap₂, subst}
 use Prim.Native.Nat.{ℕ, suc, ◌+◌, ◌*◌, ◌≤◌, ◌<◌}
 use native.Mathlib.Omega.{arith}
-use borrow.Author.Tests.{lt-ltb, ltb-true, ltb-false, eqb-true, eqb-false}
+use borrow.Author.Tests.{lt-ltb, ltb-true, ltb-false, eqb-true, eqb-false, ne_eqb}
 use lib.Dec.{ltb, eqb}
 use lib.ListN.{length, get_or, drop, set, length-drop, length-append, length-set, get_or-append}
 use lib.Seq.{sets-eq, take_at, drop_at, drop-drop, get_or_at}
@@ -59,6 +59,10 @@ length-put out room n k a e = go (ltb n room)
     go : (b : Bool) → length (cond b (set (set (set out (tokWide * n) k) (tokWide * n + 1) a) (tokWide * n + 2) e) out) ≡ length out
     go true = simp length-set
     go false = refl
+
+-- what is written is not the first token too many
+pub over-stays : (n room at over : ℕ) → ltb n room ≡ true → over ≡ cond (eqb n room) at over
+over-stays n room at over h = let l = ltb-true n room h in simp (ne_eqb n room (λ z. absurd (omega arith)))
 
 -- ---- the tokens found so far
 

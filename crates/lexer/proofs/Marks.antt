@@ -7,7 +7,7 @@ use mathlib.Core.Path.{◌≡◌, refl, sym, ◌∙◌, ap, subst}
 use Prim.Native.Nat.{ℕ, suc, ◌+◌, ◌≤◌, ◌<◌}
 use native.Mathlib.Numerals.{add-one}
 use native.Mathlib.Omega.{arith}
-use borrow.Author.Tests.{leb-true, leb-false}
+use borrow.Author.Tests.{eq-eqb, ne_eqb, leb-true, leb-false}
 use lib.Dec.{T, eqb, leb}
 use lib.ListN.{length, get_or, drop, replicate, length-replicate}
 use Rattle.text.specs.Ascii.{ascii, asciiFrom}
@@ -21,6 +21,7 @@ use Rattle.lexer.specs.Chars.{among, whitespace, lineEnds, plainBytes, binaryDig
 use Rattle.lexer.specs.Lexemes.{Lexeme, token, refused, ◌orElse◌, space, lineComment, blockComment, qualified, macro, digits, hexadecimal, binary, decimal, word, marks, mark, noLexeme, lexeme}
 use Rattle.lexer.specs.SameLexeme.{sameLexeme, same-lexeme}
 use Rattle.lexer.specs.Step.{stepFrom, lexemeAt}
+use Rattle.lexer.specs.declared.Step.TheVariants.{Token}
 use Rattle.lexer.proofs.ByteClasses.{class-in, class-above, over-class, mark-apart, notMark, each-fails}
 use Rattle.lexer.proofs.Rest.{rest-first, rest-cons, begins-one}
 
@@ -87,6 +88,10 @@ mark-is : (b : ℕ) (r : List ℕ) → (mark marks (b ∷ r) orElse noLexeme b) 
 unfolding mark marks begins ascii asciiFrom
 mark-is b r = simp (begins-one 61 r, begins-one 57 r)
 
+two_or_one : (b : Bool) (k l i : ℕ) → cond b (Token k (i + 2)) (Token l (i + 1)) ≡ stepFrom (cond b (token k 2) (token l 1)) i
+two_or_one true k l i = refl
+two_or_one false k l i = refl
+
 module _ (s : List ℕ) (i c n : ℕ) (h : i < length s) (q : c ≡ byteClass (get_or s i 0)) (f : n ≡ get_or s (i + 1) 0) (a : byte.Minus ≤ c) (b : c ≤ byte.Other) where
   -- the lexeme by the class of its first byte and the byte behind it
   pub at_mark : stepFrom (byClass c (eqb n 62) (eqb n 58)) i ≡ lexemeAt s i
@@ -102,3 +107,16 @@ module _ (s : List ℕ) (i c n : ℕ) (h : i < length s) (q : c ≡ byteClass (g
       ∙ chosen_is x k (eqb n 62) (eqb n 58)
       ∙ ap (λ m. byClass m (eqb n 62) (eqb n 58)) (sym q) in
       sym (ap (λ t. stepFrom t i) l)
+
+  -- a mark of one byte with which no other mark begins
+  pub at_alone : (c ≡ byte.Minus → ⊥) → (c ≡ byte.Colon → ⊥) → (c ≡ byte.Eq → ⊥) → (c ≡ byte.Other → ⊥) → Token c (i + 1) ≡ lexemeAt s i
+  at_alone k l m o = simp (ne_eqb _ _ k, ne_eqb _ _ l, ne_eqb _ _ m, ne_eqb _ _ o) at at_mark
+
+  -- the marks of one byte or two
+  pub at-colon : c ≡ byte.Colon → cond (eqb n 58) (Token t.DoubleColon (i + 2)) (Token t.Colon (i + 1)) ≡ lexemeAt s i
+  at-colon e = two_or_one (eqb n 58) t.DoubleColon t.Colon i ∙ (simp (ne_eqb c byte.Minus (λ z. absurd (omega arith)), eq-eqb c byte.Colon e) at at_mark)
+
+  pub at-eq : c ≡ byte.Eq → cond (eqb n 62) (Token t.FatArrow (i + 2)) (Token t.Eq (i + 1)) ≡ lexemeAt s i
+  at-eq e =
+      two_or_one (eqb n 62) t.FatArrow t.Eq i
+      ∙ (simp (ne_eqb c byte.Minus (λ z. absurd (omega arith)), ne_eqb c byte.Colon (λ z. absurd (omega arith)), eq-eqb c byte.Eq e) at at_mark)

@@ -4,7 +4,7 @@ use mathlib.Core.Bool.{Bool, true, false, cond, ◌&&◌, and-false}
 use mathlib.Core.List.{List, ◌∷◌}
 use mathlib.Core.Option.{none, some}
 use mathlib.Core.Path.{◌≡◌, refl, sym, ◌∙◌, ap}
-use Prim.Native.Nat.{ℕ, suc, ◌+◌, ◌≤◌, ◌<◌}
+use Prim.Native.Nat.{ℕ, suc, ◌+◌, ◌-◌, ◌≤◌, ◌<◌}
 use native.Mathlib.Omega.{arith}
 use borrow.Author.Tests.{eq-eqb, ne_eqb}
 use lib.Dec.{eqb, ltb}
@@ -49,6 +49,9 @@ module _ (s : List ℕ) (i e : ℕ) (v : Named s i e) where
 
   text : take (nameLength (drop i s)) (drop i s) ≡ part_of s i e
   text = sym (part-rest s i (nameLength (drop i s)) e (sym v.ends) v.within)
+
+  pub sliced : take (e - i) (drop i s) ≡ part_of s i e
+  sliced = let n : e - i ≡ nameLength (drop i s) = (let z = v.ends in omega arith) in ap (λ n. take n (drop i s)) n ∙ text
 
   starts : isName (drop i s) ≡ true
   starts = ap (among nameStarts) (rest-first s i) ∙ v.starts

@@ -3,15 +3,16 @@
 use mathlib.Core.Bool.{Bool, true, false, cond, ◌||◌}
 use mathlib.Core.List.{List, [], ◌∷◌, ◌++◌}
 use mathlib.Core.Option.{none, some}
-use mathlib.Core.Path.{◌≡◌, refl, sym, ◌∙◌, ap}
+use mathlib.Core.Path.{◌≡◌, refl, sym, ◌∙◌, ap, ap₂}
 use Prim.Native.Nat.{ℕ, ◌+◌, ◌-◌, ◌≤◌, ◌<◌}
 use native.Mathlib.Omega.{arith}
-use borrow.Author.Tests.{lt-ltb, le-ltb, ltb-false}
-use lib.Dec.{ltb}
+use borrow.Author.Tests.{lt-ltb, le-ltb, ltb-false, ne_eqb}
+use lib.Dec.{ltb, eqb}
 use Rattle.text.specs.Same.{differ}
+use Rattle.lexer.specs.Classes as t
 use Rattle.lexer.specs.Lexemes.{Token}
 use Rattle.lexer.specs.Limits.{mostOpen, mostInRow, depthAfter, rowAfter, passes, tooDeep}
-use Rattle.lexer.specs.Nesting.{within, past, counted, nestAfter, nestOf, passed_at}
+use Rattle.lexer.specs.Nesting.{within, past, counted, nestAfter, nestOf, passed_at, Uncounted}
 use Rattle.lexer.specs.declared.depth.Nest.{Nest}
 
 -- ---- both counts against their limits
@@ -42,9 +43,9 @@ within-open d m e = go (ltb mostOpen d) refl e
 
 module _ (x : Nest) (k i : ℕ) where
   abbrev next : Bool → Nest
-  next b = cond b x (counted (depthAfter k x.depth) (rowAfter k x.row) i x.place)
+  next b = cond b (within x.depth 0 x.place) (counted (depthAfter k x.depth) (rowAfter k x.row) i x.place)
 
-  pub nest-passed : mostOpen < x.depth → x ≡ nestAfter x k i
+  pub nest-passed : mostOpen < x.depth → within x.depth 0 x.place ≡ nestAfter x k i
   unfolding nestAfter
   nest-passed h = sym (ap next (lt-ltb mostOpen x.depth h))
 
@@ -52,11 +53,39 @@ module _ (x : Nest) (k i : ℕ) where
   unfolding nestAfter
   nest-counts h q = q ∙ sym (ap next (le-ltb mostOpen x.depth h))
 
+-- any other kind than `match` and the brackets
+pub uncounted : (k : ℕ) → (k ≡ t.Match → ⊥) → ((b : ℕ) → t.LParen ≤ b → b ≤ t.RAngle → k ≡ b → ⊥) → Uncounted k
+unfolding depthAfter rowAfter
+uncounted k m n =
+    let no : (b : ℕ) → t.LParen ≤ b → b ≤ t.RAngle → eqb k b ≡ false = λ b h l. ne_eqb k b (n b h l) in
+    record {
+      depth = λ d. simp (
+        no t.LParen (omega arith) (omega arith),
+        no t.LBracket (omega arith) (omega arith),
+        no t.LBrace (omega arith) (omega arith),
+        no t.LAngle (omega arith) (omega arith),
+        no t.RParen (omega arith) (omega arith),
+        no t.RBracket (omega arith) (omega arith),
+        no t.RBrace (omega arith) (omega arith),
+        no t.RAngle (omega arith) (omega arith),
+      );
+      row = λ r. simp (ne_eqb k t.Match m);
+    }
+
+-- a token that is not counted, whether a limit is passed or not
+pub nest-uncounted : (x : Nest) (k i : ℕ) → Uncounted k → within x.depth 0 x.place ≡ nestAfter x k i
+unfolding nestAfter
+nest-uncounted x k i u = go (ltb mostOpen x.depth) refl
+  where
+    go : (b : Bool) → ltb mostOpen x.depth ≡ b → within x.depth 0 x.place ≡ cond b (within x.depth 0 x.place) (counted (depthAfter k x.depth) (rowAfter k x.row) i x.place)
+    go true q = refl
+    go false q = row_ends x.depth i x.place (ltb-false mostOpen x.depth q) ∙ sym (ap₂ (λ d m. counted d m i x.place) (u.depth x.depth) (u.row x.row))
+
 -- ---- some tokens
 
-nest-stays : (x : Nest) (ts : List Token) → mostOpen < x.depth → nestOf x ts ≡ x
-nest-stays x [] h = refl
-nest-stays x (t ∷ ts) h = ap (λ (y : Nest). nestOf y ts) (sym (nest-passed x t.kind t.start h)) ∙ nest-stays x ts h
+nest-stays : (p : ℕ) (ts : List Token) → nestOf (past p) ts ≡ past p
+nest-stays p [] = refl
+nest-stays p (t ∷ ts) = ap (λ (y : Nest). nestOf y ts) (sym (nest-passed (past p) t.kind t.start (omega arith))) ∙ nest-stays p ts
 
 pub nest-snoc : (x : Nest) (ts : List Token) (t : Token) → nestOf x (ts ++ t ∷ []) ≡ nestAfter (nestOf x ts) t.kind t.start
 nest-snoc x [] t = refl
@@ -78,5 +107,5 @@ nest_deep (t ∷ ts) d m p h =
 
     go : (b : Bool) → (passes d' m' ≡ false → passed_at (nestOf (within d' m' p) ts) ≡ tooDeep d' m' ts) → passes d' m' ≡ b
         → passed_at (nestOf (cond b (past t.start) (within d' m' p)) ts) ≡ cond b (some t.start) (tooDeep d' m' ts)
-    go true ih q = ap passed_at (nest-stays (past t.start) ts (omega arith))
+    go true ih q = ap passed_at (nest-stays t.start ts)
     go false ih q = ih q

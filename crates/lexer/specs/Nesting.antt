@@ -1,6 +1,6 @@
 -- Brackets open and `match` tokens in a row, counted token by token, as the struct `Nest`.
 -- Assumes nothing.
-use Rattle.std.specs.Prelude.{Bool, cond, List, [], ◌∷◌, ℕ, ◌+◌, ltb}
+use Rattle.std.specs.Prelude.{Bool, cond, ◌≡◌, List, [], ◌∷◌, ℕ, ◌+◌, ltb}
 use Rattle.std.proofs.Math.Option.{Option, none, some}
 use Rattle.lexer.specs.Lexemes.{Token}
 use Rattle.lexer.specs.Limits.{mostOpen, depthAfter, rowAfter, passes}
@@ -21,9 +21,14 @@ isPast x = ltb mostOpen x.depth
 abbrev pub counted : ℕ → ℕ → ℕ → ℕ → Nest
 counted d m i p = cond (passes d m) (past i) (within d m p)
 
+-- a kind that leaves the brackets open as they are and ends a row
+pub record Uncounted (kind : ℕ) : Type 0 where
+  pub depth : (d : ℕ) → depthAfter kind d ≡ d
+  pub row : (m : ℕ) → rowAfter kind m ≡ 0
+
 -- behind one token more: once a limit is passed, nothing is counted any longer
 unfoldable pub nestAfter : Nest → ℕ → ℕ → Nest
-nestAfter x kind start = cond (isPast x) x (counted (depthAfter kind x.depth) (rowAfter kind x.row) start x.place)
+nestAfter x kind start = cond (isPast x) (within x.depth 0 x.place) (counted (depthAfter kind x.depth) (rowAfter kind x.row) start x.place)
 
 -- behind some tokens
 abbrev pub nestOf : Nest → List Token → Nest

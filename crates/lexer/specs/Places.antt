@@ -1,6 +1,6 @@
 -- What the private functions of the lexer know of a place.
 -- Assumes nothing.
-use Rattle.std.specs.Prelude.{true, cond, List, ◌≡◌, ℕ, ◌+◌, ◌≤◌, ◌<◌, eqb, ltb, length, get_or, drop}
+use Rattle.std.specs.Prelude.{true, cond, List, ◌≡◌, ℕ, ◌+◌, ◌≤◌, ◌<◌, eqb, ltb, length, get_or, drop, Option, Some, None}
 use Rattle.text.specs.Refusals as refusal
 use Rattle.lexer.specs.Bytes.{inClasses}
 use Rattle.lexer.specs.Bytes as byte
@@ -32,3 +32,8 @@ pub record Based (s : List ℕ) (i kind most : ℕ) : Type 0 where
   pub small : most ≤ byte.HexLetter
   pub digits : inClasses byte.BinaryDigit most (get_or s (i + 2) 0) ≡ true → lexemeAt s i ≡ Token kind (i + 2 + run (inClasses byte.Underscore most) (drop (i + 2) s))
   pub others : (inClasses byte.BinaryDigit most (get_or s (i + 2) 0) ≡ true → ⊥) → lexemeAt s i ≡ decimalAt s i
+
+-- the lexeme at i, if there is an answer
+abbrev pub Maybe : List ℕ → ℕ → Option Step → Type 0
+Maybe s i None = Unit
+Maybe s i (Some t) = t ≡ lexemeAt s i

@@ -1,11 +1,11 @@
 // Bytes of a draft by their lexeme class, and runs of them.
-ghost use Rattle.std.specs.Prelude.{◌≡◌, ◌+◌, ◌≤◌, length, drop};
+ghost use Rattle.std.specs.Prelude.{true, ◌≡◌, ◌+◌, ◌≤◌, ◌<◌, length, get_or, drop};
 ghost use Rattle.lexer.specs.Chars.{run};
 ghost use Rattle.lexer.specs.Bytes.{byteClass, inClasses, ClassTable};
 
 use crate::table::CLASSES;
 
-// The table by value. A constant is laid out anew wherever it is read, so the lexer holds it once and lends it to every function.
+// The table by value. The lexing loop holds it beside its other values, where reading an entry takes no address of its own.
 pub(crate) fn class_table() -> [u8; 256]
     ensures { ClassTable result }
 {
@@ -37,4 +37,14 @@ pub(crate) fn run_end(classes: &[u8; 256], s: &[u8], i: usize, least: u8, most: 
         j += 1;
     }
     j
+}
+
+// The same, where the byte at i is known to be of the run.
+#[inline(always)]
+pub(crate) fn rest_end(classes: &[u8; 256], s: &[u8], i: usize, least: u8, most: u8) -> usize
+    requires class_table { ClassTable classes.now }
+    requires i_in_run { (i < length s.now) × (inClasses least most (get_or s.now i 0) ≡ true) }
+    ensures { result ≡ i + run (inClasses least most) (drop i s.now) }
+{
+    run_end(classes, s, i + 1, least, most)
 }

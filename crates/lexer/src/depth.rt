@@ -1,6 +1,6 @@
 // Brackets open and `match` tokens in a row, counted while lexing: refusal 7 is found in the same pass as the tokens.
 ghost use Rattle.std.specs.Prelude.{◌≡◌, ◌+◌, ◌-◌, ◌≤◌};
-ghost use Rattle.lexer.specs.Limits.{mostOpen};
+ghost use Rattle.lexer.specs.Limits.{mostOpen, depthAfter, rowAfter};
 ghost use Rattle.lexer.specs.Nesting.{within, past, isPast, counted, nestAfter, outermost};
 
 use crate::classes as class;
@@ -96,13 +96,22 @@ fn matched(nest: Nest, start: usize) -> Nest
     }
 }
 
-// Behind one token more. Once a limit is passed, nothing is counted any longer: the first token that did is the refused one.
-pub(crate) fn nest_after(nest: Nest, kind: u32, start: usize) -> Nest
-    ensures { result ≡ nestAfter nest kind start }
+// Behind a token that only ends a row.
+fn ended(nest: Nest) -> Nest
+    ensures { result ≡ within nest.depth 0 nest.place }
 {
-    if nest.depth > MOST_OPEN {
-        return nest;
+    Nest {
+        depth: nest.depth,
+        row: 0,
+        place: nest.place,
     }
+}
+
+// Behind a bracket or `match`, where no limit is passed.
+fn count_one(nest: Nest, kind: u32, start: usize) -> Nest
+    requires { nest.depth ≤ mostOpen }
+    ensures { result ≡ counted (depthAfter kind nest.depth) (rowAfter kind nest.row) start nest.place }
+{
     match kind {
         class::LPAREN => opened(nest, start),
         class::LBRACKET => opened(nest, start),
@@ -113,10 +122,33 @@ pub(crate) fn nest_after(nest: Nest, kind: u32, start: usize) -> Nest
         class::RBRACE => closed(nest),
         class::RANGLE => closed(nest),
         class::MATCH => matched(nest, start),
-        _ => Nest {
-            depth: nest.depth,
-            row: 0,
-            place: nest.place,
-        },
+        _ => ended(nest),
     }
+}
+
+// Behind a bracket or `match`. Once a limit is passed, nothing is counted any longer: the first token that did is the refused one.
+fn count_on(nest: Nest, kind: u32, start: usize) -> Nest
+    ensures { result ≡ nestAfter nest kind start }
+{
+    if nest.depth > MOST_OPEN {
+        return ended(nest);
+    }
+    count_one(nest, kind, start)
+}
+
+// Behind one token more. Names and numbers, the most frequent, have kinds behind those of brackets, so one test sets them apart.
+#[inline(always)]
+pub(crate) fn nest_after(nest: Nest, kind: u32, start: usize) -> Nest
+    ensures { result ≡ nestAfter nest kind start }
+{
+    if kind > class::RANGLE {
+        return ended(nest);
+    }
+    if kind >= class::LPAREN {
+        return count_on(nest, kind, start);
+    }
+    if kind == class::MATCH {
+        return count_on(nest, kind, start);
+    }
+    ended(nest)
 }

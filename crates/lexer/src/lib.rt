@@ -80,11 +80,15 @@ fn may_be_word(kind: u32) -> bool
 fn class_of(draft: &[u8], kind: u32, start: usize, end: usize) -> u32
     ensures { result ≡ class_of kind (part_of draft.now start end) }
 {
+    // Marks, keywords and numbers have smaller kinds. Of the others few are a word of the rules, so their kind is looked at behind the look-up.
+    if kind < classes::BOOL {
+        return kind;
+    }
+    let f = words::word(Table::RuleWords, draft, start, end);
+    let Found::Word(k) = f else {
+        return kind;
+    };
     if may_be_word(kind) {
-        let f = words::word(Table::RuleWords, draft, start, end);
-        let Found::Word(k) = f else {
-            return kind;
-        };
         return classes::WORDS + k as u32;
     }
     kind

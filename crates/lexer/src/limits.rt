@@ -47,6 +47,7 @@ fn count(room: usize, n: usize, over: usize, nest: Nest) -> Lexed
 }
 
 // Lexes the whole draft, in one pass: the refusals of the bytes, then too many tokens, then too deep. Tokens past the room are counted and not written.
+#[inline(never)]
 fn fill(draft: &[u8], out: &mut [u32], room: usize) -> Lexed
     requires { (length draft.now < 2 ^ 32) × (tokWide * room ≤ length out.old) }
     ensures result_value { meant result ≡ judgedIn room (lexemes draft.now) }
@@ -61,9 +62,10 @@ fn fill(draft: &[u8], out: &mut [u32], room: usize) -> Lexed
         let found = scan::step_with(&classes, draft, at);
         match found {
             Step::Token { kind, end } => {
-                buffer::put(out, room, n, kind, at as u32, end as u32);
-                over = first_over(n, room, at, over);
                 nest = depth::nest_after(nest, kind, at);
+                if !buffer::put(out, room, n, kind, at as u32, end as u32) {
+                    over = first_over(n, room, at, over);
+                }
                 n += 1;
                 at = end;
             }

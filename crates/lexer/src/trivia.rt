@@ -41,7 +41,8 @@ fn plain_in_block(b: u8) -> bool
     b != b'*'
 }
 
-// The line comment at i: it runs to before CR, LF or the end.
+// The line comment at i: it runs to before CR, LF or the end. In line with others, its refusal was made ready at every sequence.
+#[inline(never)]
 fn line(s: &[u8], i: usize) -> Step
     requires { (i + 1 < length s.now) × (get_or s.now i 0 ≡ 47) × (get_or s.now (i + 1) 0 ≡ 47) }
     ensures { result ≡ lexemeAt s.now i }

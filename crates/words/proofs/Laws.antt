@@ -1,25 +1,25 @@
 -- The rules of the constants against the lists of words, each computed once over the whole table, and what the proofs cite of them.
 -- Assumes nothing.
-use mathlib.Core.Bool.{Bool, true}
+use mathlib.Core.Bool.{Bool, true, false, cond, ◌&&◌, and-false}
 use mathlib.Core.List.{List, [], ◌∷◌}
-use mathlib.Core.Path.{◌≡◌, refl, sym, ◌∙◌, ap, subst}
-use Prim.Native.Nat.{ℕ, ◌+◌, ◌*◌, ◌%◌, ◌≤◌, ◌<◌}
-use native.Mathlib.Nat.{mul-le-mul_left}
+use mathlib.Core.Path.{◌≡◌, refl, sym, ◌∙◌, ap}
+use Prim.Native.Nat.{ℕ, ◌+◌, ◌-◌, ◌%◌, ◌≤◌, ◌<◌}
 use native.Mathlib.Omega.{arith}
-use borrow.Author.Tests.{lt-ltb, le-ltb}
+use borrow.Author.Tests.{lt-leb, leb-true}
 use lib.Dec.{T, eqb, leb, eqb→eq, leb→le}
-use lib.ListN.{length, get_or, take, drop, length-drop}
-use lib.Seq.{get_or-take, get_or-drop, length-take-le}
+use lib.ListN.{length, get_or, take, drop, length-take, length-drop}
+use lib.Seq.{length-take-le}
 use Rattle.text.specs.Ascii.{ascii, asciiFrom}
-use Rattle.text.specs.Same.{same}
+use Rattle.text.specs.Part.{part_of}
+use Rattle.text.specs.Same.{same, differ}
 use Rattle.text.specs.Table.{every, at, table_at, all, each, is_true}
 use Rattle.text.specs.SameLaws.{same_true}
 use Rattle.words.specs.Words.{FUNCTION_RESERVED, KEYWORDS, MACROS, MODULE_RESERVED, RULE_NAMES, BOOLEANS, RULE_WORDS, UINT_TYPES, BUILTIN_ALIASES, BOOL, TYPE_NAMES}
-use Rattle.words.specs.Layout.{tables, entries, letters, slot_of, Hash, hashes, hashFor}
-use Rattle.words.specs.Lies.{Lies, Only}
+use Rattle.words.specs.Layout.{tables, entries, letters, slot_of, Hash, hashes}
+use Rattle.words.specs.Lies.{Lies, Only, AtMost}
 use Rattle.words.specs.Right.{Says}
 use Rattle.words.specs.declared.Found.TheVariants.{Plain}
-use Rattle.words.proofs.Constants.{starts, sizes, bases, counts, slots, function-reserved-slots, keywords-slots, macros-slots, module-reserved-slots, capital-words-slots, small-words-slots}
+use Rattle.words.proofs.Constants.{starts, sizes, bases, counts, longest, slots, function-reserved-slots, keywords-slots, macros-slots, module-reserved-slots, rule-words-slots}
 
 -- ---- one test for each word of each table
 
@@ -35,27 +35,23 @@ unfolding tables
 table-count = refl
 
 abbrev none : Hash
-none = record { size = 1; second = 0; before = 0; last = 0 }
+none = record { size = 1; first = 0; second = 0; last = 0 }
 
--- what stands in the slot of p that is number h among the slots of all tables
-abbrev pub in-slots : ℕ → List ℕ → ℕ
-in-slots h p = get_or (get_or slots h []) (slot_of (get_or hashes h none).second (get_or hashes h none).before (get_or hashes h none).last p % (get_or hashes h none).size) 0
-
--- and in that of p in table t
+-- what stands in the slot of p in table t
 abbrev pub at_slot : ℕ → List ℕ → ℕ
-at_slot t p = in-slots (hashFor t p) p
+at_slot t p = get_or (get_or slots t []) (slot_of (get_or hashes t none).first (get_or hashes t none).second (get_or hashes t none).last p % (get_or hashes t none).size) 0
 
--- what is tested of word k of table t, whose bytes are w: it has from 2 to 14 bytes, its slot holds its number, its entry is the word
+-- what is tested of word k of table t, whose bytes are w: it has two bytes or more, and no more than the longest, its slot holds its number, its entry is the word
 abbrev tests : ℕ → ℕ → List ℕ → List Bool
 tests t k w =
     leb 2 (length w) ∷
-    leb (length w) 14 ∷
+    leb (length w) (get_or longest t 0) ∷
     eqb (at_slot t w) k ∷
     leb (get_or bases t 0 + k + 1) 77 ∷
     same (get_or entries (get_or bases t 0 + k) []) w ∷ []
 
 words-pass : T (everyWord (λ t k w. all (tests t k w)))
-unfolding same tables entries slot_of hashes hashFor slots function-reserved-slots keywords-slots macros-slots module-reserved-slots capital-words-slots small-words-slots bases FUNCTION_RESERVED KEYWORDS MACROS MODULE_RESERVED RULE_NAMES BOOLEANS RULE_WORDS UINT_TYPES BUILTIN_ALIASES BOOL TYPE_NAMES ascii asciiFrom
+unfolding same tables entries slot_of hashes slots function-reserved-slots keywords-slots macros-slots module-reserved-slots rule-words-slots longest bases FUNCTION_RESERVED KEYWORDS MACROS MODULE_RESERVED RULE_NAMES BOOLEANS RULE_WORDS UINT_TYPES BUILTIN_ALIASES BOOL TYPE_NAMES ascii asciiFrom
 words-pass = tt
 
 module _ (t k : ℕ) (h : t < 5) (l : k < length (get_or tables t [])) where
@@ -65,7 +61,7 @@ module _ (t k : ℕ) (h : t < 5) (l : k < length (get_or tables t [])) where
   pub word-long : 2 ≤ length (get_or (get_or tables t []) k [])
   word-long = leb→le _ _ (pass 0)
 
-  pub word-short : length (get_or (get_or tables t []) k []) ≤ 14
+  word-short : length (get_or (get_or tables t []) k []) ≤ get_or longest t 0
   word-short = leb→le _ _ (pass 1)
 
   slot-holds : at_slot t (get_or (get_or tables t []) k []) ≡ k
@@ -78,29 +74,53 @@ module _ (t k : ℕ) (h : t < 5) (l : k < length (get_or tables t [])) where
   entry-is = same_true _ _ (is_true _ (pass 4))
 
 -- bytes of another length are no word
-module _ (t : ℕ) (h : t < 5) (p : List ℕ) where
-  pub too_short : length p < 2 → Says (get_or tables t []) p Plain
-  too_short s k l e = omega (arith, word-long t k h l, ap length e)
+pub too_short : (t : ℕ) → t < 5 → (p : List ℕ) → length p < 2 → Says (get_or tables t []) p Plain
+too_short t h p s k l e = omega (arith, word-long t k h l, ap length e)
 
-  pub too_long : 14 < length p → Says (get_or tables t []) p Plain
-  too_long s k l e = omega (arith, word-short t k h l, ap length e)
+pub too_long : {ws : List (List ℕ)} {n : ℕ} → AtMost ws n → (p : List ℕ) → n < length p → Says ws p Plain
+too_long m p s k l e = omega (arith, m.short k l, ap length e)
+
+pub longest-at : (t : ℕ) → t < 5 → AtMost (get_or tables t []) (get_or longest t 0)
+longest-at t h = record { short = λ k l. word-short t k h l }
+
+pub longest_few : (t : ℕ) → t < 5 → get_or longest t 0 ≤ 14
+unfolding longest
+longest_few t h = leb→le _ _ (at (λ t n. leb n 14) longest 0 tt t h)
+
+-- ---- the part of a draft
+
+part_size : (d : List ℕ) (s e : ℕ) → length (part_of d s e) ≤ e - s
+unfolding part_of
+part_size d s e = go (leb s e && leb e (length d))
+  where
+    go : (b : Bool) → length (cond b (take (e - s) (drop s d)) []) ≤ e - s
+    go true = omega (arith, length-take (e - s) (drop s d))
+    go false = omega arith
+
+second : (a b : Bool) → (a && b) ≡ true → b ≡ true
+second true b q = q
+second false b q = differ q
+
+module _ (t : ℕ) (h : t < 5) (d : List ℕ) (s e : ℕ) where
+  pub short_part : e - s < 2 → Says (get_or tables t []) (part_of d s e) Plain
+  short_part k = too_short t h _ (omega (arith, part_size d s e))
+
+  -- a part out of range is empty
+  pub part_out : length d < e → Says (get_or tables t []) (part_of d s e) Plain
+  unfolding part_of
+  part_out k = simp (lt-leb _ _ k, and-false) (too_short t h [] (omega arith))
+
+  pub long_part : {n : ℕ} → AtMost (get_or tables t []) n → n < e - s → Says (get_or tables t []) (part_of d s e) Plain
+  unfolding part_of
+  long_part {n} m k = go (leb s e && leb e (length d)) refl
+    where
+      go : (b : Bool) → (leb s e && leb e (length d)) ≡ b → Says (get_or tables t []) (cond b (take (e - s) (drop s d)) []) Plain
+      go true q = let l = leb-true e (length d) (second (leb s e) _ q) in too_long m _ (omega (arith, length-take-le (e - s) (drop s d), length-drop s d))
+      go false q = too_short t h [] (omega arith)
 
 -- p can be no other word of table t than the one that its slot holds
 pub only_at : (t : ℕ) → t < 5 → (p : List ℕ) → Only (get_or tables t []) p (at_slot t p)
 only_at t h p = record { is = λ k l e. ap (at_slot t) (sym e) ∙ slot-holds t k h l }
-
--- the rules' words have two parts, by the first byte
-module _ (p : List ℕ) where
-  by_part : (h : ℕ) → hashFor 4 p ≡ h → Only (get_or tables 4 []) p (in-slots h p)
-  by_part h e = subst (λ k. Only (get_or tables 4 []) p (in-slots k p)) e (only_at 4 (omega arith) p)
-
-  pub only-capital : get_or p 0 0 < 97 → Only (get_or tables 4 []) p (in-slots 4 p)
-  unfolding hashFor
-  only-capital h = by_part 4 (simp (lt-ltb (get_or p 0 0) 97 h))
-
-  pub only-small : 97 ≤ get_or p 0 0 → Only (get_or tables 4 []) p (in-slots 5 p)
-  unfolding hashFor
-  only-small h = by_part 5 (simp (le-ltb (get_or p 0 0) 97 h))
 
 pub count_at : (t : ℕ) → t < 5 → get_or counts t 0 ≡ length (get_or tables t [])
 unfolding counts tables FUNCTION_RESERVED KEYWORDS MACROS MODULE_RESERVED RULE_NAMES BOOLEANS RULE_WORDS UINT_TYPES BUILTIN_ALIASES BOOL TYPE_NAMES
@@ -139,18 +159,6 @@ module _ (e : ℕ) (h : e < 77) where
       let i = leb→le (get_or starts e 0 + length (get_or entries e [])) 359 (entry-pass 1) in
       record { inside = omega (arith, letter-count); spelt = same_true _ _ (is_true _ (entry-pass 2)) }
 
--- what the loop over p's bytes wants of the letters from a place on
-module _ (start n j : ℕ) (h : start + n ≤ 359) (l : j < n) where
-  pub spelt : get_or letters (start + j) 0 ≡ get_or (take n (drop start letters)) j 0
-  spelt = sym (get_or-drop start letters j 0) ∙ sym (get_or-take n (drop start letters) j 0 l)
-
-pub part_length : (start n : ℕ) → start + n ≤ 359 → length (take n (drop start letters)) ≡ n
-part_length start n h = length-take-le n (drop start letters) (omega (arith, length-drop start letters, letter-count))
-
 -- a word of as many bytes as p stands there
 pub word-there : {r : ℕ} {w : List ℕ} → Lies r w → (n : ℕ) → n ≡ length w → (r + n ≤ 359) × (take n (drop r letters) ≡ w)
 word-there {r} {w} v n e = (omega (arith, letter-count, v.inside), ap (λ m. take m (drop r letters)) e ∙ v.spelt)
-
--- a product of two numbers below 256
-pub small : (a b : ℕ) → a < 256 → b < 256 → a * b ≤ 65025
-small a b h l = omega (arith, mul-le-mul_left {m = b} {n = 255} a (omega arith))

@@ -11,3 +11,7 @@ pub record Lies (r : ℕ) (w : List ℕ) : Type 0 where
 -- if p is a word of the list, it is word number r
 pub record Only (ws : List (List ℕ)) (p : List ℕ) (r : ℕ) : Type 0 where
   pub is : (k : ℕ) → k < length ws → get_or ws k [] ≡ p → r ≡ k
+
+-- no word of the list has more than n bytes
+pub record AtMost (ws : List (List ℕ)) (n : ℕ) : Type 0 where
+  pub short : (k : ℕ) → k < length ws → length (get_or ws k []) ≤ n

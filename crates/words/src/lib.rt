@@ -1,12 +1,12 @@
 // Which word of a table a part of a draft is, from constant tables of byte offsets and lengths.
 #![tactic(auto)]
 
-ghost use Rattle.std.specs.Prelude.{◌≡◌, [], ℕ, ◌+◌, ◌≤◌, ◌<◌, get_or, length, take, drop};
+ghost use Rattle.std.specs.Prelude.{◌≡◌, [], ℕ, ◌+◌, ◌-◌, ◌≤◌, ◌<◌, get_or, length, take, drop};
 ghost use Rattle.text.specs.Part.{part_of};
 ghost use Rattle.text.specs.Same.{same};
 ghost use Rattle.words.specs.Words.{words_of, word_of};
 ghost use Rattle.words.specs.Layout.{tables, entries, letters, slot_of};
-ghost use Rattle.words.specs.Lies.{Lies, Only};
+ghost use Rattle.words.specs.Lies.{Lies, Only, AtMost};
 
 mod layout;
 
@@ -63,27 +63,24 @@ fn entry(t: usize, k: usize) -> usize
     wide(layout::BASES[t]) + k
 }
 
-// The slot that p's length and four of its bytes lead to, by the multipliers of its second, last but one and last byte.
-fn slot(p: &[u8], second: usize, before: usize, last: usize) -> usize
-    requires { (2 ≤ length p.now) × (length p.now ≤ 14) × (second < 256) × (before < 256) × (last < 256) }
-    ensures { result ≡ slot_of second before last p.now }
+// How many bytes the longest word of table t has.
+fn longest(t: usize) -> usize
+    requires { t < 5 }
+    ensures { (result ≤ 14) × AtMost (get_or tables t []) result }
 {
-    let n = p.len();
-    let b = wide(p[1]);
-    let c = wide(p[n - 2]);
-    let d = wide(p[n - 1]);
-    n + wide(p[0]) + second * b + before * c + last * d
+    wide(layout::LONGEST[t])
 }
 
-// The only word of the rules that p can be. Those that begin with a capital have slots of their own.
-fn rule_word(p: &[u8]) -> usize
-    requires { (2 ≤ length p.now) × (length p.now ≤ 14) }
-    ensures { Only (get_or tables 4 []) p.now result }
+// The slot that p's length and three of its bytes lead to, by the multipliers of its first, second and last byte.
+fn slot(p: &[u8], first: usize, second: usize, last: usize) -> usize
+    requires { (2 ≤ length p.now) × (length p.now ≤ 14) × (first < 256) × (second < 256) × (last < 256) }
+    ensures { result ≡ slot_of first second last p.now }
 {
-    if p[0] < b'a' {
-        return wide(layout::CAPITAL_WORDS_SLOTS[slot(p, 39, 10, 27) % 64]);
-    }
-    wide(layout::SMALL_WORDS_SLOTS[slot(p, 6, 0, 13) % 64])
+    let n = p.len();
+    let a = wide(p[0]);
+    let b = wide(p[1]);
+    let c = wide(p[n - 1]);
+    n + first * a + second * b + last * c
 }
 
 // The only word of table t that p can be; past the table's words where there is none.
@@ -92,27 +89,36 @@ fn candidate(t: usize, p: &[u8]) -> usize
     ensures { Only (get_or tables t []) p.now result }
 {
     match t {
-        0 => wide(layout::FUNCTION_RESERVED_SLOTS[slot(p, 14, 6, 9) % 16]),
-        1 => wide(layout::KEYWORDS_SLOTS[slot(p, 1, 0, 15) % 32]),
-        2 => wide(layout::MACROS_SLOTS[slot(p, 1, 2, 1) % 4]),
-        3 => wide(layout::MODULE_RESERVED_SLOTS[slot(p, 1, 0, 2) % 4]),
-        _ => rule_word(p),
+        0 => wide(layout::FUNCTION_RESERVED_SLOTS[slot(p, 2, 0, 0) % 128]),
+        1 => wide(layout::KEYWORDS_SLOTS[slot(p, 1, 4, 0) % 128]),
+        2 => wide(layout::MACROS_SLOTS[slot(p, 0, 0, 0) % 128]),
+        3 => wide(layout::MODULE_RESERVED_SLOTS[slot(p, 0, 0, 0) % 128]),
+        _ => wide(layout::RULE_WORDS_SLOTS[slot(p, 4, 11, 8) % 256]),
     }
 }
 
-// Whether the bytes among the letters from start on are p.
-fn spells(bytes: &[u8; 359], p: &[u8], start: usize) -> bool
-    requires { (bytes.now ≡ letters) × (start + length p.now ≤ 359) }
-    ensures { result ≡ same p.now (take (length p.now) (drop start letters)) }
+// Whether two parts of the same length have the same bytes.
+fn spells(p: &[u8], w: &[u8]) -> bool
+    requires { length p.now ≡ length w.now }
+    ensures { result ≡ same p.now w.now }
 {
     let mut j: usize = 0;
     while j < p.len() {
-        if p[j] != bytes[start + j] {
+        if p[j] != w[j] {
             return false;
         }
         j += 1;
     }
     true
+}
+
+// Whether p stands among the letters from start on.
+fn stands(bytes: &[u8; 359], p: &[u8], start: usize) -> bool
+    requires { (bytes.now ≡ letters) × (start + length p.now ≤ 359) }
+    ensures { result ≡ same p.now (take (length p.now) (drop start letters)) }
+{
+    let w = &bytes[start..start + p.len()];
+    spells(p, w)
 }
 
 // Whether p is the word of entry e.
@@ -125,20 +131,15 @@ fn is_word(p: &[u8], e: usize) -> bool
         return false;
     }
     let start = begin(e);
-    spells(&layout::LETTERS, p, start)
+    stands(&layout::LETTERS, p, start)
 }
 
-fn word_in(t: usize, p: &[u8]) -> Found
-    requires { t < 5 }
+// Which word of table t p is, by the only one that it can be.
+#[inline(always)]
+fn look_up(t: usize, p: &[u8]) -> Found
+    requires { (t < 5) × (2 ≤ length p.now) × (length p.now ≤ 14) }
     ensures { result ≡ word_of (get_or tables t []) p.now }
 {
-    // Every word has from 2 to 14 bytes.
-    if p.len() < 2 {
-        return Found::Plain;
-    }
-    if p.len() > 14 {
-        return Found::Plain;
-    }
     let k = candidate(t, p);
     let n = count(t);
     if k >= n {
@@ -163,10 +164,45 @@ fn number(table: Table) -> usize
     }
 }
 
-// Which word of the table the part of the draft from start up to end is.
+// Which word of the table p is. Every word has two bytes or more.
+#[inline(always)]
+pub fn which(table: Table, p: &[u8]) -> Found
+    ensures { result ≡ word_of (words_of table) p.now }
+{
+    let t = number(table);
+    if p.len() < 2 {
+        return Found::Plain;
+    }
+    let m = longest(t);
+    if p.len() > m {
+        return Found::Plain;
+    }
+    look_up(t, p)
+}
+
+// How many bytes stand from start up to end: none if start is past the end.
+fn between(start: usize, end: usize) -> usize
+    ensures { result ≡ end - start }
+{
+    if start < end { end - start } else { 0 }
+}
+
+// Which word of the table the part of the draft from start up to end is. Its length is looked at first, since most names of one byte stop there.
+#[inline(always)]
 pub fn word(table: Table, draft: &[u8], start: usize, end: usize) -> Found
     ensures { result ≡ word_of (words_of table) (part_of draft.now start end) }
 {
     let t = number(table);
-    word_in(t, text::part(draft, start, end))
+    let n = between(start, end);
+    if n < 2 {
+        return Found::Plain;
+    }
+    let m = longest(t);
+    if n > m {
+        return Found::Plain;
+    }
+    if end > draft.len() {
+        return Found::Plain;
+    }
+    look_up(t, &draft[start..end])
 }

@@ -11,9 +11,9 @@ use Rattle.words.proofs.is_word.Goals as goal
 pub returns-then-p-n : goal.returns-then-p-n
 returns-then-p-n c = sym (same_length _ _ (λ e. c.if-p-n.true (e ∙ sym c.size-n.ensures)))
 
-pub spells-requires : goal.spells-requires
+pub stands-requires : goal.stands-requires
 unfolding letters ascii asciiFrom
-spells-requires c = (refl, (word-there c.begin-start.ensures _ (c.if-p-n.false ∙ c.size-n.ensures)).0)
+stands-requires c = (refl, (word-there c.begin-start.ensures _ (c.if-p-n.false ∙ c.size-n.ensures)).0)
 
 pub returns : goal.returns
-returns c = c.spells.ensures ∙ ap (λ w. same c.args.p.now w) (word-there c.begin-start.ensures _ (c.if-p-n.false ∙ c.size-n.ensures)).1
+returns c = c.stands.ensures ∙ ap (λ w. same c.args.p.now w) (word-there c.begin-start.ensures _ (c.if-p-n.false ∙ c.size-n.ensures)).1

@@ -1,12 +1,11 @@
 -- The loop keeps whether the rests are equal.
 -- Assumes nothing.
-use Rattle.std.proofs.Common.{length, ◌-◌, ◌≡◌, ◌≤◌, take, drop}
+use Rattle.std.proofs.Common.{length, ◌-◌, ◌≡◌, ◌≤◌, drop}
 use Rattle.text.specs.Same.{same}
-use Rattle.words.specs.Layout.{letters}
 use Rattle.words.proofs.spells.Given as goal
 
 abbrev pub invariant-loop-j : goal.invariant-loop-j
-invariant-loop-j l = (l.j ≤ length l.p) × (same (drop l.j l.p) (drop l.j (take (length l.p) (drop l.start letters))) ≡ same l.p (take (length l.p) (drop l.start letters)))
+invariant-loop-j l = (l.j ≤ length l.p) × (same (drop l.j l.p) (drop l.j l.w) ≡ same l.p l.w)
 
 abbrev pub decreases-loop-j : goal.decreases-loop-j
 decreases-loop-j l = length l.p - l.j

@@ -4,10 +4,10 @@ use borrow.Author.Tests.{lt-ltb, le-ltb}
 use Rattle.lexer.specs.Buffer.{put_at}
 use Rattle.lexer.proofs.buffer.put.Goals as goal
 
-pub returns-then-n-room : goal.returns-then-n-room
+pub returns-then-n-room-clause-out_after : goal.returns-then-n-room-clause-out_after
 unfolding put_at
-returns-then-n-room c = simp (lt-ltb _ _ c.if-n-room.true)
+returns-then-n-room-clause-out_after c = simp (lt-ltb _ _ c.if-n-room.true)
 
-pub returns-else-n-room : goal.returns-else-n-room
+pub returns-clause-out_after : goal.returns-clause-out_after
 unfolding put_at
-returns-else-n-room c = simp (le-ltb _ _ c.if-n-room.false)
+returns-clause-out_after c = simp (le-ltb _ _ c.if-n-room.false)

@@ -1,59 +1,11 @@
--- Each bracket and `match` by its kind; every other token ends a row and leaves the depth.
+-- Kinds that are neither between the brackets' nor that of `match` are not counted.
 -- Assumes nothing.
-use Rattle.std.proofs.Common.{◌≡◌, ◌∙◌, false, eqb, rules, tests}
-use Rattle.lexer.specs.Limits.{depthAfter, rowAfter}
-use Rattle.lexer.proofs.Nesting.{closes, row_ends, nest-passed, nest-counts}
+use Rattle.std.proofs.Common.{◌∙◌, arith}
+use Rattle.lexer.proofs.Nesting.{uncounted, nest-uncounted}
 use Rattle.lexer.proofs.depth.nest_after.Goals as goal
 
-pub returns-then-nest-gt-MOST_OPEN : goal.returns-then-nest-gt-MOST_OPEN
-returns-then-nest-gt-MOST_OPEN c = nest-passed _ _ _ c.if-nest-gt-MOST_OPEN.true
+pub returns-then-kind-gt-RANGLE : goal.returns-then-kind-gt-RANGLE
+returns-then-kind-gt-RANGLE c = c.ended.ensures ∙ nest-uncounted _ _ _ (uncounted _ (λ z. absurd (omega arith)) (λ b h l e. absurd (omega arith)))
 
-pub returns-in-20 : goal.returns-in-20
-unfolding depthAfter rowAfter
-returns-in-20 c = nest-counts _ _ _ c.if-nest-gt-MOST_OPEN.false (rw c.in-20.is c.opened.ensures)
-
-pub returns-in-22 : goal.returns-in-22
-unfolding depthAfter rowAfter
-returns-in-22 c = nest-counts _ _ _ c.if-nest-gt-MOST_OPEN.false (rw c.in-22.is c.opened-in-22.ensures)
-
-pub returns-in-24 : goal.returns-in-24
-unfolding depthAfter rowAfter
-returns-in-24 c = nest-counts _ _ _ c.if-nest-gt-MOST_OPEN.false (rw c.in-24.is c.opened-in-24.ensures)
-
-pub returns-in-26 : goal.returns-in-26
-unfolding depthAfter rowAfter
-returns-in-26 c = nest-counts _ _ _ c.if-nest-gt-MOST_OPEN.false (rw c.in-26.is c.opened-in-26.ensures)
-
-pub returns-in-21 : goal.returns-in-21
-unfolding depthAfter rowAfter
-returns-in-21 c = nest-counts _ _ _ c.if-nest-gt-MOST_OPEN.false (rw c.in-21.is (c.closed.ensures ∙ closes _ _ _ c.if-nest-gt-MOST_OPEN.false))
-
-pub returns-in-23 : goal.returns-in-23
-unfolding depthAfter rowAfter
-returns-in-23 c = nest-counts _ _ _ c.if-nest-gt-MOST_OPEN.false (rw c.in-23.is (c.closed-in-23.ensures ∙ closes _ _ _ c.if-nest-gt-MOST_OPEN.false))
-
-pub returns-in-25 : goal.returns-in-25
-unfolding depthAfter rowAfter
-returns-in-25 c = nest-counts _ _ _ c.if-nest-gt-MOST_OPEN.false (rw c.in-25.is (c.closed-in-25.ensures ∙ closes _ _ _ c.if-nest-gt-MOST_OPEN.false))
-
-pub returns-in-27 : goal.returns-in-27
-unfolding depthAfter rowAfter
-returns-in-27 c = nest-counts _ _ _ c.if-nest-gt-MOST_OPEN.false (rw c.in-27.is (c.closed-in-27.ensures ∙ closes _ _ _ c.if-nest-gt-MOST_OPEN.false))
-
-pub returns-in-9 : goal.returns-in-9
-unfolding depthAfter rowAfter
-returns-in-9 c = nest-counts _ _ _ c.if-nest-gt-MOST_OPEN.false (rw c.in-9.is c.matched.ensures)
-
-pub returns-in_default : goal.returns-in_default
-unfolding depthAfter rowAfter
-returns-in_default c =
-    let e20 : eqb c.args.kind 20 ≡ false = search (tests, rules) in
-    let e22 : eqb c.args.kind 22 ≡ false = search (tests, rules) in
-    let e24 : eqb c.args.kind 24 ≡ false = search (tests, rules) in
-    let e26 : eqb c.args.kind 26 ≡ false = search (tests, rules) in
-    let e21 : eqb c.args.kind 21 ≡ false = search (tests, rules) in
-    let e23 : eqb c.args.kind 23 ≡ false = search (tests, rules) in
-    let e25 : eqb c.args.kind 25 ≡ false = search (tests, rules) in
-    let e27 : eqb c.args.kind 27 ≡ false = search (tests, rules) in
-    let e9 : eqb c.args.kind 9 ≡ false = search (tests, rules) in
-    nest-counts _ _ _ c.if-nest-gt-MOST_OPEN.false (simp (e20, e22, e24, e26, e21, e23, e25, e27, e9) (row_ends _ _ _ c.if-nest-gt-MOST_OPEN.false))
+pub returns : goal.returns
+returns c = c.ended-2.ensures ∙ nest-uncounted _ _ _ (uncounted _ c.if-kind-eq-MATCH.false (λ b h l e. absurd (omega arith)))

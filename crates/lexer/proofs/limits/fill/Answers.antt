@@ -1,8 +1,9 @@
 -- The lexemes that are left, with the tokens found, are those of the draft.
 -- Assumes nothing.
-use Rattle.std.proofs.Common.{sym, ◌∙◌, ap, arith}
+use Rattle.std.proofs.Common.{◌≡◌, cond, eqb, sym, ◌∙◌, ap, arith}
 use Rattle.lexer.specs.Limits.{judgedIn}
-use Rattle.lexer.proofs.Filling.{fill_start, fill-leads, fill-trivia, fill-token, fill-refused, fill-answer, fill-held}
+use Rattle.lexer.proofs.Filling.{fill_start, over-stays, fill-leads, fill-trivia, fill-token, fill-refused, fill-answer, fill-held}
+use Rattle.lexer.proofs.limits.fill.Goals.{then-not-put, else-not-put}
 use Rattle.lexer.proofs.limits.fill.Goals as goal
 
 pub loop-kind-init : goal.loop-kind-init
@@ -20,8 +21,15 @@ loop-kind-smaller-in-Token c =
 
 pub loop-kind-preserved-in-Token : goal.loop-kind-preserved-in-Token
 loop-kind-preserved-in-Token c =
-    rw (c.nest_after-nest.ensures, c.first_over-over.ensures, c.put.ensures)
-    (fill-token c.loop-kind.invariant _ _ (sym c.step_with-found.ensures ∙ c.in-Token.is) c.requires.1)
+    let l = c.loop-kind in
+    let o : c.if-not-put.over ≡ cond (eqb l.n c.args.room) l.at l.over =
+    elim c.if-not-put.branch [
+      | then-not-put w ↦ w.over-is ∙ w.first_over-over.ensures
+      | else-not-put w ↦ w.over-is ∙ over-stays _ _ _ _ (sym c.put.ensures.is_written ∙ w.if-not-put.false)
+    ]
+    in
+    rw (c.nest_after-nest.ensures, o, c.put.ensures.out_after)
+    (fill-token l.invariant _ _ (sym c.step_with-found.ensures ∙ c.in-Token.is) c.requires.1)
 
 pub loop-kind-smaller : goal.loop-kind-smaller
 loop-kind-smaller c =

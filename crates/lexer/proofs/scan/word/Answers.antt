@@ -1,19 +1,27 @@
 -- The word found decides.
 -- Assumes nothing.
-use Rattle.std.proofs.Common.{sym, ◌∙◌}
+use Rattle.std.proofs.Common.{sym, ◌∙◌, ap, arith}
 use Rattle.words.specs.Right.{below}
-use Rattle.words.specs.Words.{KEYWORDS, words_of}
-use Rattle.lexer.proofs.Names.{at_plain, at-keyword}
+use Rattle.words.specs.Words.{KEYWORDS, words_of, word_of}
+use Rattle.lexer.proofs.Names.{sliced, at_plain, at-keyword}
 use Rattle.lexer.proofs.scan.word.Goals as goal
+
+pub slice_bounds-which-start : goal.slice_bounds-which-start
+slice_bounds-which-start c = let n = c.requires.0.ends in omega arith
+
+pub slice_bounds-which-end : goal.slice_bounds-which-end
+slice_bounds-which-end c = c.requires.0.within
 
 pub keyword-requires : goal.keyword-requires
 unfolding words_of
-keyword-requires c = below KEYWORDS _ _ (sym c.word.ensures ∙ c.in-Word.is)
+keyword-requires c = below KEYWORDS _ _ (sym c.which.ensures ∙ c.in-Word.is)
 
 pub returns-in-Word : goal.returns-in-Word
 unfolding words_of
-returns-in-Word c = c.keyword.ensures ∙ at-keyword _ _ _ c.requires.0 _ c.requires.1 c.requires.2 (sym c.word.ensures ∙ c.in-Word.is)
+returns-in-Word c =
+    c.keyword.ensures ∙ at-keyword _ _ _ c.requires.0 _ c.requires.1 c.requires.2 (ap (word_of KEYWORDS) (sym (sliced _ _ _ c.requires.0)) ∙ sym c.which.ensures ∙ c.in-Word.is)
 
 pub returns-in-Plain : goal.returns-in-Plain
 unfolding words_of
-returns-in-Plain c = at_plain _ _ _ c.requires.0 c.requires.1 c.requires.2 (sym c.word.ensures ∙ c.in-Plain.is)
+returns-in-Plain c =
+    at_plain _ _ _ c.requires.0 c.requires.1 c.requires.2 (ap (word_of KEYWORDS) (sym (sliced _ _ _ c.requires.0)) ∙ sym c.which.ensures ∙ c.in-Plain.is)

@@ -1,17 +1,10 @@
--- Where the length fits, one candidate decides.
+-- One candidate decides.
 -- Assumes nothing.
 use Rattle.std.proofs.Common.{sym, ◌∙◌, ap, arith}
 use Rattle.text.specs.Same.{same}
 use Rattle.text.specs.SameLaws.{same_true}
 use Rattle.words.specs.Right.{is_word, is_plain, past, other}
-use Rattle.words.proofs.Laws.{too_short, too_long}
-use Rattle.words.proofs.word_in.Goals as goal
-
-pub returns-then-p-lt2 : goal.returns-then-p-lt2
-returns-then-p-lt2 c = sym (is_plain _ _ (too_short _ c.requires _ c.if-p-lt2.true))
-
-pub returns-then-p-gt14 : goal.returns-then-p-gt14
-returns-then-p-gt14 c = sym (is_plain _ _ (too_long _ c.requires _ c.if-p-gt14.true))
+use Rattle.words.proofs.look_up.Goals as goal
 
 pub returns-then-k-n : goal.returns-then-k-n
 returns-then-k-n c = sym (is_plain _ _ (past _ _ _ c.candidate-k.ensures (omega (arith, c.count-n.ensures, c.if-k-n.true))))
