@@ -1,5 +1,6 @@
 // The cycle of expressions: an expression may hold a block, a block statements, a statement an expression again. docs/DECISIONS.md says
 // which file of the Rust each function comes from.
+// What is read most often is inlined where it is called. The rest stands apart, and takes no room in the frames of the others.
 ghost use Rattle.std.specs.Prelude.{◌≡◌, ◌<◌, if◌then◌else◌, nat_eq};
 ghost use Rattle.lexer.specs.Classes as t;
 ghost use Rattle.theory.specs.Machine.{choose};
@@ -30,6 +31,7 @@ fn first(lone: u32) -> u32
 }
 
 // A boolean, a number, a witness or a parameter.
+#[inline(always)]
 fn literal(draft: &[u8], tokens: &[u32], count: usize, tree: &mut [u32], st: State) -> Step
     requires ready { Ready (text draft.now tokens.now count) st }
     requires class_value { choose table n-single st.class ≡ choice.Literal }
@@ -47,20 +49,23 @@ fn literal(draft: &[u8], tokens: &[u32], count: usize, tree: &mut [u32], st: Sta
     Step::Next(a, 0, 0)
 }
 
-// An expression: a block or any other. `Expression::parser`.
+// An expression: a block or any other. `Expression::parser`. For the variable see `single`.
 #[cycle(expression)]
+#[inline(always)]
 pub(crate) fn expr(draft: &[u8], tokens: &[u32], count: usize, tree: &mut [u32], st: State) -> Step
     requires { Ready (text draft.now tokens.now count) st }
     ensures { Parses n-expression (Node ExprKind) draft.now tokens.now count st tree.old tree.new result }
 {
     if st.class == class::LBRACE {
-        return block(draft, tokens, count, tree, st);
+        let step = block(draft, tokens, count, tree, st);
+        return step;
     }
     single(draft, tokens, count, tree, st)
 }
 
 // `{ elements }`. `Expression::parser`.
 #[cycle(expression)]
+#[inline(never)]
 pub(crate) fn block(draft: &[u8], tokens: &[u32], count: usize, tree: &mut [u32], st: State) -> Step
     requires ready { Ready (text draft.now tokens.now count) st }
     requires class_value { st.class ≡ t.LBrace }
@@ -81,6 +86,7 @@ pub(crate) fn block(draft: &[u8], tokens: &[u32], count: usize, tree: &mut [u32]
 
 // What stands between the braces of a block, and 1 if its last element is an expression without `;`. `split_block_body`, `Statement::parser`.
 #[cycle(expression)]
+#[inline(always)]
 fn elems(draft: &[u8], tokens: &[u32], count: usize, tree: &mut [u32], st: State) -> Step
     requires { Ready (text draft.now tokens.now count) st }
     ensures { Parses n-elements Elements draft.now tokens.now count st tree.old tree.new result }
@@ -113,6 +119,7 @@ fn elems(draft: &[u8], tokens: &[u32], count: usize, tree: &mut [u32], st: State
 
 // `let p: T = e`. `Assignment::parser`.
 #[cycle(expression)]
+#[inline(always)]
 fn assign(draft: &[u8], tokens: &[u32], count: usize, tree: &mut [u32], st: State) -> Step
     requires ready { Ready (text draft.now tokens.now count) st }
     requires class_value { st.class ≡ t.Let }
@@ -143,8 +150,10 @@ fn assign(draft: &[u8], tokens: &[u32], count: usize, tree: &mut [u32], st: Stat
     Step::Next(z, 0, 0)
 }
 
-// An expression that is no block. `SingleExpression::parser`.
+// An expression that is no block. `SingleExpression::parser`. What a function that stands apart answers has a variable of its own: so the
+// other answers stay in registers.
 #[cycle(expression)]
+#[inline(always)]
 pub(crate) fn single(
     draft: &[u8],
     tokens: &[u32],
@@ -155,25 +164,27 @@ pub(crate) fn single(
     requires { Ready (text draft.now tokens.now count) st }
     ensures { Parses n-single (Node ExprKind) draft.now tokens.now count st tree.old tree.new result }
 {
-    match choice::singles(st.class) {
-        choice::LITERAL => literal(draft, tokens, count, tree, st),
+    let step = match choice::singles(st.class) {
+        choice::LITERAL => return literal(draft, tokens, count, tree, st),
         choice::PARENS => parens(draft, tokens, count, tree, st),
         choice::ARRAY => array(draft, tokens, count, tree, st),
         choice::LIST => list(draft, tokens, count, tree, st),
         choice::MATCH => cases(draft, tokens, count, tree, st),
         choice::SIMPLE_CALL => c::simple(draft, tokens, count, tree, st),
         choice::CAST_CALL => c::cast(draft, tokens, count, tree, st),
-        choice::NAMED => c::named(draft, tokens, count, tree, st),
+        choice::NAMED => return c::named(draft, tokens, count, tree, st),
         choice::BARE => c::bare(draft, tokens, count, tree, st),
         choice::TYPED => c::generic(draft, tokens, count, tree, st, choice::TYPED),
         choice::FOLDING => c::generic(draft, tokens, count, tree, st, choice::FOLDING),
         choice::FOR_WHILE => c::generic(draft, tokens, count, tree, st, choice::FOR_WHILE),
-        _ => Step::Refused(st.at),
-    }
+        _ => return Step::Refused(st.at),
+    };
+    step
 }
 
 // `(e)`, or a tuple.
 #[cycle(expression)]
+#[inline(never)]
 fn parens(draft: &[u8], tokens: &[u32], count: usize, tree: &mut [u32], st: State) -> Step
     requires ready { Ready (text draft.now tokens.now count) st }
     requires class_value { choose table n-single st.class ≡ choice.Parens }
@@ -201,6 +212,7 @@ fn parens(draft: &[u8], tokens: &[u32], count: usize, tree: &mut [u32], st: Stat
 
 // `[e, …]`
 #[cycle(expression)]
+#[inline(never)]
 fn array(draft: &[u8], tokens: &[u32], count: usize, tree: &mut [u32], st: State) -> Step
     requires ready { Ready (text draft.now tokens.now count) st }
     requires class_value { choose table n-single st.class ≡ choice.Array }
@@ -221,6 +233,7 @@ fn array(draft: &[u8], tokens: &[u32], count: usize, tree: &mut [u32], st: State
 
 // `list![e, …]`
 #[cycle(expression)]
+#[inline(never)]
 fn list(draft: &[u8], tokens: &[u32], count: usize, tree: &mut [u32], st: State) -> Step
     requires ready { Ready (text draft.now tokens.now count) st }
     requires class_value { choose table n-single st.class ≡ choice.List }
@@ -245,6 +258,7 @@ fn list(draft: &[u8], tokens: &[u32], count: usize, tree: &mut [u32], st: State)
 
 // Expressions with commas between them, up to what closes them; and 1 if it is one without a comma.
 #[cycle(expression)]
+#[inline(always)]
 pub(crate) fn exprs(draft: &[u8], tokens: &[u32], count: usize, tree: &mut [u32], st: State) -> Step
     requires { Ready (text draft.now tokens.now count) st }
     ensures { Parses n-list-expression Lone draft.now tokens.now count st tree.old tree.new result }
@@ -267,6 +281,7 @@ pub(crate) fn exprs(draft: &[u8], tokens: &[u32], count: usize, tree: &mut [u32]
 
 // `match e { arms }`. `match_expr_parser`, `assemble_match_arms`.
 #[cycle(expression)]
+#[inline(never)]
 fn cases(draft: &[u8], tokens: &[u32], count: usize, tree: &mut [u32], st: State) -> Step
     requires ready { Ready (text draft.now tokens.now count) st }
     requires class_value { choose table n-single st.class ≡ choice.Match }
@@ -297,6 +312,7 @@ fn cases(draft: &[u8], tokens: &[u32], count: usize, tree: &mut [u32], st: State
 
 // Arms, up to the brace that closes them; their order, and the first record after the first of them.
 #[cycle(expression)]
+#[inline(always)]
 fn arms(draft: &[u8], tokens: &[u32], count: usize, tree: &mut [u32], st: State) -> Step
     requires ready { Ready (text draft.now tokens.now count) st }
     requires out_lt_at { st.out < st.at }
@@ -319,6 +335,7 @@ fn arms(draft: &[u8], tokens: &[u32], count: usize, tree: &mut [u32], st: State)
 
 // An arm; its kind and low. `match_arm_parser`.
 #[cycle(expression)]
+#[inline(always)]
 fn arm(draft: &[u8], tokens: &[u32], count: usize, tree: &mut [u32], st: State) -> Step
     requires ready { Ready (text draft.now tokens.now count) st }
     requires out_lt_at { st.out < st.at }
@@ -343,6 +360,7 @@ fn arm(draft: &[u8], tokens: &[u32], count: usize, tree: &mut [u32], st: State) 
 
 // What an arm has behind its fat arrow: a block, or an expression and a comma; after a block the comma may be missing.
 #[cycle(expression)]
+#[inline(always)]
 fn body(draft: &[u8], tokens: &[u32], count: usize, tree: &mut [u32], st: State) -> Step
     requires { Ready (text draft.now tokens.now count) st }
     ensures { Parses n-arm-choice Body draft.now tokens.now count st tree.old tree.new result }

@@ -150,6 +150,7 @@ pub(crate) fn pattern_name(draft: &[u8], st: State) -> u32
 }
 
 // The kind of a literal.
+#[inline(always)]
 pub(crate) fn literal(class: u32) -> u32
     ensures { result ≡ (literalHead class).kind }
 {

@@ -1,4 +1,4 @@
-// Patterns: `Pattern::parser` of src/parse/grammar/statement.rs.
+// Patterns: `Pattern::parser` of src/parse/grammar/statement.rs. A name is read where the pattern stands, the others apart, as in `expr`.
 ghost use Rattle.std.specs.Prelude.{◌≡◌};
 ghost use Rattle.theory.specs.Machine.{choose};
 ghost use Rattle.grammar.specs.shapes.Tables.{table};
@@ -11,6 +11,7 @@ use lexer::classes as class;
 use own::kind;
 
 #[cycle(pattern)]
+#[inline(always)]
 pub(crate) fn pattern(
     draft: &[u8],
     tokens: &[u32],
@@ -21,15 +22,17 @@ pub(crate) fn pattern(
     requires { Ready (text draft.now tokens.now count) st }
     ensures { Parses n-pattern (Node PatternKind) draft.now tokens.now count st tree.old tree.new result }
 {
-    match choice::patterns(st.class) {
-        choice::NAME_PATTERN => named(draft, tokens, count, tree, st),
+    let step = match choice::patterns(st.class) {
+        choice::NAME_PATTERN => return named(draft, tokens, count, tree, st),
         choice::TUPLE_PATTERN => tuple(draft, tokens, count, tree, st),
         choice::ARRAY_PATTERN => array(draft, tokens, count, tree, st),
-        _ => Step::Refused(st.at),
-    }
+        _ => return Step::Refused(st.at),
+    };
+    step
 }
 
 // A name, or `_`.
+#[inline(always)]
 fn named(draft: &[u8], tokens: &[u32], count: usize, tree: &mut [u32], st: State) -> Step
     requires ready { Ready (text draft.now tokens.now count) st }
     requires class_value { choose table n-pattern st.class ≡ choice.NamePattern }
@@ -43,6 +46,7 @@ fn named(draft: &[u8], tokens: &[u32], count: usize, tree: &mut [u32], st: State
 
 // `(p, …)`
 #[cycle(pattern)]
+#[inline(never)]
 fn tuple(draft: &[u8], tokens: &[u32], count: usize, tree: &mut [u32], st: State) -> Step
     requires ready { Ready (text draft.now tokens.now count) st }
     requires class_value { choose table n-pattern st.class ≡ choice.TuplePattern }
@@ -63,6 +67,7 @@ fn tuple(draft: &[u8], tokens: &[u32], count: usize, tree: &mut [u32], st: State
 
 // `[p, …]`
 #[cycle(pattern)]
+#[inline(never)]
 fn array(draft: &[u8], tokens: &[u32], count: usize, tree: &mut [u32], st: State) -> Step
     requires ready { Ready (text draft.now tokens.now count) st }
     requires class_value { choose table n-pattern st.class ≡ choice.ArrayPattern }

@@ -1,5 +1,8 @@
-// The tokens of a draft, one by one.
-ghost use Rattle.std.specs.Prelude.{◌≡◌, ◌||◌, ◌==◌};
+// The tokens of a draft, one by one. All is inlined where it is called, so that a state stays in registers, but for the look-up of words.
+ghost use Rattle.std.specs.Prelude.{◌≡◌, ◌/◌, ◌||◌, ◌==◌, cond, nat_lt};
+ghost use Rattle.text.specs.Part.{part_of};
+ghost use Rattle.text.specs.Widths.{tokWide};
+ghost use Rattle.lexer.specs.Class as lexer;
 ghost use Rattle.lexer.specs.Classes as t;
 ghost use Rattle.parse.specs.Contract.{text, tokAt, Gives, next, Moved, Eaten};
 
@@ -14,18 +17,58 @@ pub(crate) struct Lexeme {
     pub(crate) stop: u32,
 }
 
+// The class of a token that may be a word of the rules. Out of line, so that other tokens pay nothing for the look-up.
+#[inline(never)]
+fn word(draft: &[u8], kind: u32, start: u32, stop: u32) -> u32
+    ensures { result ≡ lexer.class_of kind (part_of draft.now start stop) }
+{
+    lexer::class(draft, kind, start as usize, stop as usize)
+}
+
+// Whether a token of this kind may be a word that the rules single out.
+#[inline(always)]
+fn may_be_word(kind: u32) -> bool
+    ensures { result ≡ (kind == t.Bool || kind == t.Ident || kind == t.Macro) }
+{
+    match kind {
+        class::BOOL => true,
+        class::IDENT => true,
+        class::MACRO => true,
+        _ => false,
+    }
+}
+
+// The class of a token of this kind.
+#[inline(always)]
+fn class_of(draft: &[u8], kind: u32, start: u32, stop: u32) -> u32
+    ensures { result ≡ lexer.class_of kind (part_of draft.now start stop) }
+{
+    if may_be_word(kind) {
+        return word(draft, kind, start, stop);
+    }
+    kind
+}
+
+// How many of so many tokens a buffer of so many words holds.
+#[inline(always)]
+fn held(count: usize, words: usize) -> usize
+    ensures { result ≡ cond (nat_lt count (words / tokWide)) count (words / tokWide) }
+{
+    let most = words / TOKEN_WORDS;
+    if count < most { count } else { most }
+}
+
 // The token of this number: its class, start and end; zeros past the last one.
+#[inline(always)]
 pub(crate) fn token(draft: &[u8], tokens: &[u32], count: usize, at: usize) -> Lexeme
     ensures { Gives result (tokAt (text draft.now tokens.now count) at) }
 {
-    if at < count {
-        if at < tokens.len() / TOKEN_WORDS {
-            let kind = tokens[TOKEN_WORDS * at];
-            let start = tokens[TOKEN_WORDS * at + 1];
-            let stop = tokens[TOKEN_WORDS * at + 2];
-            let class = lexer::class(draft, kind, start as usize, stop as usize);
-            return Lexeme { class, start, stop };
-        }
+    if at < held(count, tokens.len()) {
+        let kind = tokens[TOKEN_WORDS * at];
+        let start = tokens[TOKEN_WORDS * at + 1];
+        let stop = tokens[TOKEN_WORDS * at + 2];
+        let class = class_of(draft, kind, start, stop);
+        return Lexeme { class, start, stop };
     }
     Lexeme {
         class: 0,
@@ -35,6 +78,7 @@ pub(crate) fn token(draft: &[u8], tokens: &[u32], count: usize, at: usize) -> Le
 }
 
 // The number of the next token; past the last one it stays.
+#[inline(always)]
 fn after(at: usize, count: usize) -> usize
     ensures { result ≡ next at count }
 {
@@ -42,6 +86,7 @@ fn after(at: usize, count: usize) -> usize
 }
 
 // The state at the next token.
+#[inline(always)]
 pub(crate) fn advance(draft: &[u8], tokens: &[u32], count: usize, st: State) -> State
     ensures { Moved (text draft.now tokens.now count) st result }
 {
@@ -57,6 +102,7 @@ pub(crate) fn advance(draft: &[u8], tokens: &[u32], count: usize, st: State) -> 
 }
 
 // The token of this class, or a refusal at the token that stands there.
+#[inline(always)]
 pub(crate) fn eat(draft: &[u8], tokens: &[u32], count: usize, st: State, class: u32) -> Step
     ensures { Eaten (text draft.now tokens.now count) st class result }
 {

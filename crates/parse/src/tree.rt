@@ -31,9 +31,8 @@ pub(crate) fn reserve(st: State) -> State
 fn put(tree: &mut [u32], here: u32, kind: u32, start: u32, end: u32, low: u32, high: u32, size: u32)
     ensures { Put tree.old here kind start end low high size tree.new }
 {
-    let at = here as usize;
-    if at < tree.len() / RECORD_WORDS {
-        let base = RECORD_WORDS * at;
+    let base = RECORD_WORDS * here as usize;
+    if base + RECORD_WORDS <= tree.len() {
         tree[base] = kind;
         tree[base + 1] = start;
         tree[base + 2] = end;
@@ -139,6 +138,7 @@ pub(crate) fn top(tree: &mut [u32], end: u32, size: u32)
 }
 
 // The records from `from` up to `mid` change places with those from `mid` up to `to`.
+#[inline(never)]
 pub(crate) fn exchange(tree: &mut [u32], from: u32, mid: u32, to: u32)
     ensures { Turned tree.old from mid to tree.new }
 {

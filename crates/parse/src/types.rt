@@ -1,4 +1,4 @@
-// Types: src/parse/grammar/types.rs.
+// Types: src/parse/grammar/types.rs. A name is read where the type stands, the others apart, as in `expr`.
 ghost use Rattle.std.specs.Prelude.{◌≡◌};
 ghost use Rattle.theory.specs.Machine.{choose};
 ghost use Rattle.grammar.specs.shapes.Tables.{table};
@@ -11,22 +11,25 @@ use lexer::classes as class;
 use own::kind;
 
 #[cycle(types)]
+#[inline(always)]
 pub(crate) fn ty(draft: &[u8], tokens: &[u32], count: usize, tree: &mut [u32], st: State) -> Step
     requires { Ready (text draft.now tokens.now count) st }
     ensures { Parses n-type (Node TypeKind) draft.now tokens.now count st tree.old tree.new result }
 {
-    match choice::types(st.class) {
+    let step = match choice::types(st.class) {
         choice::EITHER_TYPE => either(draft, tokens, count, tree, st),
         choice::OPTION_TYPE => option(draft, tokens, count, tree, st),
         choice::LIST_TYPE => list(draft, tokens, count, tree, st),
-        choice::NAMED_TYPE => named(draft, tokens, count, tree, st),
+        choice::NAMED_TYPE => return named(draft, tokens, count, tree, st),
         choice::TUPLE_TYPE => tuple(draft, tokens, count, tree, st),
         choice::ARRAY_TYPE => array(draft, tokens, count, tree, st),
-        _ => Step::Refused(st.at),
-    }
+        _ => return Step::Refused(st.at),
+    };
+    step
 }
 
 // A name: an alias, a built-in alias, `bool` or an unsigned type.
+#[inline(always)]
 fn named(draft: &[u8], tokens: &[u32], count: usize, tree: &mut [u32], st: State) -> Step
     requires ready { Ready (text draft.now tokens.now count) st }
     requires class_value { choose table n-type st.class ≡ choice.NamedType }
@@ -40,6 +43,7 @@ fn named(draft: &[u8], tokens: &[u32], count: usize, tree: &mut [u32], st: State
 
 // `Either<A, B>`, or the name alone.
 #[cycle(types)]
+#[inline(never)]
 fn either(draft: &[u8], tokens: &[u32], count: usize, tree: &mut [u32], st: State) -> Step
     requires ready { Ready (text draft.now tokens.now count) st }
     requires class_value { choose table n-type st.class ≡ choice.EitherType }
@@ -73,6 +77,7 @@ fn either(draft: &[u8], tokens: &[u32], count: usize, tree: &mut [u32], st: Stat
 
 // `Option<A>`, or the name alone.
 #[cycle(types)]
+#[inline(never)]
 fn option(draft: &[u8], tokens: &[u32], count: usize, tree: &mut [u32], st: State) -> Step
     requires ready { Ready (text draft.now tokens.now count) st }
     requires class_value { choose table n-type st.class ≡ choice.OptionType }
@@ -98,6 +103,7 @@ fn option(draft: &[u8], tokens: &[u32], count: usize, tree: &mut [u32], st: Stat
 
 // `List<A, n>`, or the name alone.
 #[cycle(types)]
+#[inline(never)]
 fn list(draft: &[u8], tokens: &[u32], count: usize, tree: &mut [u32], st: State) -> Step
     requires ready { Ready (text draft.now tokens.now count) st }
     requires class_value { choose table n-type st.class ≡ choice.ListType }
@@ -134,6 +140,7 @@ fn list(draft: &[u8], tokens: &[u32], count: usize, tree: &mut [u32], st: State)
 
 // `(A, …)`
 #[cycle(types)]
+#[inline(never)]
 fn tuple(draft: &[u8], tokens: &[u32], count: usize, tree: &mut [u32], st: State) -> Step
     requires ready { Ready (text draft.now tokens.now count) st }
     requires class_value { choose table n-type st.class ≡ choice.TupleType }
@@ -154,6 +161,7 @@ fn tuple(draft: &[u8], tokens: &[u32], count: usize, tree: &mut [u32], st: State
 
 // `[A; n]`. As in `list`, what is refused inside is kept apart until the number is judged.
 #[cycle(types)]
+#[inline(never)]
 fn array(draft: &[u8], tokens: &[u32], count: usize, tree: &mut [u32], st: State) -> Step
     requires ready { Ready (text draft.now tokens.now count) st }
     requires class_value { choose table n-type st.class ≡ choice.ArrayType }

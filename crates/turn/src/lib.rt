@@ -3,46 +3,8 @@
 
 ghost use Rattle.std.specs.Prelude.{◌≡◌, min, ◌<◌, ◌≤◌, ◌+◌, ◌++◌, length, take, drop};
 ghost use Rattle.std.proofs.Math.Seq.{paste};
-ghost use Rattle.turn.specs.Turn.{rev, slice, swapped};
 
-// Exchanges the elements i and j.
-fn swap(a: &mut [u32], i: usize, j: usize)
-    requires i_in_bounds { i < length a.old }
-    requires j_in_bounds { j < length a.old }
-    ensures { a.new ≡ swapped i j a.old }
-{
-    let x = a[i];
-    let y = a[j];
-    a[i] = y;
-    a[j] = x;
-}
-
-// Reverses the elements from `from` up to `to`.
-fn reverse(a: &mut [u32], from: usize, to: usize)
-    requires from_le_to { from ≤ to }
-    requires to_in_bounds { to ≤ length a.old }
-    ensures { a.new ≡ take from a.old ++ (rev (slice from to a.old) ++ drop to a.old) }
-{
-    let mut i = from;
-    let mut j = to;
-    let mut d = to - from;
-    while 1 < d {
-        j = j - 1;
-        swap(a, i, j);
-        i = i + 1;
-        d = d - 2;
-    }
-}
-
-// Rotates by three reversals.
-fn turned(a: &mut [u32], k: usize)
-    requires { k ≤ length a.old }
-    ensures { a.new ≡ drop k a.old ++ take k a.old }
-{
-    reverse(a, 0, k);
-    reverse(a, k, a.len());
-    reverse(a, 0, a.len());
-}
+use text::RECORD_WORDS;
 
 // Copies n elements of src, from the index `from`, over those of dst from the index `to`.
 fn copy(src: &[u32], from: usize, dst: &mut [u32], to: usize, n: usize)
@@ -70,6 +32,7 @@ fn down(a: &mut [u32], n: usize, c: usize)
 }
 
 // Moves the first n elements to the end; the first c stay where they are.
+#[inline(always)]
 fn up(a: &mut [u32], n: usize, c: usize)
     requires { n + c ≡ length a.old }
     ensures { a.new ≡ take c a.old ++ take n a.old }
@@ -78,6 +41,27 @@ fn up(a: &mut [u32], n: usize, c: usize)
     while 0 < i {
         i -= 1;
         a[i + c] = a[i];
+    }
+}
+
+// The words of two records, of three and of four.
+const TWO: usize = 2 * RECORD_WORDS;
+
+const THREE: usize = 3 * RECORD_WORDS;
+
+const FOUR: usize = 4 * RECORD_WORDS;
+
+// The same. A move by a distance that the compiler knows is one by `memmove`.
+fn up_records(a: &mut [u32], n: usize, c: usize)
+    requires { n + c ≡ length a.old }
+    ensures { a.new ≡ take c a.old ++ take n a.old }
+{
+    match c {
+        RECORD_WORDS => up(a, n, RECORD_WORDS),
+        TWO => up(a, n, TWO),
+        THREE => up(a, n, THREE),
+        FOUR => up(a, n, FOUR),
+        _ => up(a, n, c),
     }
 }
 
@@ -99,7 +83,7 @@ fn second_aside(a: &mut [u32], k: usize, n: usize, spare: &mut [u32])
     ensures { a.new ≡ drop k a.old ++ take k a.old }
 {
     copy(a, k, spare, 0, n);
-    up(a, k, n);
+    up_records(a, k, n);
     copy(spare, 0, a, 0, n);
 }
 
@@ -142,7 +126,7 @@ fn aside(a: &mut [u32], k: usize, n: usize, spare: &mut [u32])
     second_aside(a, k, n, spare);
 }
 
-// Rotates a slice of k and n elements: by way of a spare array if a part fits it, else by reversals.
+// Rotates a slice of k and n elements: by way of a spare array if a part fits it. std's rotation clears 4 KiB each time, so it is for long parts alone.
 fn parted(a: &mut [u32], k: usize, n: usize)
     requires { k + n ≡ length a.old }
     ensures { a.new ≡ drop k a.old ++ take k a.old }
@@ -158,7 +142,7 @@ fn parted(a: &mut [u32], k: usize, n: usize)
         aside(a, k, n, &mut spare);
         return;
     }
-    turned(a, k);
+    a.rotate_left(k);
 }
 
 // Puts what follows the first k elements before them; a slice of k elements or fewer stays as it is.

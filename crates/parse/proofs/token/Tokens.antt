@@ -1,6 +1,6 @@
 -- The tokens of a text, one by one.
 -- Assumes nothing.
-use Rattle.std.proofs.Common.{◌≡◌, ℕ, zero, suc, ◌+◌, ◌*◌, ◌/◌, ◌<◌, ◌≤◌, Bool, true, false, cond, ltb, List, length, get_or, drop, sym, refl, ap, ◌∙◌, arith, ltb-false, ltb-true, lt-ltb}
+use Rattle.std.proofs.Common.{◌≡◌, ℕ, zero, suc, ◌+◌, ◌*◌, ◌/◌, ◌<◌, ◌≤◌, Bool, true, false, cond, ltb, List, length, get_or, drop, sym, refl, ap, ◌∙◌, arith, ltb-false, lt-ltb}
 use lib.ListN.{get_or-eq_default}
 use Rattle.text.specs.Part.{part_of}
 use Rattle.text.specs.Widths.{tokWide}
@@ -18,20 +18,12 @@ length-toks c zero w = refl
 length-toks c (suc n) w = ap suc (length-toks c n (drop tokWide w))
 
 -- The lesser of two numbers.
-abbrev lesser : ℕ → ℕ → ℕ
+abbrev pub lesser : ℕ → ℕ → ℕ
 lesser n m = cond (ltb n m) n m
-
-above : (b : Bool) (i n m : ℕ) → i < n → i < m → i < cond b n m
-above true i n m h g = h
-above false i n m h g = g
 
 first : (b : Bool) (n m : ℕ) → ltb n m ≡ b → cond b n m ≤ n
 first true n m e = omega arith
 first false n m e = ltb-false n m e
-
-second : (b : Bool) (n m : ℕ) → ltb n m ≡ b → cond b n m ≤ m
-second true n m e = omega (arith, ltb-true n m e)
-second false n m e = omega arith
 
 -- at most as many as were asked for
 pub length-text : (draft words : List ℕ) (n : ℕ) → length (text draft words n).ts ≤ n
@@ -42,32 +34,24 @@ length-text draft words n =
     omega (arith, first (ltb n m) n m refl)
 
 -- A token that the buffer holds,
-pub token-in : (draft words : List ℕ) (n at k : ℕ) → at < n → at < length words / tokWide
+pub token-in : (draft words : List ℕ) (n at k : ℕ) → at < lesser n (length words / tokWide)
     → k ≡ lexer.class_of (get_or words (tokWide * at) 0) (part_of draft (get_or words (tokWide * at + 1) 0) (get_or words (tokWide * at + 2) 0))
     → Gives (record { class = k; start = get_or words (tokWide * at + 1) 0; stop = get_or words (tokWide * at + 2) 0 }) (tokAt (text draft words n) at)
 unfolding text class_of
-token-in draft words n at k h g e =
-    let m : ℕ = length words / tokWide in
-    let q = tok-at (class_of draft) (lesser n m) at words (above (ltb n m) at n m h g) in
+token-in draft words n at k h e =
+    let q = tok-at (class_of draft) (lesser n (length words / tokWide)) at words h in
     record { class-is = e ∙ sym (ap (λ (t : Tok). t.class) q); start_is = sym (ap (λ (t : Tok). t.start) q); stop_is = sym (ap (λ (t : Tok). t.stop) q) }
 
 none-given : (t : Tok) → t ≡ no-token → Gives (record { class = 0; start = 0; stop = 0 }) t
 none-given t e = record { class-is = sym (ap (λ (t : Tok). t.class) e); start_is = sym (ap (λ (t : Tok). t.start) e); stop_is = sym (ap (λ (t : Tok). t.stop) e) }
 
-past : (draft words : List ℕ) (n at : ℕ) → lesser n (length words / tokWide) ≤ at → Gives (record { class = 0; start = 0; stop = 0 }) (tokAt (text draft words n) at)
+-- and one past those.
+pub token-out : (draft words : List ℕ) (n at : ℕ) → lesser n (length words / tokWide) ≤ at → Gives (record { class = 0; start = 0; stop = 0 }) (tokAt (text draft words n) at)
 unfolding text
-past draft words n at h =
+token-out draft words n at h =
     let c : ℕ = lesser n (length words / tokWide) in
     let e : length (toks (class_of draft) c words) ≡ c = length-toks (class_of draft) c words in
     none-given (get_or (toks (class_of draft) c words) at no-token) (get_or-eq_default (toks (class_of draft) c words) no-token (omega arith))
-
--- one past those that were asked for,
-pub token-out : (draft words : List ℕ) (n at : ℕ) → n ≤ at → Gives (record { class = 0; start = 0; stop = 0 }) (tokAt (text draft words n) at)
-token-out draft words n at h = past draft words n at (omega (arith, first (ltb n (length words / tokWide)) n (length words / tokWide) refl))
-
--- and one past the buffer.
-pub token-beyond : (draft words : List ℕ) (n at : ℕ) → length words / tokWide ≤ at → Gives (record { class = 0; start = 0; stop = 0 }) (tokAt (text draft words n) at)
-token-beyond draft words n at h = past draft words n at (omega (arith, second (ltb n (length words / tokWide)) n (length words / tokWide) refl))
 
 -- The next token of a text is the one behind.
 pub next-in : (draft words : List ℕ) (n at i : ℕ) → i ≡ next at n → at < length (text draft words n).ts → i ≡ at + 1

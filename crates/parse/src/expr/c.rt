@@ -15,7 +15,8 @@ use own::{call, kind};
 
 // `(e, …)`; and 1 if it is one expression without a comma.
 #[cycle(expression)]
-fn args(draft: &[u8], tokens: &[u32], count: usize, tree: &mut [u32], st: State) -> Step
+#[inline(always)]
+fn arguments(draft: &[u8], tokens: &[u32], count: usize, tree: &mut [u32], st: State) -> Step
     requires { Near (text draft.now tokens.now count) st }
     ensures { Parses n-arguments Args draft.now tokens.now count st tree.old tree.new result }
 {
@@ -34,8 +35,19 @@ fn args(draft: &[u8], tokens: &[u32], count: usize, tree: &mut [u32], st: State)
     Step::Next(z, lone, 0)
 }
 
+// The same, apart: for what is called less often than a function by its name.
+#[cycle(expression)]
+#[inline(never)]
+fn args(draft: &[u8], tokens: &[u32], count: usize, tree: &mut [u32], st: State) -> Step
+    requires { Near (text draft.now tokens.now count) st }
+    ensures { Parses n-arguments Args draft.now tokens.now count st tree.old tree.new result }
+{
+    arguments(draft, tokens, count, tree, st)
+}
+
 // A macro or a jet, called.
 #[cycle(expression)]
+#[inline(never)]
 pub(crate) fn simple(
     draft: &[u8],
     tokens: &[u32],
@@ -59,6 +71,7 @@ pub(crate) fn simple(
 
 // `<T>::into(e, …)`
 #[cycle(expression)]
+#[inline(never)]
 pub(crate) fn cast(draft: &[u8], tokens: &[u32], count: usize, tree: &mut [u32], st: State) -> Step
     requires ready { Ready (text draft.now tokens.now count) st }
     requires class_value { choose table n-single st.class ≡ choice.CastCall }
@@ -89,8 +102,9 @@ pub(crate) fn cast(draft: &[u8], tokens: &[u32], count: usize, tree: &mut [u32],
     Step::Next(z, 0, 0)
 }
 
-// A name: a call, a wrapper, an enum construction or a variable.
+// A name: a call, a wrapper, an enum construction or a variable. For the variable `step` see `expr::single`.
 #[cycle(expression)]
+#[inline(always)]
 pub(crate) fn named(draft: &[u8], tokens: &[u32], count: usize, tree: &mut [u32], st: State) -> Step
     requires ready { Ready (text draft.now tokens.now count) st }
     requires class_value { choose table n-single st.class ≡ choice.Named }
@@ -98,7 +112,7 @@ pub(crate) fn named(draft: &[u8], tokens: &[u32], count: usize, tree: &mut [u32]
 {
     let a = token::advance(draft, tokens, count, tree::reserve(st));
     let class = a.class;
-    match class {
+    let step = match class {
         class::LPAREN => called(draft, tokens, count, tree, st, a),
         class::DOUBLE_COLON => {
             let b = token::advance(draft, tokens, count, a);
@@ -106,13 +120,15 @@ pub(crate) fn named(draft: &[u8], tokens: &[u32], count: usize, tree: &mut [u32]
         }
         _ => {
             tree::close(tree, st, a, kind::VARIABLE, 0, 0);
-            Step::Next(a, 0, 0)
+            return Step::Next(a, 0, 0);
         }
-    }
+    };
+    step
 }
 
 // A call of a name, from its arguments on; a wrapper where it is one expression and no comma.
 #[cycle(expression)]
+#[inline(never)]
 fn called(draft: &[u8], tokens: &[u32], count: usize, tree: &mut [u32], st: State, a: State) -> Step
     requires ready { Ready (text draft.now tokens.now count) st }
     requires class_value { choose table n-single st.class ≡ choice.Named }
@@ -124,7 +140,7 @@ fn called(draft: &[u8], tokens: &[u32], count: usize, tree: &mut [u32], st: Stat
         return wrap(draft, tokens, count, tree, st, a);
     }
     let b = names::callee(tree, st, a);
-    let inner = args(draft, tokens, count, tree, b);
+    let inner = arguments(draft, tokens, count, tree, b);
     let Step::Next(z, _, _) = inner else {
         return inner;
     };
@@ -158,6 +174,7 @@ fn wrap(draft: &[u8], tokens: &[u32], count: usize, tree: &mut [u32], st: State,
 
 // An enum construction, from behind its first `::` on: the name before that is a record too.
 #[cycle(expression)]
+#[inline(never)]
 fn built(draft: &[u8], tokens: &[u32], count: usize, tree: &mut [u32], st: State, b: State) -> Step
     requires ready { Ready (text draft.now tokens.now count) st }
     requires leads { Leads st.class b.class }
@@ -195,6 +212,7 @@ fn path(draft: &[u8], tokens: &[u32], count: usize, tree: &mut [u32], st: State)
 
 // A name that is no call: `None`, a variable or the beginning of an enum construction.
 #[cycle(expression)]
+#[inline(never)]
 pub(crate) fn bare(draft: &[u8], tokens: &[u32], count: usize, tree: &mut [u32], st: State) -> Step
     requires ready { Ready (text draft.now tokens.now count) st }
     requires class_value { choose table n-single st.class ≡ choice.Bare }
@@ -211,6 +229,7 @@ pub(crate) fn bare(draft: &[u8], tokens: &[u32], count: usize, tree: &mut [u32],
 
 // A name that `::<..>` may follow, by its rule: a call with that, an enum construction or a variable.
 #[cycle(expression)]
+#[inline(never)]
 pub(crate) fn generic(
     draft: &[u8],
     tokens: &[u32],

@@ -5,4 +5,4 @@ use Rattle.turn.proofs.second_aside.Goals as goal
 
 pub returns : goal.returns
 returns c =
-    second-apart c.args.a.now c.args.spare.now c.args.k c.args.n c.requires.n_value c.copy.ensures c.up.ensures c.copy-2.ensures
+    second-apart c.args.a.now c.args.spare.now c.args.k c.args.n c.requires.n_value c.copy.ensures c.up_records.ensures c.copy-2.ensures

@@ -362,15 +362,15 @@ body-returns t c =
     let a2 = then-eats a1.amid (omega arith) c.eat-comma.ensures c.in-Next-comma.is (sign-mark 0 class.Comma tt) in
     read (armed.body_is a1.kind a1.low a1.high a1.first (word class.Comma ∷ []) a2 a1.its-kind (inr refl))
 
-pub c::args-returns-in_default : goal.c::args-returns-in_default
-c::args-returns-in_default t c =
+pub c::arguments-returns-in_default : goal.c::arguments-returns-in_default
+c::arguments-returns-in_default t c =
     let x = text c.args.draft.now c.args.tokens.now c.args.count in
     let y = c.requires in
     let d0 = then_turns (tok class.LParen ∷ nt n-list-expression ∷ tok class.RParen ∷ []) (starts 0 AnyN (nt n-arguments ∷ []) c.args.tree.now y.stands) armed.flat-args (armed.args-rule (get_or (classes x) c.args.st.at 0)) in
     then-lacks d0 (refusal c.in_default.is) (λ τ p h. h) c.eat-open.ensures
 
-pub c::args-exprs-inner-requires : goal.c::args-exprs-inner-requires
-c::args-exprs-inner-requires t c =
+pub c::arguments-exprs-inner-requires : goal.c::arguments-exprs-inner-requires
+c::arguments-exprs-inner-requires t c =
     let x = text c.args.draft.now c.args.tokens.now c.args.count in
     let y = c.requires in
     let d0 = then_turns (tok class.LParen ∷ nt n-list-expression ∷ tok class.RParen ∷ []) (starts 0 AnyN (nt n-arguments ∷ []) c.args.tree.now y.stands) armed.flat-args (armed.args-rule (get_or (classes x) c.args.st.at 0)) in
@@ -378,16 +378,16 @@ c::args-exprs-inner-requires t c =
     let q = length-text c.args.draft.now c.args.tokens.now c.args.count in
     (omega (arith, onward-ahead d1 (omega arith), d1.lays.stands.within, q, c.decreases), armed.near-onward y d1 (omega arith))
 
-pub c::args-returns-in_default-inner : goal.c::args-returns-in_default-inner
-c::args-returns-in_default-inner t c =
+pub c::arguments-returns-in_default-inner : goal.c::arguments-returns-in_default-inner
+c::arguments-returns-in_default-inner t c =
     let x = text c.args.draft.now c.args.tokens.now c.args.count in
     let y = c.requires in
     let d0 = then_turns (tok class.LParen ∷ nt n-list-expression ∷ tok class.RParen ∷ []) (starts 0 AnyN (nt n-arguments ∷ []) c.args.tree.now y.stands) armed.flat-args (armed.args-rule (get_or (classes x) c.args.st.at 0)) in
     let d1 = then-eats d0 (omega arith) c.eat-open.ensures c.in-Next.is (sign-mark 0 class.LParen tt) in
     then-passed d1 (refusal c.in_default-inner.is) (λ τ p h. h) c.exprs-inner.ensures
 
-pub c::args-returns-in_default-paren : goal.c::args-returns-in_default-paren
-c::args-returns-in_default-paren t c =
+pub c::arguments-returns-in_default-paren : goal.c::arguments-returns-in_default-paren
+c::arguments-returns-in_default-paren t c =
     let x = text c.args.draft.now c.args.tokens.now c.args.count in
     let y = c.requires in
     let d0 = then_turns (tok class.LParen ∷ nt n-list-expression ∷ tok class.RParen ∷ []) (starts 0 AnyN (nt n-arguments ∷ []) c.args.tree.now y.stands) armed.flat-args (armed.args-rule (get_or (classes x) c.args.st.at 0)) in
@@ -395,8 +395,8 @@ c::args-returns-in_default-paren t c =
     let d2 = elem.then-lone d1 c.exprs-inner.ensures c.in-Next-inner.is in
     then-lacks d2.amid (refusal c.in_default-paren.is) (λ τ p h. h) c.eat-paren.ensures
 
-pub c::args-returns : goal.c::args-returns
-c::args-returns t c =
+pub c::arguments-returns : goal.c::arguments-returns
+c::arguments-returns t c =
     let x = text c.args.draft.now c.args.tokens.now c.args.count in
     let y = c.requires in
     let d0 = then_turns (tok class.LParen ∷ nt n-list-expression ∷ tok class.RParen ∷ []) (starts 0 AnyN (nt n-arguments ∷ []) c.args.tree.now y.stands) armed.flat-args (armed.args-rule (get_or (classes x) c.args.st.at 0)) in
@@ -582,8 +582,8 @@ c::called-wrap-requires t c =
     let k = c.requires.class_value_2 in
     (omega (arith, c.decreases), (y, (e, (call.is-wrapper c.args.st.class c.wrapper.ensures c.if-wrapper-ne0.true, (mv, k)))))
 
-pub c::called-args-inner-requires : goal.c::called-args-inner-requires
-c::called-args-inner-requires t c =
+pub c::called-arguments-inner-requires : goal.c::called-arguments-inner-requires
+c::called-arguments-inner-requires t c =
     let y = c.requires.ready in
     let e = c.requires.class_value in
     let mv = c.requires.moved in
@@ -604,7 +604,7 @@ c::called-returns-in_default t c =
     let p = call.named-apart c.args.st.class e in
     let d1 = law.first-called y o (call.for-named c.args.st.class e) AnyN (nt n-named-optional ∷ []) p mv c.callee-b.ensures in
     let d2 = then_turns (nt n-arguments ∷ []) d1.amid call.flat-named (call.named-args (sym d1.amid.lays.stands.class-is ∙ d1.class-is ∙ k)) in
-    then-passed d2 (refusal c.in_default.is) (enters call.named_rule y e o) c.args-inner.ensures
+    then-passed d2 (refusal c.in_default.is) (enters call.named_rule y e o) c.arguments-inner.ensures
 
 pub c::called-returns : goal.c::called-returns
 c::called-returns t c =
@@ -616,7 +616,7 @@ c::called-returns t c =
     let p = call.named-apart c.args.st.class e in
     let d1 = law.first-called y o (call.for-named c.args.st.class e) AnyN (nt n-named-optional ∷ []) p mv c.callee-b.ensures in
     let d2 = then_turns (nt n-arguments ∷ []) d1.amid call.flat-named (call.named-args (sym d1.amid.lays.stands.class-is ∙ d1.class-is ∙ k)) in
-    let d3 = law.then-args d2 c.args-inner.ensures c.in-Next.is in
+    let d3 = law.then-args d2 c.arguments-inner.ensures c.in-Next.is in
     as-nonterminal call.named_rule y e (read (shut NamedShape tt y o d3.amid (omega (arith, d3.one)) (call.call-low c.args.st.class (call.form-named d3.amid ∙ call.unwrapped-is c.args.st.class d3.W p (call.no-wrapper c.args.st.class c.wrapper.ensures c.if-wrapper-ne0.false) d3.commas) c.call.ensures) tt ExprKind call.call-kind c.close.ensures))
 
 pub c::cast-ty-inner-requires : goal.c::cast-ty-inner-requires
@@ -1112,7 +1112,7 @@ elems-returns t c =
 pub expr-returns-then-st-eq-LBRACE : goal.expr-returns-then-st-eq-LBRACE
 expr-returns-then-st-eq-LBRACE t c =
     let y = c.requires in
-    form.as-part form.flat-expression y (form.expression-block c.if-st-eq-LBRACE.true) c.block.ensures
+    form.as-part form.flat-expression y (form.expression-block c.if-st-eq-LBRACE.true) c.block-step.ensures
 
 pub expr-returns : goal.expr-returns
 expr-returns t c =

@@ -47,6 +47,9 @@ decreases-arm l = 8 * (l.count - l.st.at) + 4
 abbrev pub decreases-body : goal.decreases-body
 decreases-body l = 8 * (l.count - l.st.at) + 4
 
+abbrev pub decreases-c::arguments : goal.decreases-c::arguments
+decreases-c::arguments l = 8 * (l.count - l.st.at)
+
 abbrev pub decreases-c::args : goal.decreases-c::args
 decreases-c::args l = 8 * (l.count - l.st.at) + 1
 

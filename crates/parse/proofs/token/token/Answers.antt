@@ -1,19 +1,15 @@
 -- A token's class, start and end are read from its three words; past the last one all are 0.
 -- Assumes nothing.
-use Rattle.parse.proofs.token.Tokens.{token-in, token-out, token-beyond}
+use Rattle.std.proofs.Common.{◌<◌, ◌≤◌, subst}
+use Rattle.parse.proofs.token.Tokens.{token-in, token-out}
 use Rattle.parse.proofs.token.token.Goals as goal
 
-pub returns-then-at-tokens : goal.returns-then-at-tokens
-returns-then-at-tokens c =
+pub returns-then-at-held : goal.returns-then-at-held
+returns-then-at-held c =
     let a = c.args in
-    token-in a.draft.now a.tokens.now a.count a.at c.class-class.result c.if-at-count.true c.if-at-tokens.true c.class-class.ensures.answer
+    token-in a.draft.now a.tokens.now a.count a.at c.class_of-class.result (subst (λ m. a.at < m) c.held.ensures c.if-at-held.true) c.class_of-class.ensures
 
-pub returns-else-at-tokens : goal.returns-else-at-tokens
-returns-else-at-tokens c =
+pub returns : goal.returns
+returns c =
     let a = c.args in
-    token-beyond a.draft.now a.tokens.now a.count a.at c.if-at-tokens.false
-
-pub returns-else-at-count : goal.returns-else-at-count
-returns-else-at-count c =
-    let a = c.args in
-    token-out a.draft.now a.tokens.now a.count a.at c.if-at-count.false
+    token-out a.draft.now a.tokens.now a.count a.at (subst (λ m. m ≤ a.at) c.held.ensures c.if-at-held.false)
