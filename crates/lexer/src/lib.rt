@@ -18,6 +18,7 @@ mod byte;
 mod chars;
 pub mod classes;
 mod depth;
+mod frequent;
 mod limits;
 pub mod scan;
 mod table;
@@ -76,14 +77,11 @@ fn may_be_word(kind: u32) -> bool
     }
 }
 
-// The class of a token: its kind, or that of the word or macro that it is.
-fn class_of(draft: &[u8], kind: u32, start: usize, end: usize) -> u32
+// The class of a token that may be a word. Few tokens of such kinds are, so the kind is looked at behind the look-up. Out of line, so that others pay nothing.
+#[inline(never)]
+fn word_class(draft: &[u8], kind: u32, start: usize, end: usize) -> u32
     ensures { result ≡ class_of kind (part_of draft.now start end) }
 {
-    // Marks, keywords and numbers have smaller kinds. Of the others few are a word of the rules, so their kind is looked at behind the look-up.
-    if kind < classes::BOOL {
-        return kind;
-    }
     let f = words::word(Table::RuleWords, draft, start, end);
     let Found::Word(k) = f else {
         return kind;
@@ -94,7 +92,19 @@ fn class_of(draft: &[u8], kind: u32, start: usize, end: usize) -> u32
     kind
 }
 
+// The class of a token: its kind, or that of the word or macro that it is. Marks, keywords and numbers have smaller kinds than words.
+#[inline(always)]
+fn class_of(draft: &[u8], kind: u32, start: usize, end: usize) -> u32
+    ensures { result ≡ class_of kind (part_of draft.now start end) }
+{
+    if kind < classes::BOOL {
+        return kind;
+    }
+    word_class(draft, kind, start, end)
+}
+
 // The class of a token for the rules; of a token, it says which name, macro or word it is.
+#[inline(always)]
 pub fn class(draft: &[u8], kind: u32, start: usize, end: usize) -> u32
     ensures answer { result ≡ class_of kind (part_of draft.now start end) }
     ensures law { OneToken kind (part_of draft.now start end) → ClassLaw kind (part_of draft.now start end) result }

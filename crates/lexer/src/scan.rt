@@ -1,16 +1,16 @@
 // The lexeme at a place: names, numbers, marks, and the step that chooses among them by the class of the first byte.
-ghost use Rattle.std.specs.Prelude.{true, cond, eqb, ◌≡◌, ◌+◌, ◌≤◌, ◌<◌, length, get_or, drop};
+ghost use Rattle.std.specs.Prelude.{true, ◌≡◌, ◌+◌, ◌≤◌, ◌<◌, length, get_or, drop};
 ghost use Rattle.std.proofs.Math.Option.{none};
 ghost use Rattle.words.specs.Words.{KEYWORDS};
 ghost use Rattle.lexer.specs.Chars.{among, decimalDigits, nameStarts};
 ghost use Rattle.lexer.specs.Lexemes.{macro, qualified};
-ghost use Rattle.lexer.specs.Bytes.{byteClass, inClasses, ClassTable};
+ghost use Rattle.lexer.specs.Bytes.{byteClass, ClassTable};
 ghost use Rattle.lexer.specs.Bytes as byte;
 ghost use Rattle.lexer.specs.Step.{numbers, numbersAt, lexemeAt, step_of};
-ghost use Rattle.lexer.specs.Places.{Named, Based, Maybe, keywordAt, decimalAt};
+ghost use Rattle.lexer.specs.Places.{Named, Based, keywordAt, decimalAt};
 
-use crate::chars::{byte_class, class_table, rest_end, run_end};
-use crate::{Step, byte, classes as class, trivia};
+use crate::chars::{byte_class, class_table, run_end};
+use crate::{Step, byte, classes as class, frequent, trivia};
 use text::{peek, refusal};
 use words::{Found, Table};
 
@@ -50,7 +50,7 @@ fn keyword(k: usize, i: usize, e: usize) -> Step
 }
 
 // The name from i up to e, where it is neither qualified nor a macro.
-fn word(s: &[u8], i: usize, e: usize) -> Step
+pub(crate) fn word(s: &[u8], i: usize, e: usize) -> Step
     requires { Named s.now i e × (qualified (drop i s.now) ≡ none) × (macro (drop i s.now) ≡ none) }
     ensures { result ≡ lexemeAt s.now i }
 {
@@ -289,119 +289,6 @@ fn rare(classes: &[u8; 256], s: &[u8], i: usize) -> Step
     whatever(classes, s, i)
 }
 
-// A name behind which neither `!` nor `::` stands.
-fn plain_name(classes: &[u8; 256], s: &[u8], i: usize) -> Option<Step>
-    requires class_table { ClassTable classes.now }
-    requires i_in_bounds { (i < length s.now) × (among nameStarts (get_or s.now i 0) ≡ true) × (inClasses byte.Underscore byte.Letter (get_or s.now i 0) ≡ true) }
-    ensures { Maybe s.now i result }
-{
-    let e = rest_end(classes, s, i, byte::UNDERSCORE, byte::LETTER);
-    let b = peek(s, e);
-    if b == b'!' {
-        return None;
-    }
-    if b == b':' {
-        if peek(s, e + 1) == b':' {
-            return None;
-        }
-    }
-    Some(word(s, i, e))
-}
-
-// A number that does not begin with 0.
-fn plain_number(classes: &[u8; 256], s: &[u8], i: usize) -> Option<Step>
-    requires class_table { ClassTable classes.now }
-    requires i_in_bounds { (i < length s.now) × (among decimalDigits (get_or s.now i 0) ≡ true) }
-    ensures { Maybe s.now i result }
-{
-    if s[i] == b'0' {
-        return None;
-    }
-    let e = rest_end(classes, s, i, byte::UNDERSCORE, byte::DIGIT);
-    Some(Step::Token {
-        kind: class::DEC_LITERAL,
-        end: e,
-    })
-}
-
-// The mark of one byte at i, or that of two if the byte next stands behind it.
-fn one_or_two(s: &[u8], i: usize, one: u32, next: u8, two: u32) -> Step
-    requires { i < length s.now }
-    ensures { result ≡ cond (eqb (get_or s.now (i + 1) 0) next) (Step.Token two (i + 2)) (Step.Token one (i + 1)) }
-{
-    if peek(s, i + 1) == next {
-        return Step::Token {
-            kind: two,
-            end: i + 2,
-        };
-    }
-    Step::Token {
-        kind: one,
-        end: i + 1,
-    }
-}
-
-// A mark other than `->`; c is the class of the byte at i.
-fn plain_mark(s: &[u8], i: usize, c: u8) -> Option<Step>
-    requires { (i < length s.now) × (c ≡ byteClass (get_or s.now i 0)) × (byte.Letter < c) × (c < byte.Space) }
-    ensures { Maybe s.now i result }
-{
-    if c >= byte::LPAREN {
-        if c == byte::OTHER {
-            return None;
-        }
-        return Some(Step::Token {
-            kind: c as u32,
-            end: i + 1,
-        });
-    }
-    if c == byte::COMMA {
-        return Some(Step::Token {
-            kind: class::COMMA,
-            end: i + 1,
-        });
-    }
-    if c == byte::SEMI {
-        return Some(Step::Token {
-            kind: class::SEMI,
-            end: i + 1,
-        });
-    }
-    if c == byte::COLON {
-        return Some(one_or_two(s, i, class::COLON, b':', class::DOUBLE_COLON));
-    }
-    if c == byte::EQ {
-        return Some(one_or_two(s, i, class::EQ, b'>', class::FAT_ARROW));
-    }
-    None
-}
-
-// What stands at a place of the draft, if it is of what most of a draft is made of. Nothing is called here that is not a part of the lexing loop.
-fn frequent(classes: &[u8; 256], s: &[u8], i: usize) -> Option<Step>
-    requires class_table { ClassTable classes.now }
-    requires i_in_bounds { i < length s.now }
-    ensures { Maybe s.now i result }
-{
-    let c = byte_class(classes, s[i]);
-    if c <= byte::LETTER {
-        if c > byte::DIGIT {
-            return plain_name(classes, s, i);
-        }
-        if c == byte::UNDERSCORE {
-            return plain_name(classes, s, i);
-        }
-        return plain_number(classes, s, i);
-    }
-    if c < byte::SPACE {
-        return plain_mark(s, i, c);
-    }
-    if c > byte::LINE_END {
-        return None;
-    }
-    let e = rest_end(classes, s, i, byte::SPACE, byte::LINE_END);
-    Some(Step::Trivia { end: e })
-}
-
 // What stands at a place of the draft.
 pub(crate) fn step_with(classes: &[u8; 256], draft: &[u8], at: usize) -> Step
     requires { ClassTable classes.now }
@@ -410,7 +297,7 @@ pub(crate) fn step_with(classes: &[u8; 256], draft: &[u8], at: usize) -> Step
     if at >= draft.len() {
         return Step::Nothing;
     }
-    let Some(found) = frequent(classes, draft, at) else {
+    let Some(found) = frequent::lexeme(classes, draft, at) else {
         return rare(classes, draft, at);
     };
     found

@@ -1,8 +1,6 @@
 // The tokens of a draft, one by one. All is inlined where it is called, so that a state stays in registers, but for the look-up of words.
 ghost use Rattle.std.specs.Prelude.{◌≡◌, ◌/◌, ◌||◌, ◌==◌, cond, nat_lt};
-ghost use Rattle.text.specs.Part.{part_of};
 ghost use Rattle.text.specs.Widths.{tokWide};
-ghost use Rattle.lexer.specs.Class as lexer;
 ghost use Rattle.lexer.specs.Classes as t;
 ghost use Rattle.parse.specs.Contract.{text, tokAt, Gives, next, Moved, Eaten};
 
@@ -15,38 +13,6 @@ pub(crate) struct Lexeme {
     pub(crate) class: u32,
     pub(crate) start: u32,
     pub(crate) stop: u32,
-}
-
-// The class of a token that may be a word of the rules. Out of line, so that other tokens pay nothing for the look-up.
-#[inline(never)]
-fn word(draft: &[u8], kind: u32, start: u32, stop: u32) -> u32
-    ensures { result ≡ lexer.class_of kind (part_of draft.now start stop) }
-{
-    lexer::class(draft, kind, start as usize, stop as usize)
-}
-
-// Whether a token of this kind may be a word that the rules single out.
-#[inline(always)]
-fn may_be_word(kind: u32) -> bool
-    ensures { result ≡ (kind == t.Bool || kind == t.Ident || kind == t.Macro) }
-{
-    match kind {
-        class::BOOL => true,
-        class::IDENT => true,
-        class::MACRO => true,
-        _ => false,
-    }
-}
-
-// The class of a token of this kind.
-#[inline(always)]
-fn class_of(draft: &[u8], kind: u32, start: u32, stop: u32) -> u32
-    ensures { result ≡ lexer.class_of kind (part_of draft.now start stop) }
-{
-    if may_be_word(kind) {
-        return word(draft, kind, start, stop);
-    }
-    kind
 }
 
 // How many of so many tokens a buffer of so many words holds.
@@ -67,7 +33,7 @@ pub(crate) fn token(draft: &[u8], tokens: &[u32], count: usize, at: usize) -> Le
         let kind = tokens[TOKEN_WORDS * at];
         let start = tokens[TOKEN_WORDS * at + 1];
         let stop = tokens[TOKEN_WORDS * at + 2];
-        let class = class_of(draft, kind, start, stop);
+        let class = lexer::class(draft, kind, start as usize, stop as usize);
         return Lexeme { class, start, stop };
     }
     Lexeme {

@@ -30,6 +30,8 @@ const LESS: usize = 1024;
 
 const MIDDLE: usize = 2048;
 
+const MORE: usize = 3072;
+
 const LARGE: usize = 4096;
 
 const LARGER: usize = 8192;
@@ -99,6 +101,9 @@ fn list_counted(draft: &[u8], out: &mut [u8], tokens: &[u32], count: usize) -> u
     if count < MIDDLE / RECORD_WORDS {
         return list_in::<MIDDLE>(draft, out, tokens, count);
     }
+    if count < MORE / RECORD_WORDS {
+        return list_in::<MORE>(draft, out, tokens, count);
+    }
     if count < LARGE / RECORD_WORDS {
         return list_in::<LARGE>(draft, out, tokens, count);
     }
@@ -157,6 +162,9 @@ fn list_sized(draft: &[u8], out: &mut [u8]) -> usize
     }
     if draft.len() <= MIDDLE / TOKEN_WORDS {
         return list_short::<MIDDLE>(draft, out);
+    }
+    if draft.len() <= MORE / TOKEN_WORDS {
+        return list_short::<MORE>(draft, out);
     }
     if draft.len() <= LARGE / TOKEN_WORDS {
         return list_short::<LARGE>(draft, out);

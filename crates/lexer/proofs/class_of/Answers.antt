@@ -1,28 +1,7 @@
--- The word, if the kind may be one.
+-- A kind that is smaller than those of words.
 -- Assumes nothing.
-use Rattle.std.proofs.Common.{sym, ◌∙◌, arith}
-use Rattle.words.specs.Words.{words_of}
-use Rattle.lexer.specs.Class.{class_of}
-use Rattle.lexer.proofs.TokenClass.{few_words, small_kind, no_word}
+use Rattle.lexer.proofs.TokenClass.{small_kind}
 use Rattle.lexer.proofs.class_of.Goals as goal
 
 pub returns-then-kind-lt-BOOL : goal.returns-then-kind-lt-BOOL
 returns-then-kind-lt-BOOL c = small_kind _ _ c.if-kind-lt-BOOL.true
-
-pub returns-in_default : goal.returns-in_default
-unfolding words_of
-returns-in_default c = no_word _ _ (sym c.word-f.ensures ∙ c.in_default.is)
-
-pub overflow_cast-result : goal.overflow_cast-result
-overflow_cast-result c = let h = few_words _ _ (sym c.word-f.ensures ∙ c.in-Word.is) in omega arith
-
-pub overflow_add-result : goal.overflow_add-result
-overflow_add-result c = let h = few_words _ _ (sym c.word-f.ensures ∙ c.in-Word.is) in omega arith
-
-pub returns-then-may_be_word : goal.returns-then-may_be_word
-unfolding class_of words_of
-returns-then-may_be_word c = rw (sym c.may_be_word.ensures ∙ c.if-may_be_word.true, sym c.word-f.ensures ∙ c.in-Word.is)
-
-pub returns : goal.returns
-unfolding class_of
-returns c = rw (sym c.may_be_word.ensures ∙ c.if-may_be_word.false)

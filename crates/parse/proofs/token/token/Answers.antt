@@ -7,7 +7,7 @@ use Rattle.parse.proofs.token.token.Goals as goal
 pub returns-then-at-held : goal.returns-then-at-held
 returns-then-at-held c =
     let a = c.args in
-    token-in a.draft.now a.tokens.now a.count a.at c.class_of-class.result (subst (λ m. a.at < m) c.held.ensures c.if-at-held.true) c.class_of-class.ensures
+    token-in a.draft.now a.tokens.now a.count a.at c.class-class.result (subst (λ m. a.at < m) c.held.ensures c.if-at-held.true) c.class-class.ensures.answer
 
 pub returns : goal.returns
 returns c =

@@ -6,7 +6,7 @@ use Rattle.lexer.specs.Classes as t
 use Rattle.lexer.specs.declared.Step.TheVariants.{Token}
 use Rattle.lexer.proofs.ByteClasses.{starts_run}
 use Rattle.lexer.proofs.Bytes.{at-decimal}
-use Rattle.lexer.proofs.scan.plain_number.Goals as goal
+use Rattle.lexer.proofs.frequent.plain_number.Goals as goal
 
 pub rest_end-e-requires-clause-i_in_run : goal.rest_end-e-requires-clause-i_in_run
 rest_end-e-requires-clause-i_in_run c = (c.requires.i_in_bounds.0, starts_run _ c.requires.i_in_bounds.1)

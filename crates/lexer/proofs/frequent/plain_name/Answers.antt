@@ -4,8 +4,8 @@ use Rattle.std.proofs.Common.{◌≡◌, drop, ◌∙◌}
 use Rattle.std.proofs.Math.Option.{none}
 use Rattle.lexer.specs.Lexemes.{qualified}
 use Rattle.lexer.proofs.Names.{named, not-module, not-path, no-macro}
-use Rattle.lexer.proofs.scan.plain_name.Goals.{then-b-eq58+else-peek-eq58, else-b-eq58}
-use Rattle.lexer.proofs.scan.plain_name.Goals as goal
+use Rattle.lexer.proofs.frequent.plain_name.Goals.{then-b-eq58+else-peek-eq58, else-b-eq58}
+use Rattle.lexer.proofs.frequent.plain_name.Goals as goal
 
 pub word-requires : goal.word-requires
 word-requires c =

@@ -5,7 +5,7 @@ use Rattle.std.proofs.Common.{◌∙◌, arith}
 use Rattle.lexer.specs.Bytes as byte
 use Rattle.lexer.proofs.ByteClasses.{class-in, starts-underscore, starts-letter, digit-class}
 use Rattle.lexer.proofs.Bytes.{at-space}
-use Rattle.lexer.proofs.scan.frequent.Goals as goal
+use Rattle.lexer.proofs.frequent.lexeme.Goals as goal
 
 pub plain_name-requires-clause-i_in_bounds : goal.plain_name-requires-clause-i_in_bounds
 plain_name-requires-clause-i_in_bounds c =

@@ -3,7 +3,7 @@
 use Rattle.std.proofs.Common.{refl, sym, ◌∙◌, ◌+◌, ap, arith}
 use Rattle.lexer.specs.declared.Step.TheVariants.{Token}
 use Rattle.lexer.proofs.Marks.{at_alone, at-colon, at-eq}
-use Rattle.lexer.proofs.scan.plain_mark.Goals as goal
+use Rattle.lexer.proofs.frequent.plain_mark.Goals as goal
 
 pub returns-then-c-ge-LPAREN : goal.returns-then-c-ge-LPAREN
 returns-then-c-ge-LPAREN c =

@@ -1,0 +1,124 @@
+// What most of a draft is made of: names, keywords, numbers, marks and whitespace. Nothing is called here that is not a part of the lexing loop, so the
+// compiler knows in each of its ways what was found there.
+ghost use Rattle.std.specs.Prelude.{true, cond, eqb, ◌≡◌, ◌+◌, ◌<◌, length, get_or};
+ghost use Rattle.lexer.specs.Chars.{among, decimalDigits, nameStarts};
+ghost use Rattle.lexer.specs.Bytes.{byteClass, inClasses, ClassTable};
+ghost use Rattle.lexer.specs.Bytes as byte;
+ghost use Rattle.lexer.specs.Places.{Maybe};
+
+use crate::chars::{byte_class, rest_end};
+use crate::{Step, byte, classes as class, scan};
+use text::peek;
+
+// A name behind which neither `!` nor `::` stands.
+fn plain_name(classes: &[u8; 256], s: &[u8], i: usize) -> Option<Step>
+    requires class_table { ClassTable classes.now }
+    requires i_in_bounds { (i < length s.now) × (among nameStarts (get_or s.now i 0) ≡ true) × (inClasses byte.Underscore byte.Letter (get_or s.now i 0) ≡ true) }
+    ensures { Maybe s.now i result }
+{
+    let e = rest_end(classes, s, i, byte::UNDERSCORE, byte::LETTER);
+    let b = peek(s, e);
+    if b == b'!' {
+        return None;
+    }
+    if b == b':' {
+        if peek(s, e + 1) == b':' {
+            return None;
+        }
+    }
+    Some(scan::word(s, i, e))
+}
+
+// A number that does not begin with 0.
+fn plain_number(classes: &[u8; 256], s: &[u8], i: usize) -> Option<Step>
+    requires class_table { ClassTable classes.now }
+    requires i_in_bounds { (i < length s.now) × (among decimalDigits (get_or s.now i 0) ≡ true) }
+    ensures { Maybe s.now i result }
+{
+    if s[i] == b'0' {
+        return None;
+    }
+    let e = rest_end(classes, s, i, byte::UNDERSCORE, byte::DIGIT);
+    Some(Step::Token {
+        kind: class::DEC_LITERAL,
+        end: e,
+    })
+}
+
+// The mark of one byte at i, or that of two if the byte next stands behind it.
+fn one_or_two(s: &[u8], i: usize, one: u32, next: u8, two: u32) -> Step
+    requires { i < length s.now }
+    ensures { result ≡ cond (eqb (get_or s.now (i + 1) 0) next) (Step.Token two (i + 2)) (Step.Token one (i + 1)) }
+{
+    if peek(s, i + 1) == next {
+        return Step::Token {
+            kind: two,
+            end: i + 2,
+        };
+    }
+    Step::Token {
+        kind: one,
+        end: i + 1,
+    }
+}
+
+// A mark other than `->`; c is the class of the byte at i.
+fn plain_mark(s: &[u8], i: usize, c: u8) -> Option<Step>
+    requires { (i < length s.now) × (c ≡ byteClass (get_or s.now i 0)) × (byte.Letter < c) × (c < byte.Space) }
+    ensures { Maybe s.now i result }
+{
+    if c >= byte::LPAREN {
+        if c == byte::OTHER {
+            return None;
+        }
+        return Some(Step::Token {
+            kind: c as u32,
+            end: i + 1,
+        });
+    }
+    if c == byte::COMMA {
+        return Some(Step::Token {
+            kind: class::COMMA,
+            end: i + 1,
+        });
+    }
+    if c == byte::SEMI {
+        return Some(Step::Token {
+            kind: class::SEMI,
+            end: i + 1,
+        });
+    }
+    if c == byte::COLON {
+        return Some(one_or_two(s, i, class::COLON, b':', class::DOUBLE_COLON));
+    }
+    if c == byte::EQ {
+        return Some(one_or_two(s, i, class::EQ, b'>', class::FAT_ARROW));
+    }
+    None
+}
+
+// What stands at a place of the draft, if it is one of these.
+pub(crate) fn lexeme(classes: &[u8; 256], s: &[u8], i: usize) -> Option<Step>
+    requires class_table { ClassTable classes.now }
+    requires i_in_bounds { i < length s.now }
+    ensures { Maybe s.now i result }
+{
+    let c = byte_class(classes, s[i]);
+    if c <= byte::LETTER {
+        if c > byte::DIGIT {
+            return plain_name(classes, s, i);
+        }
+        if c == byte::UNDERSCORE {
+            return plain_name(classes, s, i);
+        }
+        return plain_number(classes, s, i);
+    }
+    if c < byte::SPACE {
+        return plain_mark(s, i, c);
+    }
+    if c > byte::LINE_END {
+        return None;
+    }
+    let e = rest_end(classes, s, i, byte::SPACE, byte::LINE_END);
+    Some(Step::Trivia { end: e })
+}
