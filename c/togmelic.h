@@ -60,7 +60,7 @@ extern "C" {
  * call: copy a file that is mapped into memory first, unless no one can write to it.
  *
  * The answer depends on the draft and on out_length alone. Nothing is allocated, and nothing is kept: calls may be
- * made from several threads at once, each with an out of its own. A call takes up to 600,000 bytes of stack, so give
+ * made from several threads at once, each with an out of its own. A call takes up to 400,000 bytes of stack, so give
  * its thread 1 MiB.
  */
 size_t togmelic_list(const unsigned char *draft, size_t draft_length, unsigned char *out, size_t out_length);

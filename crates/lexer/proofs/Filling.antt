@@ -13,11 +13,11 @@ use lib.Seq.{sets-eq, take_at, drop_at, drop-drop, get_or_at}
 use Rattle.text.specs.Answers.{Answer, accepted, refused}
 use Rattle.text.specs.Refusals as refusal
 use Rattle.text.specs.Widths.{tokWide}
-use Rattle.text.specs.Front.{front}
+use Rattle.text.specs.Front.{front, Held}
 use Rattle.lexer.specs.Lexemes.{Token, Lexemes, tokens, refusedAt, with-token, lexemesFrom, lexemes}
 use Rattle.lexer.specs.Limits.{noToken, meant, tooDeep, deep, judgedIn, tokenWords, tokensOf}
-use Rattle.lexer.specs.Buffer.{put_at, Held}
-use Rattle.lexer.specs.Fits.{no-refusal, token-words-length}
+use Rattle.lexer.specs.Buffer.{put_at}
+use Rattle.lexer.specs.Fits.{not-both, token-words-length}
 use Rattle.lexer.specs.Nesting.{isPast, nestAfter, nestOf, outermost, passed_at}
 use Rattle.lexer.specs.Step.{step_of}
 use Rattle.lexer.specs.declared.Step.{Step}
@@ -199,12 +199,12 @@ module _ {s : List ℕ} {room : ℕ} {o : List ℕ} {i n w : ℕ} {x : Nest} {ou
       go false f = deep_is
 
   -- the tokens stand in the buffer unless they are refused
-  pub fill-held : (r : Lexed) → step_of s i ≡ S.Nothing → meant r ≡ said (ltb room n) (isPast x) → Held r out (tokensOf (lexemes s)) o
-  fill-held r q e = record { holds = go (ltb room n) (isPast x) refl e }
+  pub fill-held : (r : Lexed) → step_of s i ≡ S.Nothing → meant r ≡ said (ltb room n) (isPast x) → Held (meant r) (tokenWords (tokensOf (lexemes s))) o out
+  fill-held r q e = record { holds = λ k m h. go (ltb room n) (isPast x) refl (sym e ∙ h) }
     where
-      go : (a b : Bool) → ltb room n ≡ a → meant r ≡ said a b → (m : ℕ) → r ≡ L.Tokens m → out ≡ front (tokenWords (tokensOf (lexemes s))) o
-      go true b f e m h = absurd (no-refusal (sym (sym (ap meant h) ∙ e)))
-      go false true f e m h = absurd (no-refusal (sym (sym (ap meant h) ∙ e)))
-      go false false f e m h =
+      go : (a b : Bool) → ltb room n ≡ a → {k m : ℕ} → said a b ≡ accepted k m → out ≡ front (tokenWords (tokensOf (lexemes s))) o
+      go true b f h = absurd (not-both h)
+      go false true f h = absurd (not-both h)
+      go false false f h =
           let l : length (tokenWords v.done) ≡ tokWide * n = token-words-length v.done ∙ ap (λ y. tokWide * y) v.number in
           v.written (ltb-false room n f) ∙ ap (λ (k : ℕ). tokenWords v.done ++ drop k o) (sym l) ∙ ap (λ (y : Lexemes). front (tokenWords (tokensOf y)) o) (sym (fill-over q))

@@ -10,8 +10,8 @@ use Rattle.text.specs.Answers.{Answer, accepted, refused}
 use Rattle.text.specs.Refusals as refusal
 use Rattle.text.specs.Widths.{tokWide}
 use Rattle.lexer.specs.Lexemes.{lexemes}
-use Rattle.lexer.specs.Limits.{limitsOf, room, meant, judgedIn, lexedOf, tokensOf, content, bufferOf}
-use Rattle.lexer.specs.Buffer.{Held}
+use Rattle.lexer.specs.Limits.{limitsOf, room, meant, judgedIn, lexedOf, tokensOf, tokenWords, content, bufferOf}
+use Rattle.text.specs.Front.{Held}
 use Rattle.lexer.specs.Fits.{words-fit, tokens-cleared}
 use Rattle.lexer.specs.declared.Lexed.{Lexed}
 use Rattle.lexer.specs.declared.Lexed.TheVariants.{Tokens, Refused}
@@ -38,5 +38,5 @@ module _ (b t : ℕ) (s o : List ℕ) {r : Lexed} {n : ℕ} (out : List ℕ) (e 
   pub tokens-fit : length out ≡ length o → tokWide * n ≤ length out
   tokens-fit l = omega (arith, l, (words-fit (limitsOf b t) s o n (is-accepted b t s (length o) e g)).0)
 
-  pub buffer_held : Held r out (tokensOf (lexemes s)) o → take (tokWide * n) out ++ replicate (length out - tokWide * n) 0 ≡ bufferOf (limitsOf b t) s (length o)
-  buffer_held h = tokens-cleared (limitsOf b t) s o n (is-accepted b t s (length o) e g) (h.holds n g)
+  pub buffer_held : Held (meant r) (tokenWords (tokensOf (lexemes s))) o out → take (tokWide * n) out ++ replicate (length out - tokWide * n) 0 ≡ bufferOf (limitsOf b t) s (length o)
+  buffer_held h = tokens-cleared (limitsOf b t) s o n (is-accepted b t s (length o) e g) (h.holds n 0 (ap meant g))

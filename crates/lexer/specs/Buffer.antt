@@ -2,11 +2,7 @@
 -- Assumes nothing.
 use Rattle.std.specs.Prelude.{cond, List, [], ◌∷◌, ◌≡◌, ℕ, zero, suc, ◌+◌, ◌*◌, ltb, get_or, drop, set}
 use Rattle.text.specs.Widths.{tokWide}
-use Rattle.text.specs.Front.{front}
 use Rattle.lexer.specs.Lexemes.{Token}
-use Rattle.lexer.specs.Limits.{tokenWords}
-use Rattle.lexer.specs.declared.Lexed.{Lexed}
-use Rattle.lexer.specs.declared.Lexed.TheVariants.{Tokens}
 
 -- token number n is written if it is below the room
 unfoldable pub put_at : List ℕ → ℕ → ℕ → ℕ → ℕ → ℕ → List ℕ
@@ -16,7 +12,3 @@ put_at out room n kind start end = cond (ltb n room) (set (set (set out (tokWide
 unfoldable pub tokensIn : ℕ → List ℕ → List Token
 tokensIn zero words = []
 tokensIn (suc n) words = record { kind = get_or words 0 0; start = get_or words 1 0; end = get_or words 2 0 } ∷ tokensIn n (drop tokWide words)
-
--- unless they are refused, the tokens stand at the front of the buffer, and what was behind them is still there
-pub record Held (r : Lexed) (out : List ℕ) (ts : List Token) (old : List ℕ) : Type 0 where
-  pub holds : (n : ℕ) → r ≡ Tokens n → out ≡ front (tokenWords ts) old

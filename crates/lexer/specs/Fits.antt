@@ -21,19 +21,19 @@ count (accepted n m) = n
 count (refused c p) = 0
 
 -- No answer is both.
-pub no-refusal : {c p n m : ℕ} → refused c p ≡ accepted n m → ⊥
-no-refusal e = differ (ap accepting e)
+pub not-both : {c p n m : ℕ} → refused c p ≡ accepted n m → ⊥
+not-both e = differ (ap accepting e)
 
 deep_is : (o : Option ℕ) {k n : ℕ} → deep o k ≡ accepted n 0 → k ≡ n
 deep_is none e = ap count e
-deep_is (some p) e = absurd (no-refusal e)
+deep_is (some p) e = absurd (not-both e)
 
 fits : (l : Limits) (tw n : ℕ) (x : Lexemes) → judged l tw x ≡ accepted n 0 → (length (tokensOf x) ≡ n) × (length (tokensOf x) ≤ room l tw)
-fits l tw n (refusedAt c p) e = absurd (no-refusal e)
+fits l tw n (refusedAt c p) e = absurd (not-both e)
 fits l tw n (tokens ts) e = go (ltb (room l tw) (length ts)) refl e
   where
     go : (b : Bool) → ltb (room l tw) (length ts) ≡ b → cond b (refused refusal.TooMany (get_or ts (room l tw) noToken).start) (deep (tooDeep 0 0 ts) (length ts)) ≡ accepted n 0 → (length ts ≡ n) × (length ts ≤ room l tw)
-    go true q f = absurd (no-refusal f)
+    go true q f = absurd (not-both f)
     go false q f = (deep_is (tooDeep 0 0 ts) f, ltb-false (room l tw) (length ts) q)
 
 -- So many are accepted only if there are so many, and they fit.
@@ -42,7 +42,7 @@ unfolding lexedOf
 lexed-fits l draft tw n e = go (ltb l.bytes (length draft)) e
   where
     go : (b : Bool) → cond b (refused refusal.TooLong l.bytes) (judged l tw (lexemes draft)) ≡ accepted n 0 → (length (tokensOf (lexemes draft)) ≡ n) × (length (tokensOf (lexemes draft)) ≤ room l tw)
-    go true f = absurd (no-refusal f)
+    go true f = absurd (not-both f)
     go false f = fits l tw n (lexemes draft) f
 
 pub lexed-few : (l : Limits) (draft : List ℕ) (tw n : ℕ) → lexedOf l draft tw ≡ accepted n 0 → n ≤ l.tokens
@@ -59,7 +59,7 @@ unfolding lexedOf
 lexed-short l draft tw n e = go (ltb l.bytes (length draft)) refl e
   where
     go : (b : Bool) → ltb l.bytes (length draft) ≡ b → cond b (refused refusal.TooLong l.bytes) (judged l tw (lexemes draft)) ≡ accepted n 0 → length draft ≤ l.bytes
-    go true q f = absurd (no-refusal f)
+    go true q f = absurd (not-both f)
     go false q f = ltb-false l.bytes (length draft) q
 
 -- So many words a token.

@@ -34,6 +34,6 @@ pub record Based (s : List ℕ) (i kind most : ℕ) : Type 0 where
   pub others : (inClasses byte.BinaryDigit most (get_or s (i + 2) 0) ≡ true → ⊥) → lexemeAt s i ≡ decimalAt s i
 
 -- the lexeme at i, if there is an answer
-abbrev pub Maybe : List ℕ → ℕ → Option Step → Type 0
-Maybe s i None = Unit
-Maybe s i (Some t) = t ≡ lexemeAt s i
+abbrev pub IfAny : List ℕ → ℕ → Option Step → Type 0
+IfAny s i None = Unit
+IfAny s i (Some t) = t ≡ lexemeAt s i

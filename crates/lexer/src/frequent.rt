@@ -4,7 +4,7 @@ ghost use Rattle.std.specs.Prelude.{true, cond, eqb, ◌≡◌, ◌+◌, ◌<◌
 ghost use Rattle.lexer.specs.Chars.{among, decimalDigits, nameStarts};
 ghost use Rattle.lexer.specs.Bytes.{byteClass, inClasses, ClassTable};
 ghost use Rattle.lexer.specs.Bytes as byte;
-ghost use Rattle.lexer.specs.Places.{Maybe};
+ghost use Rattle.lexer.specs.Places.{IfAny};
 
 use crate::chars::{byte_class, rest_end};
 use crate::{Step, byte, classes as class, scan};
@@ -14,7 +14,7 @@ use text::peek;
 fn plain_name(classes: &[u8; 256], s: &[u8], i: usize) -> Option<Step>
     requires class_table { ClassTable classes.now }
     requires i_in_bounds { (i < length s.now) × (among nameStarts (get_or s.now i 0) ≡ true) × (inClasses byte.Underscore byte.Letter (get_or s.now i 0) ≡ true) }
-    ensures { Maybe s.now i result }
+    ensures { IfAny s.now i result }
 {
     let e = rest_end(classes, s, i, byte::UNDERSCORE, byte::LETTER);
     let b = peek(s, e);
@@ -33,7 +33,7 @@ fn plain_name(classes: &[u8; 256], s: &[u8], i: usize) -> Option<Step>
 fn plain_number(classes: &[u8; 256], s: &[u8], i: usize) -> Option<Step>
     requires class_table { ClassTable classes.now }
     requires i_in_bounds { (i < length s.now) × (among decimalDigits (get_or s.now i 0) ≡ true) }
-    ensures { Maybe s.now i result }
+    ensures { IfAny s.now i result }
 {
     if s[i] == b'0' {
         return None;
@@ -65,7 +65,7 @@ fn one_or_two(s: &[u8], i: usize, one: u32, next: u8, two: u32) -> Step
 // A mark other than `->`; c is the class of the byte at i.
 fn plain_mark(s: &[u8], i: usize, c: u8) -> Option<Step>
     requires { (i < length s.now) × (c ≡ byteClass (get_or s.now i 0)) × (byte.Letter < c) × (c < byte.Space) }
-    ensures { Maybe s.now i result }
+    ensures { IfAny s.now i result }
 {
     if c >= byte::LPAREN {
         if c == byte::OTHER {
@@ -101,7 +101,7 @@ fn plain_mark(s: &[u8], i: usize, c: u8) -> Option<Step>
 pub(crate) fn lexeme(classes: &[u8; 256], s: &[u8], i: usize) -> Option<Step>
     requires class_table { ClassTable classes.now }
     requires i_in_bounds { i < length s.now }
-    ensures { Maybe s.now i result }
+    ensures { IfAny s.now i result }
 {
     let c = byte_class(classes, s[i]);
     if c <= byte::LETTER {

@@ -2,14 +2,14 @@
 #![tactic(auto)]
 
 ghost use Rattle.std.specs.Prelude.{◌||◌, ◌≡◌, eqb, length};
+ghost use Rattle.text.specs.Front.{Held};
 ghost use Rattle.text.specs.Part.{part_of};
 ghost use Rattle.lexer.specs.Classes as t;
 ghost use Rattle.lexer.specs.Class.{class_of};
 ghost use Rattle.lexer.specs.ClassLaw.{ClassLaw};
 ghost use Rattle.lexer.specs.Texts.{OneToken};
 ghost use Rattle.lexer.specs.Lexemes.{lexemes};
-ghost use Rattle.lexer.specs.Limits.{draftLimits, meant, lexedOf, bufferOf, tokensOf};
-ghost use Rattle.lexer.specs.Buffer.{Held};
+ghost use Rattle.lexer.specs.Limits.{draftLimits, meant, lexedOf, bufferOf, tokensOf, tokenWords};
 
 use words::{Found, Table};
 
@@ -57,10 +57,10 @@ pub fn lex(draft: &[u8], out: &mut [u32]) -> Lexed
     limits::lex_within(draft, out, DRAFT_BYTES, DRAFT_TOKENS)
 }
 
-// The same for who needs no zeros: the words behind the tokens stay as they are, and on a refusal nothing is said of the words.
+// As `lex`, for a caller that needs no zeros: the words behind the tokens stay; on a refusal the words may be anything.
 pub fn lex_front(draft: &[u8], out: &mut [u32]) -> Lexed
     ensures result_value { meant result ≡ lexedOf draftLimits draft.now (length out.old) }
-    ensures held { Held result out.new (tokensOf (lexemes draft.now)) out.old }
+    ensures held { Held (meant result) (tokenWords (tokensOf (lexemes draft.now))) out.old out.new }
 {
     limits::lex_front_within(draft, out, DRAFT_BYTES, DRAFT_TOKENS)
 }

@@ -1,11 +1,11 @@
 // The tokens of a draft within limits: refusals 1 to 7 in their order.
 ghost use Rattle.std.specs.Prelude.{cond, ◌≡◌, ◌+◌, ◌*◌, ◌-◌, ◌≤◌, ◌<◌, ◌^◌, min, eqb, ltb, length};
 ghost use Rattle.text.specs.Answers.{accepted, refused};
+ghost use Rattle.text.specs.Front.{Held};
 ghost use Rattle.text.specs.Refusals as refusal;
 ghost use Rattle.text.specs.Widths.{tokWide};
 ghost use Rattle.lexer.specs.Lexemes.{lexemes};
-ghost use Rattle.lexer.specs.Limits.{limitsOf, meant, judgedIn, lexedOf, bufferOf, tokensOf};
-ghost use Rattle.lexer.specs.Buffer.{Held};
+ghost use Rattle.lexer.specs.Limits.{limitsOf, meant, judgedIn, lexedOf, bufferOf, tokensOf, tokenWords};
 ghost use Rattle.lexer.specs.Nesting.{isPast};
 
 use crate::chars::class_table;
@@ -51,7 +51,7 @@ fn count(room: usize, n: usize, over: usize, nest: Nest) -> Lexed
 fn fill(draft: &[u8], out: &mut [u32], room: usize) -> Lexed
     requires { (length draft.now < 2 ^ 32) × (tokWide * room ≤ length out.old) }
     ensures result_value { meant result ≡ judgedIn room (lexemes draft.now) }
-    ensures held { Held result out.new (tokensOf (lexemes draft.now)) out.old }
+    ensures held { Held (meant result) (tokenWords (tokensOf (lexemes draft.now))) out.old out.new }
 {
     let classes = class_table();
     let mut at: usize = 0;
@@ -86,7 +86,7 @@ fn fill(draft: &[u8], out: &mut [u32], room: usize) -> Lexed
 pub(crate) fn lex_front_within(draft: &[u8], out: &mut [u32], bytes: usize, tokens: usize) -> Lexed
     requires { bytes < 2 ^ 32 }
     ensures result_value { meant result ≡ lexedOf (limitsOf bytes tokens) draft.now (length out.old) }
-    ensures held { Held result out.new (tokensOf (lexemes draft.now)) out.old }
+    ensures held { Held (meant result) (tokenWords (tokensOf (lexemes draft.now))) out.old out.new }
 {
     if draft.len() > bytes {
         return Lexed::Refused {

@@ -6,7 +6,6 @@ use Rattle.std.proofs.Math.Option.{none}
 use Rattle.lexer.specs.Lexemes.{Token}
 use Rattle.lexer.specs.Buffer.{tokensIn}
 use Rattle.text.specs.Widths.{tokWide, recWide}
-use Rattle.text.specs.Front.{front}
 use Rattle.text.specs.Answers.{Answer, accepted, refused}
 use Rattle.text.specs.Refusals as refusal
 use Rattle.own.specs.Words.{recWords}
@@ -70,10 +69,6 @@ tree_of en most draft words n rw =
     let r = reading_of en draft (tokensIn n words) in
     cond (tooMany most n (length words)) (replicate rw 0)
     (cond (tooLong en (length draft)) (replicate rw 0) (content (fitted rw r) (recWords (recordsIn r)) rw))
-
--- Unless they are refused, the records stand at the front of the buffer, and what was behind them is still there.
-pub record Held (en : Entry) (draft words : List ℕ) (n : ℕ) (r : code.Answer) (out old : List ℕ) : Type 0 where
-  pub holds : (m : ℕ) → r ≡ Records m → out ≡ front (recWords (recordsIn (reading_of en draft (tokensIn n words)))) old
 
 -- The first state: at the first token, with no records and no refusal.
 pub record Starts (x : Text) (st : State) : Type 0 where

@@ -1,10 +1,12 @@
 // From the first token to the answer: the parser's refusals in their order.
 ghost use Rattle.std.specs.Prelude.{◌≡◌, ◌*◌, ◌≤◌, false, length};
+ghost use Rattle.text.specs.Front.{Held};
 ghost use Rattle.text.specs.Widths.{tokWide};
 ghost use Rattle.lexer.specs.Buffer.{tokensIn};
-ghost use Rattle.grammar.specs.answers.Answer.{start_of};
+ghost use Rattle.own.specs.Words.{recWords};
+ghost use Rattle.grammar.specs.answers.Answer.{start_of, recordsIn};
 ghost use Rattle.parse.specs.Contract.{text, countable, Ready};
-ghost use Rattle.parse.specs.Entry.{entry_of, tooMany, tooLong, WholeRead, Starts, ended, judged, answered, answer_of, tree_of, Held};
+ghost use Rattle.parse.specs.Entry.{entry_of, tooMany, tooLong, WholeRead, Starts, ended, judged, meant, answered, reading_of, answer_of, tree_of};
 
 use crate::{Answer, State, Step, file, program, token};
 use text::{RECORD_WORDS, TOKEN_WORDS, refusal};
@@ -132,7 +134,7 @@ pub(crate) fn parse_front_within(
 ) -> Answer
     requires { most ≤ countable }
     ensures value { result ≡ answered (answer_of (entry_of file) most draft.now tokens.now count (length tree.old)) }
-    ensures held { Held (entry_of file) draft.now tokens.now count result tree.new tree.old }
+    ensures held { Held (meant count result) (recWords (recordsIn (reading_of (entry_of file) draft.now (tokensIn count tokens.now)))) tree.old tree.new }
 {
     if too_many(most, count, tokens.len()) {
         return Answer::Refused {

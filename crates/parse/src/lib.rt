@@ -2,9 +2,13 @@
 #![tactic(auto)]
 
 ghost use Rattle.std.specs.Prelude.{◌≡◌, length};
+ghost use Rattle.text.specs.Front.{Held};
 ghost use Rattle.lexer.specs.Limits.{draftLimits};
+ghost use Rattle.lexer.specs.Buffer.{tokensIn};
+ghost use Rattle.own.specs.Words.{recWords};
 ghost use Rattle.grammar.specs.Entry.{oneFunction, wholeFile};
-ghost use Rattle.parse.specs.Entry.{entry_of, meant, answer_of, tree_of, Held};
+ghost use Rattle.grammar.specs.answers.Answer.{recordsIn};
+ghost use Rattle.parse.specs.Entry.{entry_of, meant, reading_of, answer_of, tree_of};
 
 mod arms;
 mod choice;
@@ -65,7 +69,7 @@ pub fn parse_file(draft: &[u8], tokens: &[u32], count: usize, tree: &mut [u32]) 
     entry::parse_within(draft, tokens, count, tree, lexer::DRAFT_TOKENS, true)
 }
 
-// The same of a file, or of one function, for who needs no zeros: the words behind the records stay as they are, and on a refusal nothing is said of the words.
+// As `parse_file`, or as `parse` where it is no file, for a caller that needs no zeros: the words behind the records stay; on a refusal the words may be anything.
 pub fn parse_front(
     draft: &[u8],
     tokens: &[u32],
@@ -74,7 +78,7 @@ pub fn parse_front(
     file: bool,
 ) -> Answer
     ensures answer { meant count result ≡ answer_of (entry_of file) draftLimits.tokens draft.now tokens.now count (length tree.old) }
-    ensures held { Held (entry_of file) draft.now tokens.now count result tree.new tree.old }
+    ensures held { Held (meant count result) (recWords (recordsIn (reading_of (entry_of file) draft.now (tokensIn count tokens.now)))) tree.old tree.new }
 {
     entry::parse_front_within(draft, tokens, count, tree, lexer::DRAFT_TOKENS, file)
 }

@@ -12,7 +12,7 @@ use Rattle.text.specs.Front.{front, front-cleared}
 use Rattle.lexer.specs.Lexemes.{Token, lexemes}
 use Rattle.lexer.specs.Limits.{draftLimits, room, lexedOf, tokensOf, tokenWords}
 use Rattle.lexer.specs.Buffer.{tokensIn}
-use Rattle.lexer.specs.Fits.{no-refusal, lexed-fits, lexed-short, read-back, words-fit, tokens-cleared}
+use Rattle.lexer.specs.Fits.{not-both, lexed-fits, lexed-short, read-back, words-fit, tokens-cleared}
 use Rattle.text.specs.Widths.{tokWide, recWide}
 use Rattle.text.specs.Answers.{Answer, accepted, refused}
 use Rattle.text.specs.Refusals as refusal
@@ -35,11 +35,11 @@ records-of (accepted n m) = m
 records-of (refused c p) = 0
 
 as-many : (space : ℕ) (x : Reading) {n m : ℕ} → fitted space x ≡ accepted n m → m ≡ length (recordsIn x)
-as-many space (unread c p) e = absurd (no-refusal e)
+as-many space (unread c p) e = absurd (not-both e)
 as-many space (read ts rs) {n} {m} e = go (ltb space (recWide * length rs)) e
   where
     go : (b : Bool) → cond b (refused refusal.NoRoom 0) (accepted (length ts) (length rs)) ≡ accepted n m → m ≡ length rs
-    go true f = absurd (no-refusal f)
+    go true f = absurd (not-both f)
     go false f = sym (ap records-of f)
 
 -- The buffer holds the draft's tokens.

@@ -12,9 +12,13 @@ use Rattle.grammar.specs.answers.Lines.{listing}
 abbrev pub recordsMost : ℕ
 recordsMost = over wholeFile + draftLimits.tokens
 
--- The listing of a draft, by a reader of files with buffers for as many tokens and records as a draft may have.
+-- The listing of a draft, by a reader of files with a buffer of so many words for its tokens, and one for as many records as a draft may have,
+abbrev pub listingBy : List ℕ → ℕ → List ℕ
+listingBy draft tw = listing wholeFile draftLimits draft tw (recWide * recordsMost)
+
+-- and with one for as many tokens as a draft may have.
 abbrev pub listingOf : List ℕ → List ℕ
-listingOf draft = listing wholeFile draftLimits draft (tokWide * draftLimits.tokens) (recWide * recordsMost)
+listingOf draft = listingBy draft (tokWide * draftLimits.tokens)
 
 -- The bytes used of a buffer of so many,
 unfoldable pub usedOf : List ℕ → ℕ → ℕ

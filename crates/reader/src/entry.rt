@@ -9,7 +9,7 @@ ghost use Rattle.lines.specs.Lines.{lines};
 ghost use Rattle.lines.specs.Written.{used, padded};
 ghost use Rattle.grammar.specs.Entry.{wholeFile, over};
 ghost use Rattle.grammar.specs.answers.Lines as spec;
-ghost use Rattle.reader.specs.Listed.{recordsMost, listingOf, usedOf, bytes_of};
+ghost use Rattle.reader.specs.Listed.{recordsMost, listingBy, listingOf, usedOf, bytes_of};
 
 use crate::Reading;
 use lexer::Lexed;
@@ -21,20 +21,20 @@ const RECORDS_OVER: usize = 1;
 // Room for the lines of every draft.
 pub const LISTING_BYTES: usize = lines::LINE_BYTES * (lexer::DRAFT_TOKENS + RECORDS_OVER);
 
-// The words of the arrays for the tokens of shorter drafts, and for the records of fewer tokens. One is cleared where it is made, so it is the smallest that will do.
-const TINY: usize = 128;
+// Rising sizes of arrays, in words, for tokens and for records. An array is cleared where it is made, so the smallest that will do is taken.
+const STEP_1: usize = 128;
 
-const SMALL: usize = 512;
+const STEP_2: usize = 512;
 
-const LESS: usize = 1024;
+const STEP_3: usize = 1024;
 
-const MIDDLE: usize = 2048;
+const STEP_4: usize = 2048;
 
-const MORE: usize = 3072;
+const STEP_5: usize = 3072;
 
-const LARGE: usize = 4096;
+const STEP_6: usize = 4096;
 
-const LARGER: usize = 8192;
+const STEP_7: usize = 8192;
 
 // The words that are enough for every draft.
 const MOST_TOKENS: usize = TOKEN_WORDS * lexer::DRAFT_TOKENS;
@@ -75,8 +75,8 @@ fn list_in<const WORDS: usize>(draft: &[u8], out: &mut [u8], tokens: &[u32], cou
     requires lexed { lexedOf draftLimits draft.now (length tokens.now) ≡ accepted count 0 }
     requires held { tokensIn count tokens.now ≡ tokensOf (lexemes draft.now) }
     requires room { (recWide * (over wholeFile + count) ≤ WORDS) × (WORDS ≤ recWide * recordsMost) }
-    ensures used { result ≡ used (spec.listing wholeFile draftLimits draft.now (length tokens.now) (recWide * recordsMost)) (length out.old) }
-    ensures bytes { out.new ≡ padded (spec.listing wholeFile draftLimits draft.now (length tokens.now) (recWide * recordsMost)) (length out.old) }
+    ensures used { result ≡ used (listingBy draft.now (length tokens.now)) (length out.old) }
+    ensures bytes { out.new ≡ padded (listingBy draft.now (length tokens.now)) (length out.old) }
 {
     let mut tree = [0u32; WORDS];
     list_by(draft, out, tokens, count, &mut tree)
@@ -86,37 +86,37 @@ fn list_in<const WORDS: usize>(draft: &[u8], out: &mut [u8], tokens: &[u32], cou
 fn list_counted(draft: &[u8], out: &mut [u8], tokens: &[u32], count: usize) -> usize
     requires lexed { lexedOf draftLimits draft.now (length tokens.now) ≡ accepted count 0 }
     requires held { tokensIn count tokens.now ≡ tokensOf (lexemes draft.now) }
-    ensures used { result ≡ used (spec.listing wholeFile draftLimits draft.now (length tokens.now) (recWide * recordsMost)) (length out.old) }
-    ensures bytes { out.new ≡ padded (spec.listing wholeFile draftLimits draft.now (length tokens.now) (recWide * recordsMost)) (length out.old) }
+    ensures used { result ≡ used (listingBy draft.now (length tokens.now)) (length out.old) }
+    ensures bytes { out.new ≡ padded (listingBy draft.now (length tokens.now)) (length out.old) }
 {
-    if count < TINY / RECORD_WORDS {
-        return list_in::<TINY>(draft, out, tokens, count);
+    if count < STEP_1 / RECORD_WORDS {
+        return list_in::<STEP_1>(draft, out, tokens, count);
     }
-    if count < SMALL / RECORD_WORDS {
-        return list_in::<SMALL>(draft, out, tokens, count);
+    if count < STEP_2 / RECORD_WORDS {
+        return list_in::<STEP_2>(draft, out, tokens, count);
     }
-    if count < LESS / RECORD_WORDS {
-        return list_in::<LESS>(draft, out, tokens, count);
+    if count < STEP_3 / RECORD_WORDS {
+        return list_in::<STEP_3>(draft, out, tokens, count);
     }
-    if count < MIDDLE / RECORD_WORDS {
-        return list_in::<MIDDLE>(draft, out, tokens, count);
+    if count < STEP_4 / RECORD_WORDS {
+        return list_in::<STEP_4>(draft, out, tokens, count);
     }
-    if count < MORE / RECORD_WORDS {
-        return list_in::<MORE>(draft, out, tokens, count);
+    if count < STEP_5 / RECORD_WORDS {
+        return list_in::<STEP_5>(draft, out, tokens, count);
     }
-    if count < LARGE / RECORD_WORDS {
-        return list_in::<LARGE>(draft, out, tokens, count);
+    if count < STEP_6 / RECORD_WORDS {
+        return list_in::<STEP_6>(draft, out, tokens, count);
     }
-    if count < LARGER / RECORD_WORDS {
-        return list_in::<LARGER>(draft, out, tokens, count);
+    if count < STEP_7 / RECORD_WORDS {
+        return list_in::<STEP_7>(draft, out, tokens, count);
     }
     list_in::<MOST_RECORDS>(draft, out, tokens, count)
 }
 
 // Lists a draft by way of this buffer for its tokens.
 fn list_lexed(draft: &[u8], out: &mut [u8], tokens: &mut [u32]) -> usize
-    ensures used { result ≡ used (spec.listing wholeFile draftLimits draft.now (length tokens.old) (recWide * recordsMost)) (length out.old) }
-    ensures bytes { out.new ≡ padded (spec.listing wholeFile draftLimits draft.now (length tokens.old) (recWide * recordsMost)) (length out.old) }
+    ensures used { result ≡ used (listingBy draft.now (length tokens.old)) (length out.old) }
+    ensures bytes { out.new ≡ padded (listingBy draft.now (length tokens.old)) (length out.old) }
 {
     let lexed = lexer::lex_front(draft, tokens);
     match lexed {
@@ -151,23 +151,23 @@ fn list_sized(draft: &[u8], out: &mut [u8]) -> usize
     ensures used { result ≡ usedOf draft.now (length out.old) }
     ensures bytes { out.new ≡ bytes_of draft.now (length out.old) }
 {
-    if draft.len() <= TINY / TOKEN_WORDS {
-        return list_short::<TINY>(draft, out);
+    if draft.len() <= STEP_1 / TOKEN_WORDS {
+        return list_short::<STEP_1>(draft, out);
     }
-    if draft.len() <= SMALL / TOKEN_WORDS {
-        return list_short::<SMALL>(draft, out);
+    if draft.len() <= STEP_2 / TOKEN_WORDS {
+        return list_short::<STEP_2>(draft, out);
     }
-    if draft.len() <= LESS / TOKEN_WORDS {
-        return list_short::<LESS>(draft, out);
+    if draft.len() <= STEP_3 / TOKEN_WORDS {
+        return list_short::<STEP_3>(draft, out);
     }
-    if draft.len() <= MIDDLE / TOKEN_WORDS {
-        return list_short::<MIDDLE>(draft, out);
+    if draft.len() <= STEP_4 / TOKEN_WORDS {
+        return list_short::<STEP_4>(draft, out);
     }
-    if draft.len() <= MORE / TOKEN_WORDS {
-        return list_short::<MORE>(draft, out);
+    if draft.len() <= STEP_5 / TOKEN_WORDS {
+        return list_short::<STEP_5>(draft, out);
     }
-    if draft.len() <= LARGE / TOKEN_WORDS {
-        return list_short::<LARGE>(draft, out);
+    if draft.len() <= STEP_6 / TOKEN_WORDS {
+        return list_short::<STEP_6>(draft, out);
     }
     list_long(draft, out)
 }

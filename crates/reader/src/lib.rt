@@ -9,9 +9,10 @@ ghost use Rattle.up.specs.Ways.{upWords};
 ghost use Rattle.grammar.specs.Entry.{oneFunction, wholeFile};
 ghost use Rattle.parse.specs.Entry.{entry_of};
 ghost use Rattle.text.specs.Answers.{accepted, values};
+ghost use Rattle.text.specs.Front.{Held};
 ghost use Rattle.grammar.specs.answers.Answer.{answer, tokenBuffer, treeBuffer, recordsRead};
 ghost use Rattle.grammar.specs.answers.Promised.{Promised};
-ghost use Rattle.reader.specs.Read.{meant, returned, Held};
+ghost use Rattle.reader.specs.Read.{meant, returned};
 
 use lexer::Lexed;
 use text::{RECORD_WORDS, TOKEN_WORDS};
@@ -64,10 +65,10 @@ fn read_as(draft: &[u8], tokens: &mut [u32], tree: &mut [u32], file: bool) -> Re
         text::clear(tree);
         return reading;
     };
-    let used = TOKEN_WORDS * count;
-    text::clear_from(tokens, used);
-    let written = RECORD_WORDS * records;
-    text::clear_from(tree, written);
+    let token_words = TOKEN_WORDS * count;
+    text::clear_from(tokens, token_words);
+    let record_words = RECORD_WORDS * records;
+    text::clear_from(tree, record_words);
     Reading::Accepted {
         tokens: count,
         records,
@@ -77,8 +78,8 @@ fn read_as(draft: &[u8], tokens: &mut [u32], tree: &mut [u32], file: bool) -> Re
 // The same, where the words behind those of the tokens and of the records stay as they are.
 fn read_front(draft: &[u8], tokens: &mut [u32], tree: &mut [u32], file: bool) -> Reading
     ensures answer { meant result ≡ answer (entry_of file) draftLimits draft.now (length tokens.old) (length tree.old) }
-    ensures tokens { Held result (tokenWords (tokensOf (lexemes draft.now))) tokens.old tokens.new }
-    ensures tree { Held result (upWords (recordsRead (entry_of file) draftLimits draft.now (length tokens.old))) tree.old tree.new }
+    ensures tokens { Held (meant result) (tokenWords (tokensOf (lexemes draft.now))) tokens.old tokens.new }
+    ensures tree { Held (meant result) (upWords (recordsRead (entry_of file) draftLimits draft.now (length tokens.old))) tree.old tree.new }
 {
     let lexed = lexer::lex_front(draft, tokens);
     match lexed {
@@ -92,7 +93,7 @@ fn parsed(draft: &[u8], tokens: &[u32], count: usize, tree: &mut [u32], file: bo
     requires lexed { lexedOf draftLimits draft.now (length tokens.now) ≡ accepted count 0 }
     requires held { tokensIn count tokens.now ≡ tokensOf (lexemes draft.now) }
     ensures answer { meant result ≡ answer (entry_of file) draftLimits draft.now (length tokens.now) (length tree.old) }
-    ensures tree { Held result (upWords (recordsRead (entry_of file) draftLimits draft.now (length tokens.now))) tree.old tree.new }
+    ensures tree { Held (meant result) (upWords (recordsRead (entry_of file) draftLimits draft.now (length tokens.now))) tree.old tree.new }
 {
     let answer = parse::parse_front(draft, tokens, count, tree, file);
     match answer {

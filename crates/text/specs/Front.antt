@@ -3,9 +3,14 @@
 use Rattle.std.specs.Prelude.{List, ◌++◌, ◌≡◌, ℕ, ◌-◌, ◌≤◌, length, replicate, take, drop}
 use Rattle.std.proofs.Common.{ap₂, arith, length-append, length-drop}
 use lib.Seq.{take_at}
+use Rattle.text.specs.Answers.{Answer, accepted}
 
 abbrev pub front : List ℕ → List ℕ → List ℕ
 front ws old = ws ++ drop (length ws) old
+
+-- Where an answer accepts, its words stand at the front of a buffer, and what was behind them is still there.
+pub record Held (a : Answer) (ws old out : List ℕ) : Type 0 where
+  pub holds : (n m : ℕ) → a ≡ accepted n m → out ≡ front ws old
 
 -- No word more, and none less.
 pub front-long : (ws old : List ℕ) → length ws ≤ length old → length (front ws old) ≡ length old

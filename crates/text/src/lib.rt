@@ -44,7 +44,7 @@ pub fn clear(out: &mut [u32])
     }
 }
 
-// Sets every word from `at` on to 0.
+// Sets every word from `at` on to 0; those before stay.
 pub fn clear_from(out: &mut [u32], at: usize)
     ensures { out.new ≡ take at out.old ++ replicate (length out.old - at) 0 }
 {

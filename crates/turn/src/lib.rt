@@ -6,6 +6,13 @@ ghost use Rattle.std.proofs.Math.Seq.{paste};
 
 use text::RECORD_WORDS;
 
+// The words of two records, of three and of four.
+const TWO: usize = 2 * RECORD_WORDS;
+
+const THREE: usize = 3 * RECORD_WORDS;
+
+const FOUR: usize = 4 * RECORD_WORDS;
+
 // Copies n elements of src, from the index `from`, over those of dst from the index `to`.
 fn copy(src: &[u32], from: usize, dst: &mut [u32], to: usize, n: usize)
     requires n_in_bounds { from + n ≤ length src.now }
@@ -44,14 +51,7 @@ fn up(a: &mut [u32], n: usize, c: usize)
     }
 }
 
-// The words of two records, of three and of four.
-const TWO: usize = 2 * RECORD_WORDS;
-
-const THREE: usize = 3 * RECORD_WORDS;
-
-const FOUR: usize = 4 * RECORD_WORDS;
-
-// The same. A move by a distance that the compiler knows is one by `memmove`.
+// As `up`, by a distance that is known where it is compiled for one to four records: that is a `memmove`.
 fn up_records(a: &mut [u32], n: usize, c: usize)
     requires { n + c ≡ length a.old }
     ensures { a.new ≡ take c a.old ++ take n a.old }

@@ -187,7 +187,7 @@ fn between(start: usize, end: usize) -> usize
     if start < end { end - start } else { 0 }
 }
 
-// Which word of the table the part of the draft from start up to end is. Its length is looked at first, since most names of one byte stop there.
+// Which word of the table the part of the draft from start up to end is. The length is looked at first: most names have one byte and stop there.
 #[inline(always)]
 pub fn word(table: Table, draft: &[u8], start: usize, end: usize) -> Found
     ensures { result ≡ word_of (words_of table) (part_of draft.now start end) }

@@ -8,7 +8,7 @@
 //! [`list`] and [`load_into`] write into a lent buffer and allocate nothing; [`listing`], [`read`] and [`load`] bring
 //! their own. Each of them may be called with any bytes and from any thread, and no answer depends on an earlier call.
 //! The reader keeps its tokens and its tree on the stack and calls itself for what is nested: the deepest drafts
-//! take some 600,000 bytes, so lend its thread 1 MiB. Loading takes less than 4,096 bytes, however deep the listing is
+//! take less than 400,000 bytes, so lend its thread 1 MiB. Loading takes less than 4,096 bytes, however deep the listing is
 //! nested.
 //!
 //! ```

@@ -2,7 +2,7 @@
 -- Assumes nothing.
 use Rattle.std.proofs.Common.{◌≡◌, ℕ, ◌-◌, ◌*◌, ◌≤◌, Bool, true, false, cond, ltb, List, ◌++◌, length, take, replicate, sym, refl, ap, ◌∙◌, arith, ltb-false}
 use Rattle.text.specs.Answers as paper
-use Rattle.text.specs.Front.{front-cleared}
+use Rattle.text.specs.Front.{Held, front-cleared}
 use Rattle.text.specs.Refusals as refusal
 use Rattle.text.specs.Same.{differ}
 use Rattle.text.specs.Widths.{recWide}
@@ -11,7 +11,7 @@ use Rattle.own.specs.WordLaws.{record-words-length}
 use Rattle.lexer.specs.Buffer.{tokensIn}
 use Rattle.grammar.specs.Entry.{Entry}
 use Rattle.grammar.specs.answers.Answer.{Reading, unread, read, fitted, content, recordsIn}
-use Rattle.parse.specs.Entry.{tooMany, tooLong, reading_of, answered, answer_of, tree_of, Held}
+use Rattle.parse.specs.Entry.{tooMany, tooLong, reading_of, meant, answered, answer_of, tree_of}
 use Rattle.parse.specs.declared.Answer.{Answer}
 use Rattle.parse.specs.declared.Answer.TheVariants.{Records, Refused}
 
@@ -79,8 +79,8 @@ module _ (en : Entry) (most : ℕ) (draft words' o : List ℕ) (n : ℕ) {a : An
     pub records-fit : recWide * m ≤ length o
     records-fit = fits.room
 
-    pub cleared-tree : (out : List ℕ) → Held en draft words' n a out o → take (recWide * m) out ++ replicate (length out - recWide * m) 0 ≡ tree_of en most draft words' n (length o)
+    pub cleared-tree : (out : List ℕ) → Held (meant n a) (recWords (recordsIn (reading_of en draft (tokensIn n words')))) o out → take (recWide * m) out ++ replicate (length out - recWide * m) 0 ≡ tree_of en most draft words' n (length o)
     cleared-tree out h =
-        ap (λ (z : List ℕ). take (recWide * m) z ++ replicate (length z - recWide * m) 0) (h.holds m q)
+        ap (λ (z : List ℕ). take (recWide * m) z ++ replicate (length z - recWide * m) 0) (h.holds n m (ap (meant n) q))
         ∙ front-cleared (recWords (recordsIn (reading_of en draft (tokensIn n words')))) o (recWide * m) fits.long fits.room
         ∙ fits.words_are

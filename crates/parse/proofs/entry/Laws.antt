@@ -7,6 +7,7 @@ use Rattle.own.specs.WordLaws.{record-words-length}
 use Rattle.text.specs.Same.{differ}
 use Rattle.lexer.specs.Lexemes.{Token}
 use Rattle.lexer.specs.Buffer.{tokensIn}
+use Rattle.lexer.specs.Fits.{not-both}
 use Rattle.lexer.specs.Limits.{noToken}
 use Rattle.theory.specs.Grammar.{nt}
 use Rattle.theory.specs.Ebnf as shape
@@ -16,7 +17,7 @@ use Rattle.own.specs.Law.{Keeps}
 use Rattle.own.specs.Rules.{each_map}
 use Rattle.own.specs.Flat.{no-token}
 use Rattle.text.specs.Widths.{tokWide, recWide}
-use Rattle.text.specs.Front.{front}
+use Rattle.text.specs.Front.{front, Held}
 use Rattle.text.specs.Answers as paper
 use Rattle.text.specs.Refusals as refusal
 use Rattle.own.specs.Words.{toks, wordGroups, recWords}
@@ -34,7 +35,7 @@ use Rattle.grammar.specs.answers.Answer.{toks_of, start_of, treesOf, recordsFor,
 use Rattle.parse.specs.Contract as contract
 use Rattle.parse.specs.Contract.{Text, text, countable, classes, tokAt, Read, Stuck, raw, faultIn, sooner, kept, fault, Holds, Info, asItems, Went}
 use Rattle.parse.specs.Infos.{file-read, file-stuck}
-use Rattle.parse.specs.Entry.{tooMany, tooLong, WholeRead, one-read, all_read, reading_of, meant, answered, answer_of, Held, Starts, ended, judged}
+use Rattle.parse.specs.Entry.{tooMany, tooLong, WholeRead, one-read, all_read, reading_of, meant, answered, answer_of, Starts, ended, judged}
 use Rattle.parse.specs.declared.State.{State}
 use Rattle.parse.specs.declared.Step.{Step}
 use Rattle.parse.specs.declared.Answer.{Answer}
@@ -107,10 +108,10 @@ module _ (draft words' : List ℕ) (n : ℕ) (h : tokWide * n ≤ length words')
     module _ (o : List ℕ) where
       -- What a step says, of the buffer that it makes of o.
       abbrev Says : List ℕ → Answer → Type 0
-      Says l a = (answered (fitted (length o) R) ≡ a) × Held en draft words' n a l o
+      Says l a = (answered (fitted (length o) R) ≡ a) × Held (meant n a) (recWords (recordsIn R)) o l
 
       refuses : {l : List ℕ} (c p : ℕ) → R ≡ unread c p → Says l (Refused c p)
-      refuses c p e = (ap (λ r. answered (fitted (length o) r)) e, record { holds = λ m q. absurd (differ (ap taken q)) })
+      refuses c p e = (ap (λ r. answered (fitted (length o) r)) e, record { holds = λ i m q. absurd (not-both q) })
 
       sticks : {l : List ℕ} (p : ℕ) → shape_of en (classes x) ≡ stuck p → Says l (Refused refusal.Misshapen (start_of draft ts p))
       sticks p e = refuses refusal.Misshapen (start_of draft ts p) (reading-is (stuck p) e)
@@ -198,11 +199,11 @@ module _ (draft words' : List ℕ) (n : ℕ) (h : tokWide * n ≤ length words')
             ∙ ap (λ (b : Bool). cond b (paper.refused refusal.NoRoom 0) (paper.accepted (length ts) z'.out)) g
 
         says-read : (b : Bool) → ltb k (recWide * z'.out) ≡ b → Says en o l'' (cond b (Refused refusal.NoRoom 0) (Records z'.out))
-        says-read true g = (ap answered (fitted-is true g), record { holds = λ m q. absurd (differ (ap taken q)) })
+        says-read true g = (ap answered (fitted-is true g), record { holds = λ i m q. absurd (not-both q) })
         says-read false g = (
           ap answered (fitted-is false g),
           record {
-            holds = λ m q.
+            holds = λ i m q.
                 c.words_are (ns e) (its-count e) (ltb-false k (recWide * z'.out) g) (its-fit e (numbers_fit e f))
                 ∙ sym (ap (λ (q : Reading). front (recWords (recordsIn q)) o) read_all);
           },
@@ -245,8 +246,8 @@ module _ (draft words' : List ℕ) (n : ℕ) (h : tokWide * n ≤ length words')
           e ∙ sym (says v).0
           ∙ sym (ap₂ (λ (b c : Bool). answered (cond b (paper.refused refusal.TooMany 0) (cond c (paper.refused refusal.TooLong 0) (fitted (length l) (R en))))) fewer short)
 
-      pub said-held : Held en draft words' n a l' l
-      said-held = subst (λ (a : Answer). Held en draft words' n a l' l) (sym e) (says v).1
+      pub said-held : Held (meant n a) (recWords (recordsIn (R en))) l l'
+      said-held = subst (λ (a : Answer). Held (meant n a) (recWords (recordsIn (R en))) l l') (sym e) (says v).1
 
 -- Too many tokens, or a file that is too long.
 pub too-many-answer : (en : Entry) (most : ℕ) (draft words' : List ℕ) (n k : ℕ) → tooMany most n (length words') ≡ true → Refused refusal.TooMany 0 ≡ answered (answer_of en most draft words' n k)

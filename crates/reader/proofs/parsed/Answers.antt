@@ -16,7 +16,7 @@ returns-in-Records-clause-tree c = record {
   holds = λ n m e.
       c.way_up.ensures
       ∙ law.parsed-raised (entry_of c.args.file) c.args.draft.now c.args.tokens.now c.args.count (length c.args.tree.now) c.requires.lexed c.requires.held
-      c.args.tree.now (sym (returns-in-Records-clause-answer c)) (c.in-Records.ensures.held.holds _ refl);
+      c.args.tree.now (sym (returns-in-Records-clause-answer c)) (c.in-Records.ensures.held.holds _ _ refl);
 }
 
 pub returns-in-Refused-clause-answer : goal.returns-in-Refused-clause-answer

@@ -19,14 +19,14 @@ returns-in_default-clause-tree c =
     c.clear-in_default.ensures ∙ ap (λ n. replicate n 0) r.auto.tree
     ∙ law.refused-tree (entry_of c.args.file) c.args.draft.now (length c.args.tokens.now) (length c.args.tree.now) (sym r.ensures.answer ∙ ap meant c.in_default.is)
 
-pub overflow_mul-used : goal.overflow_mul-used
-overflow_mul-used c =
+pub overflow_mul-token_words : goal.overflow_mul-token_words
+overflow_mul-token_words c =
     let r = c.read_front-reading in
     let h = law.tokens-fit (entry_of c.args.file) c.args.draft.now c.args.tokens.now (length c.args.tree.now) (sym r.ensures.answer ∙ ap meant c.in-Accepted.is) in
     omega (arith, h)
 
-pub overflow_mul-written : goal.overflow_mul-written
-overflow_mul-written c =
+pub overflow_mul-record_words : goal.overflow_mul-record_words
+overflow_mul-record_words c =
     let r = c.read_front-reading in
     let h = law.records-room (entry_of c.args.file) c.args.draft.now c.args.tree.now (length c.args.tokens.now) (sym r.ensures.answer ∙ ap meant c.in-Accepted.is) in
     omega (arith, h)
@@ -39,11 +39,11 @@ returns-clause-tokens c =
     let r = c.read_front-reading in
     c.clear_from.ensures
     ∙ law.accepted-tokens (entry_of c.args.file) c.args.draft.now c.args.tokens.now (length c.args.tree.now) (sym r.ensures.answer ∙ ap meant c.in-Accepted.is)
-    (r.ensures.tokens.holds _ _ c.in-Accepted.is)
+    (r.ensures.tokens.holds _ _ (ap meant c.in-Accepted.is))
 
 pub returns-clause-tree : goal.returns-clause-tree
 returns-clause-tree c =
     let r = c.read_front-reading in
     c.clear_from-2.ensures
     ∙ law.accepted-tree (entry_of c.args.file) c.args.draft.now c.args.tree.now (length c.args.tokens.now) (sym r.ensures.answer ∙ ap meant c.in-Accepted.is)
-    (r.ensures.tree.holds _ _ c.in-Accepted.is)
+    (r.ensures.tree.holds _ _ (ap meant c.in-Accepted.is))

@@ -9,7 +9,7 @@ use Rattle.reader.proofs.entry.list_lexed.Goals as goal
 
 pub list_counted-requires-clause-held : goal.list_counted-requires-clause-held
 list_counted-requires-clause-held c =
-    tokens-held c.args.draft.now _ c.args.tokens.now c.in-Tokens.count (sym c.in-Tokens.ensures.result_value) (c.in-Tokens.ensures.held.holds _ refl)
+    tokens-held c.args.draft.now _ c.args.tokens.now c.in-Tokens.count (sym c.in-Tokens.ensures.result_value) (c.in-Tokens.ensures.held.holds _ _ refl)
 
 pub returns-in-Refused-clause-used : goal.returns-in-Refused-clause-used
 returns-in-Refused-clause-used c =
