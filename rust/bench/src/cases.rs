@@ -94,7 +94,8 @@ fn matches() -> Vec<u8> {
     body(&format!("{before}{{{inner}}}{behind}"))
 }
 
-/// Where exchanging arms costs the proved reader most for each token, of all that bench/reader/rotation.sh tries.
+/// Where exchanging arms cost the proved reader most for each token before order 11, of all that bench/reader/rotation.sh tries; within three percent of
+/// the most now.
 fn rotation() -> Vec<u8> {
     turned(35, 4, false)
 }
