@@ -1,6 +1,6 @@
 """Reads the definitions of antt files that hold only names for numbers, lists and expressions of a grammar, and computes them.
 
-It knows what specs/Classes of crate `lexer`, specs/Kinds of `own`, the rules of `kinds` and the definitions of specs/shapes of `grammar` use: clauses
+It knows what specs/Classes of crate `lexer`, specs/Kinds of `own`, the rules of `kinds` and the definitions of specs/Shapes of `grammar` use: clauses
 by name, variable, [] and ( x ∷ .. ); constructors of data; application; the operators below; λ; pairs and .0, .1 of them; numerals; one form of record. A
 file may be read under a short name, as `use .. as t` has it: then its names are t.NAME.
 """

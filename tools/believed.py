@@ -16,13 +16,13 @@ import sys
 ROOT = os.path.dirname(os.path.dirname(os.path.abspath(__file__)))
 PAGE = os.path.join(ROOT, "docs", "BELIEF.md")
 BEGIN, END = "<!-- %s: made by tools/believed.py -->\n", "<!-- end -->\n"
-PAPER = ["crates/" + part for part in ("text", "utf8", "words", "lexer", "theory", "grammar/specs/shapes", "num", "own", "up", "grammar/specs/records", "kinds", "grammar",
+PAPER = ["crates/" + part for part in ("text", "utf8", "words", "lexer", "theory", "grammar/specs/Shapes", "num", "own", "up", "grammar/specs/Records", "kinds", "grammar",
                                        "reader", "lines", "load")]
 # Each function with the most lines that it may ask to believe, and the definitions that its contract cites.
 PROMISES = [
-    ("read", 1950, [("crates/grammar/specs/answers/Promised.antt", "Promised"), ("crates/reader/specs/Read.antt", "meant"),
-                    ("crates/reader/specs/Read.antt", "returned"), ("crates/grammar/specs/Entry.antt", "oneFunction"),
-                    ("crates/grammar/specs/Entry.antt", "wholeFile"), ("crates/lexer/specs/Limits.antt", "draftLimits")]),
+    ("read", 1950, [("crates/grammar/specs/Answers/Promised.antt", "Promised"), ("crates/reader/specs/Read.antt", "meant"),
+                    ("crates/reader/specs/Read.antt", "returned"), ("crates/grammar/specs/Entry.antt", "single_function"),
+                    ("crates/grammar/specs/Entry.antt", "whole_file"), ("crates/lexer/specs/Limits.antt", "draft_limits")]),
     ("load", 890, [("crates/load/specs/Promised.antt", "Loads"), ("crates/load/specs/Meant.antt", "meant"), ("crates/load/specs/Meant.antt", "returned")]),
 ]
 DEFINITION = re.compile(r"\s*(?:infix[lr]? .*|(?:abbrev|unfoldable) .*|(?:pub )?(?:data|record) .*)$")

@@ -1,12 +1,12 @@
 #!/usr/bin/env python3
-"""Writes the automaton of a record's children: crates/load/specs/children/Table.antt, and the same for the code, crates/load/src/table.rt.
+"""Writes the automaton of a record's children: crates/load/specs/Children/Table.antt, and the same for the code, crates/load/src/table.rt.
 
     tools/children.py            write the files
     tools/children.py --check    write nothing; exit 1 if a file is not what would be written
 
 The kinds table is read from the specs (Rules and Groups of crate kinds) by tools/antt_terms.py. Its forms without their marks are shapes; what is left
 of a tidy shape after a child is a shape again, and there are few of them. Shapes that the same children lead to an end are one state.
-Nothing here needs trust: antt computes on the result that it is right (specs/children/Automaton.antt, Begins.antt).
+Nothing here needs trust: antt computes on the result that it is right (specs/Children/Automaton.antt, Begins.antt).
 """
 import os
 import sys
@@ -17,10 +17,10 @@ from antt_terms import Values  # noqa: E402
 ROOT = os.path.join(os.path.dirname(os.path.abspath(__file__)), "..", "crates")
 SOURCES = [("lexer/specs/Classes", "t"), ("own/specs/Kinds", "kind"), ("own/specs/Calls", "call"), ("own/specs/Arms", "arm"), ("kinds/specs/Families", "family"),
            ("kinds/specs/Shape", None), ("kinds/specs/Fields", None), ("kinds/specs/Rules", None), ("kinds/specs/Groups", None)]
-SPEC = os.path.join(ROOT, "load", "specs", "children", "Table.antt")
+SPEC = os.path.join(ROOT, "load", "specs", "Children", "Table.antt")
 CODE = os.path.join(ROOT, "load", "src", "table.rt")
 NOTHING, NEVER = ("nothing",), ("never",)
-# As in specs/children/Begin.antt: what is asked of low and high, from 1 on; the bits of the unsigned types; how many entries a kind has before the states.
+# As in specs/Children/Begin.antt: what is asked of low and high, from 1 on; the bits of the unsigned types; how many entries a kind has before the states.
 ASKED = ["low", "parameters", "wide", "bounded", "names", "pairs", "bits"]
 BITS = [2 ** i for i in range(9)]
 HEAD_COLUMNS = 3
@@ -103,7 +103,7 @@ def after(child, a):
 
 # ---------------------------------------------------------------------------------------------- the table
 values = Values([(os.path.join(ROOT, name + ".antt"), short) for name, short in SOURCES])
-FORMS, CATEGORIES, PARTNERS = values.value("allForms"), values.value("categories"), values.value("arm.partners")
+FORMS, CATEGORIES, PARTNERS = values.value("all_forms"), values.value("categories"), values.value("arm.partners")
 NAME, ARM, NUMBER, MATCH, LAST = (values.value("kind." + n) for n in ("Name", "BuiltinArm", "Number", "Match", "Last"))
 ARMS = 1 + max(max(p) for p in PARTNERS)
 # A child for each cue, kind and low: any other; one of each category; an arm by its low; a number from 1 on that is a bound, and one that is none.
@@ -169,7 +169,7 @@ def asked_by(fields):
 
 
 def lows_for(fields):
-    """The lows that a form names; 0 stands for all where it names none: `lowsFor` of Begin.antt."""
+    """The lows that a form names; 0 stands for all where it names none: `lows_for` of Begin.antt."""
     if fields[0] in ("low", "parameters"):
         return [fields[1]]
     return fields[1] if fields[0] == "among" and asked_by(fields) == "low" else [0]
@@ -216,15 +216,15 @@ def spec():
         "-- both are right.\n-- Assumes nothing.\nuse Rattle.std.specs.Prelude.{List, [], ◌∷◌, ℕ}\n",
         "-- How a shape is reached: the dead one; the form of this number; what is left of that shape after a child of that cue.\n"
         "pub data Reach : Type 0 where\n  dead : Reach\n  form : ℕ → Reach\n  by : ℕ → ℕ → Reach\n",
-        f"-- How many states there are.\nabbrev pub stateCount : ℕ\nstateCount = {COUNT}\n",
+        f"-- How many states there are.\nabbrev pub state_count : ℕ\nstate_count = {COUNT}\n",
         entries("reaches", "Reach", "The shapes,", REACHED, 10),
         entries("states", "ℕ", "the state of each,", STATES, 20),
         entries("steps", "ℕ", "and a row a state: the next state by cue, and then 1 where a record may end.", flat, len(CUES) + 1),
-        f"-- How many entries the table of heads has.\nabbrev pub headCount : ℕ\nheadCount = {len(HEADS)}\n",
+        f"-- How many entries the table of heads has.\nabbrev pub head_count : ℕ\nhead_count = {len(HEADS)}\n",
         entries("heads", "ℕ", "Three entries a kind: what is asked of low and high, where its states stand, how many lows are looked up; then the states.", HEADS, 24),
-        entries("kindCues", "ℕ", "The cue of each kind.", KIND_CUES, 24),
-        entries("cueKinds", "ℕ", "Kind and low of a child of each cue.", [k for k, _ in CUES], 24),
-        entries("cueLows", "ℕ", "", [low for _, low in CUES], 24).removeprefix("-- \n"),
+        entries("kind_cues", "ℕ", "The cue of each kind.", KIND_CUES, 24),
+        entries("cue_kinds", "ℕ", "Kind and low of a child of each cue.", [k for k, _ in CUES], 24),
+        entries("cue_lows", "ℕ", "", [low for _, low in CUES], 24).removeprefix("-- \n"),
     ])
 
 
@@ -234,7 +234,7 @@ def code():
         return f'pub(crate) const {name}: [u8; {length}] = *b"\\\n    ' + "\\\n    ".join(rows) + '";\n'
 
     return ("// The automaton of a record's children, and the states that it begins in, by kind. Made by tools/children.py from the kinds table; the proofs\n"
-            "// compute that both are right (specs/children). They are held once and lent on.\n"
+            "// compute that both are right (specs/Children). They are held once and lent on.\n"
             "// How many states there are, and how many entries each has: the next state by cue, and then 1 where a record may end.\n"
             f"pub(crate) const STATES: usize = {COUNT};\n\npub(crate) const COLUMNS: usize = {len(CUES) + 1};\n\n"
             + entries("STEPS", "STATES * COLUMNS", [x for row in ROWS for x in row], len(CUES) + 1)

@@ -45,7 +45,7 @@ def choices():
         return [kinds[k].removesuffix("Shape") for k in shapes["kinds"][grammar.value(name)]]
 
     def sort(c):
-        return 2 if c in grammar.value("t.functionNames") else 1 if c in grammar.value("t.identifiers") else 0
+        return 2 if c in grammar.value("t.function_names") else 1 if c in grammar.value("t.identifiers") else 0
 
     if len(table.rules[number("head")]) != len(HEADS):
         raise SystemExit(f"an arm's head has {len(table.rules[number('head')])} alternatives: name each in HEADS")
@@ -54,7 +54,7 @@ def choices():
         ("PATTERNS", "pattern", "A pattern", shapes_of("pattern"), [choose("pattern", c) for c in classes]),
         ("SINGLES", "single", "An expression that is no block", shapes_of("single"), [choose("single", c) for c in classes]),
         ("NAMES", "name", "A name", ["ReservedName", "FunctionName"], [sort(c) for c in classes]),
-        ("ALIASES", "alias", "A type item's name", [], [choose("aliasName", c) for c in classes]),
+        ("ALIASES", "alias", "A type item's name", [], [choose("alias_name", c) for c in classes]),
         ("HEADS", "head", "An arm's head, where an arm begins", HEADS, [choose("arm", c) and choose("head", c) for c in classes]),
     ]
     return len(classes), [Choice(*t, grammar.value("t.bool")) for t in names]
@@ -100,7 +100,7 @@ def lists(all_choices):
     out += "use Rattle.std.proofs.Common.{ℕ, List, [], ◌∷◌}\n"
     for t in all_choices:
         rows = " ∷\n    ".join(" ∷ ".join(map(str, row)) for row in lines(t.entries))
-        out += f"\n-- {t.code}\nunfoldable pub {t.proof}-choices : List ℕ\n{t.proof}-choices =\n    {rows} ∷ []\n"
+        out += f"\n-- {t.code}\nunfoldable pub {t.proof}_choices : List ℕ\n{t.proof}_choices =\n    {rows} ∷ []\n"
     return out
 
 

@@ -90,7 +90,7 @@ def answers(drafts, partner):
 
 def result(answer, listing):
     if answer[0] == b"refused":
-        return f"refusedWith {int(answer[1])} {int(answer[2])}"
+        return f"refused_with {int(answer[1])} {int(answer[2])}"
     return f"lists {len(listing)} ({numbers(listing)})"
 
 
@@ -103,12 +103,12 @@ def rows(draft, function, file, listing):
     """The draft as a file, and as one function. The lines of a function are those of its file behind the first, where the words are the same."""
     if function[0] == b"accepted" and file[-1] != b"same":
         sys.exit(f"the partner's two trees differ: {draft!r}")
-    return [f"roomyFile ({numbers(draft)}) ({result(file, listing)})", f"roomy ({numbers(draft)}) ({result(function, alone(listing))})"]
+    return [f"roomy_file ({numbers(draft)}) ({result(file, listing)})", f"roomy ({numbers(draft)}) ({result(function, alone(listing))})"]
 
 
 def spec(all_rows):
     text = "-- Drafts with the partner's answers.\n-- Assumes nothing.\nuse Rattle.std.specs.Prelude.{List, [], ◌∷◌, map, ◌≡◌, refl}\n"
-    text += "use Rattle.grammar.specs.cases.Cases.{refusedWith, lists, Case, defined, roomy, roomyFile}\n"
+    text += "use Rattle.grammar.specs.Cases.Cases.{refused_with, lists, Case, defined, roomy, roomy_file}\n"
     for k in range(0, len(all_rows), 20):
         text += f"\nunfoldable cases{k} : List Case\ncases{k} =\n    " + " ∷\n    ".join(all_rows[k:k + 20]) + " ∷ []\n"
         text += f"\nagree{k} : map defined cases{k} ≡ map (λ (c : Case). c.result) cases{k}\nunfolding cases{k} defined\nagree{k} = refl\n"

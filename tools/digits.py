@@ -1,7 +1,7 @@
 #!/usr/bin/env python3
 """Writes the table of digit values of crate load (src/digits.rt): the value of each byte as an upper-case hexadecimal digit, 16 for the rest.
 
-Nothing here needs trust: the crate's proofs compute the table's rule against the definition (specs/listing/Read.antt) over all 256 entries.
+Nothing here needs trust: the crate's proofs compute the table's rule against the definition (specs/Listing/Read.antt) over all 256 entries.
     tools/digits.py            write the file
     tools/digits.py --check    exit 1 if the file is not what would be written
 """

@@ -1,12 +1,12 @@
 #!/usr/bin/env python3
-"""Writes crates/grammar/specs/shapes/Tables.antt, the productions of the grammar that specs/shapes/Shapes.antt states, with their LL(1) table,
-and specs/shapes/TablesIndex.antt, a name for each nonterminal.
+"""Writes crates/grammar/specs/Shapes/Tables.antt, the productions of the grammar that specs/Shapes/Shapes.antt states, with their LL(1) table,
+and specs/Shapes/TablesIndex.antt, a name for each nonterminal.
 
     tools/grammar.py            write the files
     tools/grammar.py --check    write nothing; exit 1 if a file is not what would be written
     tools/grammar.py --list     print the nonterminals
 
-The grammar is read from the specs (Classes of crate lexer; Categories, Notation, Row and Shapes of specs/shapes, with the names of ShapeKind)
+The grammar is read from the specs (Classes of crate lexer; Categories, Notation, Row and Shapes of specs/Shapes, with the names of ShapeKind)
 by tools/antt_terms.py; `shapes` is made here from `rows` and `parts`. Nothing here needs trust: antt computes `good`, `sames` and `paid` on
 the result. A conflict of the table is named here, since the checks only say that there is one.
 """
@@ -18,7 +18,7 @@ sys.path.insert(0, os.path.dirname(os.path.abspath(__file__)))
 from antt_terms import Values  # noqa: E402
 
 ROOT = os.path.join(os.path.dirname(os.path.abspath(__file__)), "..")
-SPECS = os.path.join(ROOT, "crates", "grammar", "specs", "shapes")
+SPECS = os.path.join(ROOT, "crates", "grammar", "specs", "Shapes")
 CLASSES = os.path.join(ROOT, "crates", "lexer", "specs", "Classes.antt")
 KINDS = os.path.join(ROOT, "crates", "own", "specs", "Kinds.antt")
 OWN = ("Categories", "Notation", "Row", "Shapes", "ShapeKind")
@@ -236,7 +236,7 @@ class Printer:
 def index(grammar, shapes, table, printer):
     """A name for each nonterminal: that of its expression; or the form and the item; or where it first occurs, its form, its first mark."""
     names, owners = [], {}
-    shape_names = {grammar.value(n): n[0].lower() + n.removesuffix("Shape")[1:] for n in grammar.sources["ShapeKind"]}
+    shape_names = {grammar.value(n): re.sub(r"(?<=[a-z])(?=[A-Z])", "_", n.removesuffix("Shape")).lower() for n in grammar.sources["ShapeKind"]}
 
     for A, e in enumerate(table.means):
         if e in printer.names:
@@ -307,8 +307,8 @@ def written(grammar, shapes, table, printer):
         "use Rattle.theory.specs.Grammar.{tok, nt, on, Row}",
         f"use Rattle.theory.specs.Ebnf.{{Ex, {', '.join(ebnf)}}}",
         "use Rattle.lexer.specs.Classes as t",
-        f"use Rattle.grammar.specs.shapes.Categories.{{{', '.join(shapes_used['Categories'])}}}",
-        f"use Rattle.grammar.specs.shapes.Shapes.{{{', '.join(shapes_used['Shapes'])}}}",
+        f"use Rattle.grammar.specs.Shapes.Categories.{{{', '.join(shapes_used['Categories'])}}}",
+        f"use Rattle.grammar.specs.Shapes.Shapes.{{{', '.join(shapes_used['Shapes'])}}}",
         "",
     ]
     for A, e in enumerate(table.means):
@@ -322,7 +322,7 @@ def written(grammar, shapes, table, printer):
 def load():
     grammar = Values(SOURCES)
     rows = grammar.value("rows")
-    kinds = [[k for k, row in enumerate(rows) if row["category"] == C] for C in range(1 + grammar.value("typeItem"))]
+    kinds = [[k for k, row in enumerate(rows) if row["category"] == C] for C in range(1 + grammar.value("type_item"))]
     shapes = {"kinds": kinds, "bodies": [row["body"] for row in rows], "parts": grammar.value("parts")}
     starts = [("child", grammar.value("function")), grammar.value("file")]
     means, rules = productions(shapes, starts)

@@ -141,8 +141,8 @@ hashes =
     lists_ += values("bases", "the first entry of each table", bases) + values("counts", "how many words each table has", [len(t) for t in tables])
     lists_ += values("longest", "how many bytes the longest word of each table has", longest)
     for name, row in zip(names, slots):
-        lists_ += values(name.lower().replace("_", "-") + "-slots", "the word in each slot, 255 where there is none", row)
-    lists_ += "\n-- the slots of each table\nunfoldable pub slots : List (List ℕ)\nslots = " + " ∷ ".join(n.lower().replace("_", "-") + "-slots" for n in names) + " ∷ []\n"
+        lists_ += values(name.lower() + "_slots", "the word in each slot, 255 where there is none", row)
+    lists_ += "\n-- the slots of each table\nunfoldable pub slots : List (List ℕ)\nslots = " + " ∷ ".join(n.lower() + "_slots" for n in names) + " ∷ []\n"
     status = 0
     made = formatted({f"crates/words/{path}": text for path, text in (("proofs/Constants.antt", lists_), ("src/layout.rt", code), ("specs/Layout.antt", spec))})
     for path, text in made.items():

@@ -6,41 +6,41 @@ use Rattle.theory.specs.Ebnf.{Ex, child}
 use Rattle.own.specs.File.{filed, FileOwnership}
 use Rattle.own.specs.Tree.{Tok, Node, Rec, records}
 use Rattle.own.specs.Law.{Ownership}
-use Rattle.up.specs.Ups.{ups, fileUps}
+use Rattle.up.specs.Ups.{ups, file_ups}
 use Rattle.kinds.specs.Spelled.{Spelled, Program}
-use Rattle.grammar.specs.shapes.Categories.{function, file}
-use Rattle.grammar.specs.shapes.TablesIndex.{n-function, n-file}
+use Rattle.grammar.specs.Shapes.Categories.{function, file}
+use Rattle.grammar.specs.Shapes.TablesIndex.{n-function, n-file}
 
 -- One function and then the end: "`Function::parser()` followed by the end". Or a whole file: "any number of functions and of `type` items".
 pub data Entry : Type 0 where
-  oneFunction : Entry
-  wholeFile : Entry
+  single_function : Entry
+  whole_file : Entry
 
 -- Where the grammar starts: the expression that a whole draft is (Shapes.antt), and the nonterminal that stands for it (Tables.antt).
-abbrev pub startEx : Entry → Ex
-startEx oneFunction = child function
-startEx wholeFile = file
+abbrev pub start_ex : Entry → Ex
+start_ex single_function = child function
+start_ex whole_file = file
 
-abbrev pub startNt : Entry → ℕ
-startNt oneFunction = n-function
-startNt wholeFile = n-file
+abbrev pub start_nt : Entry → ℕ
+start_nt single_function = n-function
+start_nt whole_file = n-file
 
 -- The records of a draft of so many bytes, from its trees side by side.
-abbrev pub recordsOf : Entry → ℕ → List Node → List Rec
-recordsOf oneFunction len ns = records ns
-recordsOf wholeFile len ns = filed len (records ns)
+abbrev pub records_of : Entry → ℕ → List Node → List Rec
+records_of single_function len ns = records ns
+records_of whole_file len ns = filed len (records ns)
 
 -- The way up of each of them.
-abbrev pub upsOf : Entry → List Node → List ℕ
-upsOf oneFunction ns = ups ns
-upsOf wholeFile ns = fileUps ns
+abbrev pub ups_of : Entry → List Node → List ℕ
+ups_of single_function ns = ups ns
+ups_of whole_file ns = file_ups ns
 
 -- Demand 3 of the tokens and records of a draft of so many bytes.
 abbrev pub Owned : Entry → ℕ → List Tok → List Rec → Type 0
-Owned oneFunction len ts rs = Ownership Spelled ts rs
-Owned wholeFile len ts rs = FileOwnership Spelled Program len ts rs
+Owned single_function len ts rs = Ownership Spelled ts rs
+Owned whole_file len ts rs = FileOwnership Spelled Program len ts rs
 
 -- How many records there may be more than tokens.
 abbrev pub over : Entry → ℕ
-over oneFunction = 0
-over wholeFile = 1
+over single_function = 0
+over whole_file = 1

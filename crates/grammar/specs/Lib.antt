@@ -1,6 +1,6 @@
-pub mod shapes
+pub mod Shapes
 pub mod Entry
-pub mod records
-pub mod spelled
-pub mod answers
-pub mod cases
+pub mod Records
+pub mod Spelled
+pub mod Answers
+pub mod Cases

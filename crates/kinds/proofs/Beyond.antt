@@ -13,16 +13,16 @@ use Rattle.text.specs.ListLaws.{all_keep}
 use Rattle.own.specs.Kinds as kind
 use Rattle.lexer.specs.Classes as t
 use Rattle.kinds.specs.Shape.{Shape}
-use Rattle.kinds.specs.Rules.{Form, forms, allForms}
-use Rattle.kinds.specs.Decide.{kindsOf, gather, classesIn, kindsIn, inForms, formsFor, mayOwn, mayHold}
-use Rattle.kinds.specs.Groups.{groups, categories, bits, groupSet, markSet, categorySet, partSet}
+use Rattle.kinds.specs.Rules.{Form, forms, all_forms}
+use Rattle.kinds.specs.Decide.{kinds_of, gather, classes_in, kinds_in, in_forms, forms_for, may_own, may_hold}
+use Rattle.kinds.specs.Groups.{groups, categories, bits, group_set, mark_set, category_set, part_set}
 
 -- The number after the last class, and that after the last kind.
-abbrev classesEnd : ℕ
-classesEnd = suc t.last
+abbrev classes_end : ℕ
+classes_end = suc t.last
 
-abbrev kindsEnd : ℕ
-kindsEnd = suc kind.Last
+abbrev kinds_end : ℕ
+kinds_end = suc kind.Last
 
 -- All numbers of a list are below n.
 abbrev under : ℕ → List ℕ → Bool
@@ -41,59 +41,59 @@ under-append n [] m s t = t
 under-append n (a ∷ l) m s t = pair (ltb a n) (under n (l ++ m)) (first-of (ltb a n) (under n l) s) (under-append n l m (second-of (ltb a n) (under n l) s) t)
 
 -- of all forms, and so of those of a kind
-forms-under : (f : Shape → List ℕ) (n : ℕ) (l : List Form) → T (all (λ x. under n (f x.shape)) l) → T (under n (inForms f l))
-unfolding all inForms
+forms-under : (f : Shape → List ℕ) (n : ℕ) (l : List Form) → T (all (λ x. under n (f x.shape)) l) → T (under n (in_forms f l))
+unfolding all in_forms
 forms-under f n [] t = tt
 forms-under f n (x ∷ l) t =
-    under-append n (f x.shape) (inForms f l) (first-of (under n (f x.shape)) (all (λ y. under n (f y.shape)) l) t)
+    under-append n (f x.shape) (in_forms f l) (first-of (under n (f x.shape)) (all (λ y. under n (f y.shape)) l) t)
     (forms-under f n l (second-of (under n (f x.shape)) (all (λ y. under n (f y.shape)) l) t))
 
-kind-under : (f : Shape → List ℕ) (n kind : ℕ) → T (all (λ x. under n (f x.shape)) allForms) → T (under n (inForms f (formsFor kind)))
-unfolding formsFor
-kind-under f n kind t = forms-under f n (formsFor kind) (all_keep (λ x. under n (f x.shape)) (λ x. eqb x.kind kind) allForms t)
+kind-under : (f : Shape → List ℕ) (n kind : ℕ) → T (all (λ x. under n (f x.shape)) all_forms) → T (under n (in_forms f (forms_for kind)))
+unfolding forms_for
+kind-under f n kind t = forms-under f n (forms_for kind) (all_keep (λ x. under n (f x.shape)) (λ x. eqb x.kind kind) all_forms t)
 
-classes-under : T (all (λ x. under classesEnd (classesIn x.shape)) allForms)
-unfolding all gather forms allForms
+classes-under : T (all (λ x. under classes_end (classes_in x.shape)) all_forms)
+unfolding all gather forms all_forms
 classes-under = tt
 
-kinds-under : T (all (λ x. under kindsEnd (kindsIn x.shape)) allForms)
-unfolding all gather kindsOf forms allForms count span
+kinds-under : T (all (λ x. under kinds_end (kinds_in x.shape)) all_forms)
+unfolding all gather kinds_of forms all_forms count span
 kinds-under = tt
 
 -- No kind owns a class past the last.
-pub no-class : (kind class : ℕ) → classesEnd ≤ class → mayOwn kind class ≡ false
-unfolding mayOwn
-no-class kind class h = has-none (inForms classesIn (formsFor kind)) classesEnd class (kind-under classesIn classesEnd kind classes-under) h
+pub no-class : (kind class : ℕ) → classes_end ≤ class → may_own kind class ≡ false
+unfolding may_own
+no-class kind class h = has-none (in_forms classes_in (forms_for kind)) classes_end class (kind-under classes_in classes_end kind classes-under) h
 
 -- No kind holds a kind past the last.
-pub no-child : (kind kid : ℕ) → kindsEnd ≤ kid → mayHold kind kid ≡ false
-unfolding mayHold
-no-child kind kid h = has-none (inForms kindsIn (formsFor kind)) kindsEnd kid (kind-under kindsIn kindsEnd kind kinds-under) h
+pub no-child : (kind kid : ℕ) → kinds_end ≤ kid → may_hold kind kid ≡ false
+unfolding may_hold
+no-child kind kid h = has-none (in_forms kinds_in (forms_for kind)) kinds_end kid (kind-under kinds_in kinds_end kind kinds-under) h
 
 -- no form is of a kind past the last
-keep-none : (l : List Form) (kind : ℕ) → T (all (λ x. ltb x.kind kindsEnd) l) → kindsEnd ≤ kind → keep (λ x. eqb x.kind kind) l ≡ []
+keep-none : (l : List Form) (kind : ℕ) → T (all (λ x. ltb x.kind kinds_end) l) → kinds_end ≤ kind → keep (λ x. eqb x.kind kind) l ≡ []
 unfolding all
 keep-none [] kind t h = refl
 keep-none (x ∷ l) kind t h =
-    let lt = ltb→lt x.kind kindsEnd (first-of (ltb x.kind kindsEnd) (all (λ y. ltb y.kind kindsEnd) l) t) in
-    rw (ne_eqb x.kind kind (λ e. omega arith)) (keep-none l kind (second-of (ltb x.kind kindsEnd) (all (λ y. ltb y.kind kindsEnd) l) t) h)
+    let lt = ltb→lt x.kind kinds_end (first-of (ltb x.kind kinds_end) (all (λ y. ltb y.kind kinds_end) l) t) in
+    rw (ne_eqb x.kind kind (λ e. omega arith)) (keep-none l kind (second-of (ltb x.kind kinds_end) (all (λ y. ltb y.kind kinds_end) l) t) h)
 
-kinds-listed : T (all (λ x. ltb x.kind kindsEnd) allForms)
-unfolding all forms allForms
+kinds-listed : T (all (λ x. ltb x.kind kinds_end) all_forms)
+unfolding all forms all_forms
 kinds-listed = tt
 
-no-forms : (kind : ℕ) → kindsEnd ≤ kind → formsFor kind ≡ []
-unfolding formsFor
-no-forms kind h = keep-none allForms kind kinds-listed h
+no-forms : (kind : ℕ) → kinds_end ≤ kind → forms_for kind ≡ []
+unfolding forms_for
+no-forms kind h = keep-none all_forms kind kinds-listed h
 
 -- A kind past the last owns nothing.
-pub no-owner : (kind class : ℕ) → kindsEnd ≤ kind → mayOwn kind class ≡ false
-unfolding mayOwn has inForms
+pub no-owner : (kind class : ℕ) → kinds_end ≤ kind → may_own kind class ≡ false
+unfolding may_own has in_forms
 no-owner kind class h = rw (no-forms kind h) refl
 
 -- A kind past the last holds nothing.
-pub no-holder : (kind kid : ℕ) → kindsEnd ≤ kind → mayHold kind kid ≡ false
-unfolding mayHold has inForms
+pub no-holder : (kind kid : ℕ) → kinds_end ≤ kind → may_hold kind kid ≡ false
+unfolding may_hold has in_forms
 no-holder kind kid h = rw (no-forms kind h) refl
 
 -- so the sets are empty there
@@ -108,14 +108,14 @@ some-none p h [] = refl
 some-none p h (x ∷ l) = rw (h x, some-none p h l) refl
 
 -- A kind past the last has no marks.
-pub no-marks : (kind : ℕ) → kindsEnd ≤ kind → markSet kind ≡ 0
-unfolding markSet
-no-marks kind h = bits_none (some (mayOwn kind)) groups (some-none (mayOwn kind) (λ c. no-owner kind c h))
+pub no-marks : (kind : ℕ) → kinds_end ≤ kind → mark_set kind ≡ 0
+unfolding mark_set
+no-marks kind h = bits_none (some (may_own kind)) groups (some-none (may_own kind) (λ c. no-owner kind c h))
 
 -- A kind past the last has no children.
-pub no-parts : (kind : ℕ) → kindsEnd ≤ kind → partSet kind ≡ 0
-unfolding partSet
-no-parts kind h = bits_none (some (mayHold kind)) categories (some-none (mayHold kind) (λ c. no-holder kind c h))
+pub no_parts : (kind : ℕ) → kinds_end ≤ kind → part_set kind ≡ 0
+unfolding part_set
+no_parts kind h = bits_none (some (may_hold kind)) categories (some-none (may_hold kind) (λ c. no-holder kind c h))
 
 group-none : (l : List (List ℕ)) (n x : ℕ) → T (all (under n) l) → n ≤ x → bits (λ g. has g x) l ≡ 0
 unfolding all bits
@@ -124,11 +124,11 @@ group-none (g ∷ l) n x t h =
     rw (has-none g n x (first-of (under n g) (all (under n) l) t) h, group-none l n x (second-of (under n g) (all (under n) l) t) h) refl
 
 -- A class past the last is in no group.
-pub no-group : (class : ℕ) → classesEnd ≤ class → groupSet class ≡ 0
-unfolding groupSet all groups
-no-group class h = group-none groups classesEnd class tt h
+pub no-group : (class : ℕ) → classes_end ≤ class → group_set class ≡ 0
+unfolding group_set all groups
+no-group class h = group-none groups classes_end class tt h
 
 -- A kind past the last is in no group.
-pub no-category : (kid : ℕ) → kindsEnd ≤ kid → categorySet kid ≡ 0
-unfolding categorySet all categories count span
-no-category kid h = group-none categories kindsEnd kid tt h
+pub no-category : (kid : ℕ) → kinds_end ≤ kid → category_set kid ≡ 0
+unfolding category_set all categories count span
+no-category kid h = group-none categories kinds_end kid tt h

@@ -100,18 +100,18 @@ module _ {f : ℕ → ℕ} (t : Table f) where
       eqb→eq v (get_or t.entries k 0) (second-of a b h) ∙ entry k (ltb→lt k (length t.entries) (first-of a b h))
 
   -- A value at all keys of an arm.
-  abbrev pub at-keys : ℕ → List ℕ → Bool
-  at-keys v [] = true
-  at-keys v (k ∷ ks) = at_key v k && at-keys v ks
+  abbrev pub at_keys : ℕ → List ℕ → Bool
+  at_keys v [] = true
+  at_keys v (k ∷ ks) = at_key v k && at_keys v ks
 
   -- An arm's keys.
-  pub keyed : {v x : ℕ} (ks : List ℕ) → T (at-keys v ks) → OneOf ks x → v ≡ f x
+  pub keyed : {v x : ℕ} (ks : List ℕ) → T (at_keys v ks) → OneOf ks x → v ≡ f x
   keyed {v} {x} [] h o = absurd o
   keyed {v} {x} (k ∷ []) h o = subst (λ (y : ℕ). v ≡ f y) (sym o) (at_right v k (first-of (at_key v k) true h))
-  keyed {v} {x} (k ∷ j ∷ ks) h o = go o (keyed {v = v} {x = x} (j ∷ ks) (second-of (at_key v k) (at-keys v (j ∷ ks)) h))
+  keyed {v} {x} (k ∷ j ∷ ks) h o = go o (keyed {v = v} {x = x} (j ∷ ks) (second-of (at_key v k) (at_keys v (j ∷ ks)) h))
     where
       go : (x ≡ k) ⊎ OneOf (j ∷ ks) x → (OneOf (j ∷ ks) x → v ≡ f x) → v ≡ f x
-      go (inl e) r = subst (λ (y : ℕ). v ≡ f y) (sym e) (at_right v k (first-of (at_key v k) (at-keys v (j ∷ ks)) h))
+      go (inl e) r = subst (λ (y : ℕ). v ≡ f y) (sym e) (at_right v k (first-of (at_key v k) (at_keys v (j ∷ ks)) h))
       go (inr s) r = r s
 
   -- Between two numbers, where no arm has it as a key.

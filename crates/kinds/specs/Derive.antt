@@ -6,7 +6,7 @@ use Rattle.std.proofs.Common.{inl, inr, sym, subst, arith}
 use Rattle.text.specs.Table.{first-of, second-of, pair, or_left, or_right, or_cases}
 use Rattle.text.specs.Lists.{has}
 use Rattle.own.specs.Law.{Sort, word, child}
-use Rattle.kinds.specs.Shape.{Part, fits, Shape, nothing, never, mark, part, ◌▸◌, ◌¦◌, many, Spells, empty, one-mark, one-part, seq, left, right, stop, more}
+use Rattle.kinds.specs.Shape.{Part, fits, Shape, nothing, never, mark, part, ◌▸◌, ◌¦◌, many, Spells, empty, one_mark, one_part, seq, left, right, stop, more}
 
 -- Whether a shape has the empty sequence.
 unfoldable pub blank : Shape → Bool
@@ -37,21 +37,21 @@ unfoldable pub either : Shape → Shape → Shape
 either a b = cond (dead a) b (a ¦ b)
 
 -- Whether a piece is a mark of one of these classes.
-unfoldable pub isMark : List ℕ → Sort → Bool
-isMark cs (word c) = has cs c
-isMark cs (child k l h c) = false
+unfoldable pub is_mark : List ℕ → Sort → Bool
+is_mark cs (word c) = has cs c
+is_mark cs (child k l h c) = false
 
 -- Whether a piece is the part.
-unfoldable pub isPart : Part → Sort → Bool
-isPart p (word c) = false
-isPart p (child k l h c) = fits p k l h c
+unfoldable pub is_part : Part → Sort → Bool
+is_part p (word c) = false
+is_part p (child k l h c) = fits p k l h c
 
 -- What is left of a shape after a piece.
 unfoldable pub after : Sort → Shape → Shape
 after s nothing = never
 after s never = never
-after s (mark cs) = cond (isMark cs s) nothing never
-after s (part p) = cond (isPart p s) nothing never
+after s (mark cs) = cond (is_mark cs s) nothing never
+after s (part p) = cond (is_part p s) nothing never
 after s (a ▸ b) = either (then (after s a) b) (cond (blank a) (after s b) never)
 after s (a ¦ b) = either (after s a) (after s b)
 after s (many a) = then (after s a) (many a)
@@ -65,8 +65,8 @@ spells a (s ∷ w) = spells (after s a) w
 dead-none : {a : Shape} {w : List Sort} → T (dead a) → Spells a w → ⊥
 unfolding dead
 dead-none t empty = t
-dead-none t (one-mark c h) = t
-dead-none t (one-part k l h c i) = t
+dead-none t (one_mark c h) = t
+dead-none t (one_part k l h c i) = t
 dead-none t (seq p q) = t
 dead-none t (left p) = t
 dead-none t (right p) = t
@@ -147,8 +147,8 @@ nils (s ∷ v) w e = no-piece s (v ++ w) e
 has-blank : {a : Shape} {w : List Sort} → Spells a w → w ≡ [] → T (blank a)
 unfolding blank
 has-blank empty e = tt
-has-blank (one-mark c h) e = no-piece (word c) [] e
-has-blank (one-part k l h c i) e = no-piece (child k l h c) [] e
+has-blank (one_mark c h) e = no-piece (word c) [] e
+has-blank (one_part k l h c i) e = no-piece (child k l h c) [] e
 has-blank (seq {a = a} {b = b} {v = v} {w = w} p q) e =
     let n = nils v w e in
     pair (blank a) (blank b) (has-blank p n.0) (has-blank q n.1)
@@ -158,15 +158,15 @@ has-blank stop e = tt
 has-blank (more p q) e = tt
 
 -- what is left after a piece, put behind it, is a sequence of the shape
-mark-sound : (cs : List ℕ) (s : Sort) {w : List Sort} → T (isMark cs s) → Spells nothing w → Spells (mark cs) (s ∷ w)
-unfolding isMark
-mark-sound cs (word c) t empty = one-mark c t
+mark-sound : (cs : List ℕ) (s : Sort) {w : List Sort} → T (is_mark cs s) → Spells nothing w → Spells (mark cs) (s ∷ w)
+unfolding is_mark
+mark-sound cs (word c) t empty = one_mark c t
 mark-sound cs (child k l h c) t empty = absurd t
 
-part_sound : (p : Part) (s : Sort) {w : List Sort} → T (isPart p s) → Spells nothing w → Spells (part p) (s ∷ w)
-unfolding isPart
+part_sound : (p : Part) (s : Sort) {w : List Sort} → T (is_part p s) → Spells nothing w → Spells (part p) (s ∷ w)
+unfolding is_part
 part_sound p (word c) t empty = absurd t
-part_sound p (child k l h c) t empty = one-part k l h c t
+part_sound p (child k l h c) t empty = one_part k l h c t
 
 abbrev Sound : Sort → Shape → Type 0
 Sound s a = (w : List Sort) → Spells (after s a) w → Spells a (s ∷ w)
@@ -190,8 +190,8 @@ after-sound : (s : Sort) (a : Shape) → Sound s a
 unfolding after dead
 after-sound s nothing w p = absurd (dead-none tt p)
 after-sound s never w p = absurd (dead-none tt p)
-after-sound s (mark cs) w p = let q = when-out (isMark cs s) nothing p in mark-sound cs s q.0 q.1
-after-sound s (part x) w p = let q = when-out (isPart x s) nothing p in part_sound x s q.0 q.1
+after-sound s (mark cs) w p = let q = when-out (is_mark cs s) nothing p in mark-sound cs s q.0 q.1
+after-sound s (part x) w p = let q = when-out (is_part x s) nothing p in part_sound x s q.0 q.1
 after-sound s (a ▸ b) w p = seq-sound s a b (after-sound s a) (after-sound s b) (either-out (then (after s a) b) (cond (blank a) (after s b) never) p)
 after-sound s (a ¦ b) w p = either-sound s a b (after-sound s a) (after-sound s b) (either-out (after s a) (after s b) p)
 after-sound s (many a) w p = many-sound s a (after-sound s a) (then-out (after s a) (many a) p)
@@ -217,13 +217,13 @@ many-left a (x ∷ v) w f q g s u e =
     subst (λ (l : List Sort). Spells (then (after s a) (many a)) l) eu (then-in (f s v ex) q)
 
 after-left : {a : Shape} {u : List Sort} → Spells a u → Left a u
-unfolding after isMark isPart
+unfolding after is_mark is_part
 after-left empty s w e = no-piece s w (sym e)
-after-left (one-mark {cs = cs} c h) s w e =
+after-left (one_mark {cs = cs} c h) s w e =
     let es : s ≡ word c = cc in
     let ew : w ≡ [] = cc in
     rw (es, ew) (when-in (has cs c) h empty)
-after-left (one-part {p = p} k l h c i) s w e =
+after-left (one_part {p = p} k l h c i) s w e =
     let es : s ≡ child k l h c = cc in
     let ew : w ≡ [] = cc in
     rw (es, ew) (when-in (fits p k l h c) i empty)

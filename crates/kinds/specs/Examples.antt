@@ -40,8 +40,8 @@ turbofish c w = word c ∷ word t.DoubleColon ∷ word t.LAngle ∷ (w ++ (word 
 abbrev bound : List Sort
 bound = word t.LParen ∷ kid kind.IdentifierPattern ∷ word t.Colon ∷ kid kind.Alias ∷ word t.RParen ∷ word t.FatArrow ∷ kid kind.Decimal ∷ word t.Comma ∷ []
 
-abbrev toBlock : List Sort
-toBlock = word t.FatArrow ∷ kid kind.Block ∷ []
+abbrev to_block : List Sort
+to_block = word t.FatArrow ∷ kid kind.Block ∷ []
 
 abbrev good : List Case
 good =
@@ -106,17 +106,17 @@ good =
     -- Left(p: T) => e,   and kin; None => {}   true => e,
     ∷ case kind.BuiltinArm arm.Left 0 (word t.Left ∷ bound)
     ∷ case kind.BuiltinArm arm.Right 0 (word t.Right ∷ bound)
-    ∷ case kind.BuiltinArm arm.None 0 (word t.None ∷ toBlock)
+    ∷ case kind.BuiltinArm arm.None 0 (word t.None ∷ to_block)
     ∷ case kind.BuiltinArm arm.Some 0 (word t.Some ∷ bound)
-    ∷ case kind.BuiltinArm arm.False 0 (word t.false ∷ toBlock)
+    ∷ case kind.BuiltinArm arm.False 0 (word t.false ∷ to_block)
     ∷ case kind.BuiltinArm arm.True 0 (word t.true ∷ word t.FatArrow ∷ kid kind.Decimal ∷ word t.Comma ∷ [])
     -- A::B => {}   A::B(p: T) => e,
-    ∷ case kind.EnumArm 2 0 (named t.Ident ∷ word t.DoubleColon ∷ named t.Ident ∷ toBlock)
+    ∷ case kind.EnumArm 2 0 (named t.Ident ∷ word t.DoubleColon ∷ named t.Ident ∷ to_block)
     ∷ case kind.EnumArm 2 1 (named t.Left ∷ word t.DoubleColon ∷ named t.Ident ∷ bound)
     -- the fourteen calls, and `Left(e,)`
     ∷ case kind.Call call.Jet 0 (named t.Jet ∷ args)
-    ∷ case kind.Call call.UnwrapLeft 0 (turbofish t.unwrap-left (kid kind.Alias ∷ []))
-    ∷ case kind.Call call.UnwrapRight 0 (turbofish t.unwrap-right (kid kind.Alias ∷ []))
+    ∷ case kind.Call call.UnwrapLeft 0 (turbofish t.unwrap_left (kid kind.Alias ∷ []))
+    ∷ case kind.Call call.UnwrapRight 0 (turbofish t.unwrap_right (kid kind.Alias ∷ []))
     ∷ case kind.Call call.Unwrap 0 (word t.unwrap ∷ args)
     ∷ case kind.Call call.IsNone 0 (turbofish t.is_none (kid kind.Alias ∷ []))
     ∷ case kind.Call call.Assert 0 (word t.assert! ∷ args)
@@ -126,9 +126,9 @@ good =
     ∷ case kind.Call call.Custom 0 (named t.Ident ∷ args)
     ∷ case kind.Call call.Custom 0 (named t.Left ∷ word t.LParen ∷ kid kind.Decimal ∷ word t.Comma ∷ word t.RParen ∷ [])
     ∷ case kind.Call call.Fold 0 (turbofish t.fold (named t.None ∷ word t.Comma ∷ child kind.Number 2 0 t.DecLiteral ∷ []))
-    ∷ case kind.Call call.ArrayFold 0 (turbofish t.array-fold (named t.Ident ∷ word t.Comma ∷ child kind.Number 1 0 t.DecLiteral ∷ []))
-    ∷ case kind.Call call.ForWhile 0 (turbofish t.for-while (named t.Ident ∷ []))
-    ∷ case kind.Call call.RawHash 0 (turbofish t.raw-hash (kid kind.Unsigned ∷ []))
+    ∷ case kind.Call call.ArrayFold 0 (turbofish t.array_fold (named t.Ident ∷ word t.Comma ∷ child kind.Number 1 0 t.DecLiteral ∷ []))
+    ∷ case kind.Call call.ForWhile 0 (turbofish t.for_while (named t.Ident ∷ []))
+    ∷ case kind.Call call.RawHash 0 (turbofish t.raw_hash (kid kind.Unsigned ∷ []))
     ∷ case kind.Number 2 0 (word t.DecLiteral ∷ [])
     -- type A = T;   type fold = T;
     ∷ case kind.TypeItem 0 0 (word t.«Type» ∷ named t.Ident ∷ word t.Eq ∷ kid kind.Alias ∷ word t.Semi ∷ [])
@@ -173,7 +173,7 @@ bad =
     -- numbers and indices: a bound 3, a bound 1, an array fold of 0, `u3`, a builtin 24, `true` with low 0
     ∷ case kind.ListType 3 0 (word t.List ∷ word t.LAngle ∷ kid kind.Alias ∷ word t.Comma ∷ word t.DecLiteral ∷ word t.RAngle ∷ [])
     ∷ case kind.ListType 1 0 (word t.List ∷ word t.LAngle ∷ kid kind.Alias ∷ word t.Comma ∷ word t.DecLiteral ∷ word t.RAngle ∷ [])
-    ∷ case kind.Call call.ArrayFold 0 (turbofish t.array-fold (named t.Ident ∷ word t.Comma ∷ child kind.Number 0 0 t.DecLiteral ∷ []))
+    ∷ case kind.Call call.ArrayFold 0 (turbofish t.array_fold (named t.Ident ∷ word t.Comma ∷ child kind.Number 0 0 t.DecLiteral ∷ []))
     ∷ case kind.Unsigned 3 0 (word t.u2 ∷ [])
     ∷ case kind.Builtin 24 0 (word t.TokenAmount1 ∷ [])
     ∷ case kind.Boolean 0 0 (word t.true ∷ [])
@@ -200,12 +200,12 @@ abbrev right : Case → Bool
 right c = spelled c.kind c.low c.high c.pieces
 
 -- With any other low from 0 to 16, or any other high from 0 to 4, the same pieces spell no rule; numbers and indices aside.
-abbrev onlySo : Case → Bool
-onlySo c =
+abbrev only_so : Case → Bool
+only_so c =
     has (kind.Builtin ∷ kind.Unsigned ∷ kind.ArrayType ∷ kind.ListType ∷ kind.Number ∷ []) c.kind
     || all (λ l. all (λ h. eqb l c.low && eqb h c.high || not (spelled c.kind l h c.pieces)) (span 0 4)) (span 0 16)
 
 -- All of the first list spell the rule, with this low and high only, and none of the second does.
-pub examples : (all right good && all onlySo good && all (λ c. not (right c)) bad) ≡ true
+pub examples : (all right good && all only_so good && all (λ c. not (right c)) bad) ≡ true
 unfolding all spelled
 examples = refl

@@ -32,5 +32,5 @@ abbrev pub items : List ℕ
 items = kind.Function ∷ kind.TypeItem ∷ []
 
 -- Kinds in which every name is a child of its own (`kind.Name`).
-abbrev pub namesKept : List ℕ
-namesKept = kind.Function ∷ kind.Parameter ∷ kind.EnumConstruction ∷ kind.EnumArm ∷ kind.TypeItem ∷ []
+abbrev pub names_kept : List ℕ
+names_kept = kind.Function ∷ kind.Parameter ∷ kind.EnumConstruction ∷ kind.EnumArm ∷ kind.TypeItem ∷ []

@@ -5,7 +5,7 @@ use Rattle.text.specs.Lists.{some, has}
 use Rattle.own.specs.Kinds as kind
 use Rattle.lexer.specs.Classes as t
 use Rattle.kinds.specs.Families as family
-use Rattle.kinds.specs.Decide.{mayOwn, mayHold}
+use Rattle.kinds.specs.Decide.{may_own, may_hold}
 
 -- The groups of token classes.
 unfoldable pub groups : List (List ℕ)
@@ -36,7 +36,7 @@ groups =
     ∷ (t.Either ∷ [])
     ∷ (t.Option ∷ [])
     ∷ (t.List ∷ [])
-    ∷ (t.unwrap-left ∷ t.unwrap-right ∷ t.array-fold ∷ t.for-while ∷ t.is_none ∷ t.unwrap ∷ t.into ∷ t.fold ∷ t.raw-hash ∷ [])
+    ∷ (t.unwrap_left ∷ t.unwrap_right ∷ t.array_fold ∷ t.for_while ∷ t.is_none ∷ t.unwrap ∷ t.into ∷ t.fold ∷ t.raw_hash ∷ [])
     ∷ (t.assert ∷ t.panic ∷ t.dbg ∷ [])
     ∷ (t.assert! ∷ t.panic! ∷ t.dbg! ∷ [])
     ∷ (t.list! ∷ [])
@@ -44,8 +44,8 @@ groups =
     ∷ (t.Eq ∷ [])
     ∷ (t.«Type» ∷ [])
     ∷ (t.bool ∷ [])
-    ∷ t.unsignedTypes
-    ∷ t.builtinTypes
+    ∷ t.unsigned_types
+    ∷ t.builtin_types
     ∷ []
 
 -- The groups of child kinds.
@@ -71,17 +71,17 @@ bits p [] = 0
 bits p (g ∷ l) = cond (p g) 1 0 + 2 * bits p l
 
 -- The group of a class.
-unfoldable pub groupSet : ℕ → ℕ
-groupSet class = bits (λ g. has g class) groups
+unfoldable pub group_set : ℕ → ℕ
+group_set class = bits (λ g. has g class) groups
 
 -- The groups of the marks of a kind.
-unfoldable pub markSet : ℕ → ℕ
-markSet kind = bits (some (mayOwn kind)) groups
+unfoldable pub mark_set : ℕ → ℕ
+mark_set kind = bits (some (may_own kind)) groups
 
 -- The group of a child kind.
-unfoldable pub categorySet : ℕ → ℕ
-categorySet kid = bits (λ g. has g kid) categories
+unfoldable pub category_set : ℕ → ℕ
+category_set kid = bits (λ g. has g kid) categories
 
 -- The groups of the children of a kind.
-unfoldable pub partSet : ℕ → ℕ
-partSet kind = bits (some (mayHold kind)) categories
+unfoldable pub part_set : ℕ → ℕ
+part_set kind = bits (some (may_hold kind)) categories

@@ -45,17 +45,17 @@ element = part (of family.elements)
 abbrev pub parameter : Shape
 parameter = part (of (kind.Parameter ∷ []))
 
-abbrev pub enumArm : Shape
-enumArm = part (of (kind.EnumArm ∷ []))
+abbrev pub enum_arm : Shape
+enum_arm = part (of (kind.EnumArm ∷ []))
 
 abbrev pub identifier : Shape
 identifier = part (name t.identifiers)
 
-abbrev pub functionName : Shape
-functionName = part (name t.functionNames)
+abbrev pub function_name : Shape
+function_name = part (name t.function_names)
 
-abbrev pub aliasName : Shape
-aliasName = part (name t.aliasNames)
+abbrev pub alias_name : Shape
+alias_name = part (name t.alias_names)
 
 -- An item of a file: a function or a type item.
 abbrev pub item : Shape
@@ -70,8 +70,8 @@ abbrev pub list : Shape → Shape
 list a = optional (some a)
 
 -- A list that is not one item without a comma: empty, or an item, a comma and a list.
-abbrev pub commaList : Shape → Shape
-commaList a = optional (a ▸ the t.Comma ▸ list a)
+abbrev pub comma_list : Shape → Shape
+comma_list a = optional (a ▸ the t.Comma ▸ list a)
 
 -- In `( )`, `[ ]`, `{ }`, `< >`.
 abbrev pub parens : Shape → Shape
@@ -114,14 +114,14 @@ form k f s = record { kind = k; fields = f; shape = s }
 
 -- A function with low 0 to 3: `pub` adds 1 and a result type 2.
 abbrev pub function : ℕ → Shape → Shape → Form
-function n public result = form kind.Function (parameters n) (public ▸ the t.Fn ▸ functionName ▸ parens (list parameter) ▸ result ▸ block)
+function n public result = form kind.Function (parameters n) (public ▸ the t.Fn ▸ function_name ▸ parens (list parameter) ▸ result ▸ block)
 
 -- A built-in arm with `(p: T)` after its word, and one that is its word alone.
-abbrev pub armWith : ℕ → ℕ → Form
-armWith n c = form kind.BuiltinArm (low n) (the c ▸ parens typed ▸ body)
+abbrev pub arm_with : ℕ → ℕ → Form
+arm_with n c = form kind.BuiltinArm (low n) (the c ▸ parens typed ▸ body)
 
-abbrev pub armOf : ℕ → ℕ → Form
-armOf n c = form kind.BuiltinArm (low n) (the c ▸ body)
+abbrev pub arm_of : ℕ → ℕ → Form
+arm_of n c = form kind.BuiltinArm (low n) (the c ▸ body)
 
 -- A call by what stands before its argument list, and `::<..>` after a word.
 abbrev pub call_of : ℕ → Shape → Form
@@ -143,10 +143,10 @@ forms =
     -- 3 parameter: name, type; `:`
     ∷ form kind.Parameter plain (identifier ▸ the t.Colon ▸ type)
     -- 4 alias; 5 builtin (low 0-23 in `BuiltinAlias` order); 6 bool; 7 unsigned (`u1` to `u256`, powers of two only; low bits): token
-    ∷ form kind.Alias plain (mark (t.Either ∷ t.Option ∷ t.List ∷ t.aliasNames))
-    ∷ form kind.Builtin (among (span 0 23)) (mark t.builtinTypes)
+    ∷ form kind.Alias plain (mark (t.Either ∷ t.Option ∷ t.List ∷ t.alias_names))
+    ∷ form kind.Builtin (among (span 0 23)) (mark t.builtin_types)
     ∷ form kind.BoolType plain (the t.bool)
-    ∷ form kind.Unsigned (among (map (λ i. 2 ^ i) (span 0 8))) (mark t.unsignedTypes)
+    ∷ form kind.Unsigned (among (map (λ i. 2 ^ i) (span 0 8))) (mark t.unsigned_types)
     -- 8 Either, 9 Option: types; all other tokens
     ∷ form kind.EitherType plain (the t.Either ▸ angles (type ▸ the t.Comma ▸ type))
     ∷ form kind.OptionType plain (the t.Option ▸ angles type)
@@ -179,30 +179,30 @@ forms =
     ∷ form kind.Binary plain (the t.BinLiteral)
     ∷ form kind.Witness plain (the t.Witness)
     ∷ form kind.ParameterValue plain (the t.Param)
-    ∷ form kind.Variable plain (mark (t.Ident ∷ t.Left ∷ t.Right ∷ t.Some ∷ t.Either ∷ t.Option ∷ t.List ∷ t.typeNames ++ t.reserved))
+    ∷ form kind.Variable plain (mark (t.Ident ∷ t.Left ∷ t.Right ∷ t.Some ∷ t.Either ∷ t.Option ∷ t.List ∷ t.type_names ++ t.reserved))
     -- 30 parenthesised, 31 tuple, 32 array, 33 list: expressions; brackets, `list!`
     ∷ form kind.Parenthesised plain (parens expression)
-    ∷ form kind.Tuple plain (parens (commaList expression))
+    ∷ form kind.Tuple plain (parens (comma_list expression))
     ∷ form kind.Array plain (brackets (list expression))
     ∷ form kind.List plain (the t.list! ▸ brackets (list expression))
     -- 34 enum construction: low names; names, arguments; `::`, `( )` if written
     ∷ form kind.EnumConstruction names (path ▸ optional (parens (list expression)))
     -- 35 match, 36 enum match: expression, arms; `match { }`
     ∷ form kind.Match plain (the t.Match ▸ expression ▸ braces partners)
-    ∷ form kind.EnumMatch plain (the t.Match ▸ expression ▸ braces (enumArm ▸ many enumArm))
+    ∷ form kind.EnumMatch plain (the t.Match ▸ expression ▸ braces (enum_arm ▸ many enum_arm))
     -- 37 built-in arm: low 1-6: Left, Right, None, Some, False, True; pattern and type if any, expression; the rest
-    ∷ armWith arm.Left t.Left
-    ∷ armWith arm.Right t.Right
-    ∷ armOf arm.None t.None
-    ∷ armWith arm.Some t.Some
-    ∷ armOf arm.False t.false
-    ∷ armOf arm.True t.true
+    ∷ arm_with arm.Left t.Left
+    ∷ arm_with arm.Right t.Right
+    ∷ arm_of arm.None t.None
+    ∷ arm_with arm.Some t.Some
+    ∷ arm_of arm.False t.false
+    ∷ arm_of arm.True t.true
     -- 38 enum arm: low names, high pairs; names, patterns with types, expression; the rest
     ∷ form kind.EnumArm pairs (path ▸ optional (parens (some typed)) ▸ body)
     -- 39 call: low 1-14 in `CallName` order; type or name, kind 40, arguments; the rest
     ∷ call_of call.Jet (part (name (t.Jet ∷ [])))
-    ∷ call_of call.UnwrapLeft (generic t.unwrap-left type)
-    ∷ call_of call.UnwrapRight (generic t.unwrap-right type)
+    ∷ call_of call.UnwrapLeft (generic t.unwrap_left type)
+    ∷ call_of call.UnwrapRight (generic t.unwrap_right type)
     ∷ call_of call.Unwrap (the t.unwrap)
     ∷ call_of call.IsNone (generic t.is_none type)
     ∷ call_of call.Assert (the t.assert!)
@@ -210,16 +210,16 @@ forms =
     ∷ call_of call.Debug (the t.dbg!)
     ∷ call_of call.TypeCast (angles type ▸ the t.DoubleColon ▸ the t.into)
     -- a function name, called with any list; a wrapper's, with any that is not one expression without a comma; `None` is not called
-    ∷ call_of call.Custom (part (name (t.Ident ∷ t.Either ∷ t.Option ∷ t.List ∷ t.typeNames)))
-    ∷ form kind.Call (low call.Custom) (part (name wrappers) ▸ parens (commaList expression))
-    ∷ call_of call.Fold (generic t.fold (functionName ▸ the t.Comma ▸ part bound))
-    ∷ call_of call.ArrayFold (generic t.array-fold (functionName ▸ the t.Comma ▸ part size))
-    ∷ call_of call.ForWhile (generic t.for-while functionName)
-    ∷ call_of call.RawHash (generic t.raw-hash type)
+    ∷ call_of call.Custom (part (name (t.Ident ∷ t.Either ∷ t.Option ∷ t.List ∷ t.type_names)))
+    ∷ form kind.Call (low call.Custom) (part (name wrappers) ▸ parens (comma_list expression))
+    ∷ call_of call.Fold (generic t.fold (function_name ▸ the t.Comma ▸ part bound))
+    ∷ call_of call.ArrayFold (generic t.array_fold (function_name ▸ the t.Comma ▸ part size))
+    ∷ call_of call.ForWhile (generic t.for_while function_name)
+    ∷ call_of call.RawHash (generic t.raw_hash type)
     -- 40 number: number; token
     ∷ form kind.Number wide (the t.DecLiteral)
     -- 42 type item: "a name and a type, owning `type = ;`"
-    ∷ form kind.TypeItem plain (the t.«Type» ▸ aliasName ▸ the t.Eq ▸ type ▸ the t.Semi)
+    ∷ form kind.TypeItem plain (the t.«Type» ▸ alias_name ▸ the t.Eq ▸ type ▸ the t.Semi)
     ∷ []
 
 -- 41 program: "the items as children; it owns nothing".
@@ -227,5 +227,5 @@ abbrev pub program : Shape
 program = many item
 
 -- The forms of every kind. That of a program is none of those above, since it has no mark of its own.
-unfoldable pub allForms : List Form
-allForms = form kind.Program plain program ∷ forms
+unfoldable pub all_forms : List Form
+all_forms = form kind.Program plain program ∷ forms

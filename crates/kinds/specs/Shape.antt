@@ -3,16 +3,16 @@
 -- Assumes nothing.
 use Rattle.std.specs.Prelude.{Bool, ◌&&◌, List, [], ◌∷◌, ◌++◌, ℕ, ◌+◌, ◌*◌, T, eqb, ltb}
 use Rattle.text.specs.Lists.{has}
-use Rattle.num.specs.Bound.{isBound}
+use Rattle.num.specs.Bound.{is_bound}
 use Rattle.own.specs.Law.{Sort, word, child}
 use Rattle.own.specs.Kinds as kind
 
 -- How many numbers a half of 32 bits may be, and the 64-bit number that low and high hold together.
-abbrev pub halfRange : ℕ
-halfRange = 4294967296
+abbrev pub half_range : ℕ
+half_range = 4294967296
 
 unfoldable pub number : ℕ → ℕ → ℕ
-number low high = low + halfRange * high
+number low high = low + half_range * high
 
 -- A child that a rule asks for: of one of these kinds; a name of one of these classes; a built-in arm of this low; a number that is a bound, or is from 1.
 pub data Part : Type 0 where
@@ -25,7 +25,7 @@ unfoldable pub fits : Part → ℕ → ℕ → ℕ → ℕ → Bool
 fits (of ks) k low high class = has ks k
 fits (name cs) k low high class = eqb k kind.Name && has cs class
 fits (arm n) k low high class = eqb k kind.BuiltinArm && eqb low n
-fits bound k low high class = eqb k kind.Number && isBound (number low high)
+fits bound k low high class = eqb k kind.Number && is_bound (number low high)
 fits size k low high class = eqb k kind.Number && ltb 0 (number low high)
 
 -- A shape: nothing; none at all; a token of one of these classes; a part; one after the other; either; any number of times.
@@ -41,8 +41,8 @@ pub data Shape : Type 0 where
 -- The sequences that a shape has.
 pub data Spells : Shape → List Sort → Type 0 where
   empty : Spells nothing []
-  one-mark : {cs : List ℕ} (c : ℕ) → T (has cs c) → Spells (mark cs) (word c ∷ [])
-  one-part : {p : Part} (k l h c : ℕ) → T (fits p k l h c) → Spells (part p) (child k l h c ∷ [])
+  one_mark : {cs : List ℕ} (c : ℕ) → T (has cs c) → Spells (mark cs) (word c ∷ [])
+  one_part : {p : Part} (k l h c : ℕ) → T (fits p k l h c) → Spells (part p) (child k l h c ∷ [])
   seq : {a b : Shape} {v w : List Sort} → Spells a v → Spells b w → Spells (a ▸ b) (v ++ w)
   left : {a b : Shape} {w : List Sort} → Spells a w → Spells (a ¦ b) w
   right : {a b : Shape} {w : List Sort} → Spells b w → Spells (a ¦ b) w

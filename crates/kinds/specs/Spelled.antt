@@ -7,8 +7,8 @@ use Rattle.kinds.specs.Shape.{Spells}
 use Rattle.kinds.specs.Fields.{holds}
 use Rattle.kinds.specs.Rules.{Form, forms, program}
 
-unfoldable pub formsOf : ℕ → List Form
-formsOf kind = keep (λ f. eqb f.kind kind) forms
+unfoldable pub forms_of : ℕ → List Form
+forms_of kind = keep (λ f. eqb f.kind kind) forms
 
 -- What a record is made of is of this form, with this low and high.
 pub record Written (low high : ℕ) (w : List Sort) (f : Form) : Type 0 where
@@ -17,7 +17,7 @@ pub record Written (low high : ℕ) (w : List Sort) (f : Form) : Type 0 where
 
 -- The rule: what a record of this kind, low and high is made of is of one of the forms of its kind.
 abbrev pub Spelled : Rule
-Spelled kind low high w = Some (Written low high w) (formsOf kind)
+Spelled kind low high w = Some (Written low high w) (forms_of kind)
 
 -- What a program is made of: any number of items.
 abbrev pub Program : List Sort → Type 0

@@ -3,8 +3,8 @@
 #![tactic(auto)]
 
 ghost use Rattle.std.specs.Prelude.{◌≡◌};
-ghost use Rattle.kinds.specs.Decide.{mayOwn, mayHold};
-ghost use Rattle.kinds.specs.Groups.{markSet, groupSet, partSet, categorySet};
+ghost use Rattle.kinds.specs.Decide.{may_own, may_hold};
+ghost use Rattle.kinds.specs.Groups.{mark_set, group_set, part_set, category_set};
 
 use lexer::classes as class;
 use own::kind;
@@ -14,7 +14,7 @@ pub mod part;
 
 // The group of a token class.
 fn group(class: u32) -> u64
-    ensures { result ≡ groupSet class }
+    ensures { result ≡ group_set class }
 {
     match class {
         class::PUB | class::FN | class::ARROW => mark::FUNCTION,
@@ -60,7 +60,7 @@ fn group(class: u32) -> u64
 
 // The groups of the marks of a record kind.
 fn marks(kind: u32) -> u64
-    ensures { result ≡ markSet kind }
+    ensures { result ≡ mark_set kind }
 {
     match kind {
         kind::FUNCTION => mark::FUNCTION | mark::PARENS | mark::COMMA,
@@ -118,7 +118,7 @@ fn marks(kind: u32) -> u64
 
 // The group of a child kind.
 pub fn category(child: u32) -> u32
-    ensures { result ≡ categorySet child }
+    ensures { result ≡ category_set child }
 {
     match child {
         kind::FUNCTION => part::FUNCTION_ITEM,
@@ -139,7 +139,7 @@ pub fn category(child: u32) -> u32
 
 // The groups of the children of a record kind; kinds of one token have none.
 fn parts(kind: u32) -> u32
-    ensures { result ≡ partSet kind }
+    ensures { result ≡ part_set kind }
 {
     match kind {
         kind::FUNCTION => part::NAME | part::PARAMETER | part::TYPE | part::BLOCK,
@@ -162,14 +162,14 @@ fn parts(kind: u32) -> u32
 
 // Whether a record of the kind may own a token of the class.
 pub fn may_own(kind: u32, class: u32) -> bool
-    ensures { result ≡ mayOwn kind class }
+    ensures { result ≡ may_own kind class }
 {
     marks(kind) & group(class) != 0
 }
 
 // Whether a record of the kind may hold a child of that kind.
 pub fn may_hold(kind: u32, child: u32) -> bool
-    ensures { result ≡ mayHold kind child }
+    ensures { result ≡ may_hold kind child }
 {
     parts(kind) & category(child) != 0
 }

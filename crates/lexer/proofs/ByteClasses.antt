@@ -8,20 +8,20 @@ use native.Mathlib.Omega.{arith}
 use borrow.Author.Tests.{le-leb, lt-leb, leb-true, leb-false, ne_eqb, eqb-true}
 use lib.Dec.{T, eqb, leb}
 use lib.ListN.{length, get_or, replicate, length-replicate}
-use Rattle.text.specs.Ascii.{ascii, asciiFrom}
+use Rattle.text.specs.Ascii.{ascii, ascii_from}
 use Rattle.text.specs.Same.{same, differ}
 use Rattle.text.specs.Table.{every, at, table_at, all, each}
-use Rattle.lexer.specs.Chars.{among, whitespace, lineEnds, plainBytes, binaryDigits, decimalDigits, hexDigits, underscore, nameStarts, nameBytes, is}
+use Rattle.lexer.specs.Chars.{among, whitespace, line_ends, plain_bytes, binary_digits, decimal_digits, hex_digits, underscore, name_starts, name_bytes, is}
 use Rattle.lexer.specs.Lexemes.{marks}
 use Rattle.lexer.specs.Plain.{over-among}
-use Rattle.lexer.specs.Bytes.{markClass, byteClass, inClasses, ClassTable}
+use Rattle.lexer.specs.Bytes.{mark_class, byte_class, in_classes, ClassTable}
 use Rattle.lexer.specs.Bytes as byte
 
 -- ---- the table
 
 -- a table whose entries pass the test, one after the other, gives each byte its class
-pub table-rule : (l : List ℕ) → length l ≡ 256 → T (every (λ b c. eqb c (byteClass b)) 0 l) → ClassTable l
-table-rule l e h = record { gives = table_at byteClass l 256 e h }
+pub table-rule : (l : List ℕ) → length l ≡ 256 → T (every (λ b c. eqb c (byte_class b)) 0 l) → ClassTable l
+table-rule l e h = record { gives = table_at byte_class l 256 e h }
 
 -- ---- sets of bytes by their classes: a test over the bytes up to 127, and no byte over 127 is in a set
 
@@ -48,48 +48,48 @@ each-fails (false ∷ ts) e zero = refl
 each-fails (false ∷ ts) e (suc i) = each-fails ts e i
 
 -- the tests that a byte fails which starts a name, is a digit, or is of the class of a mark
-abbrev pub notName : ℕ → List Bool
-notName b = among whitespace b ∷ is "/" b ∷ is "0" b ∷ among decimalDigits b ∷ []
+abbrev pub not_name : ℕ → List Bool
+not_name b = among whitespace b ∷ is "/" b ∷ is "0" b ∷ among decimal_digits b ∷ []
 
-abbrev pub notDigit : ℕ → List Bool
-notDigit b = among whitespace b ∷ is "/" b ∷ among nameStarts b ∷ []
+abbrev pub not_digit : ℕ → List Bool
+not_digit b = among whitespace b ∷ is "/" b ∷ among name_starts b ∷ []
 
-abbrev pub notMark : ℕ → List Bool
-notMark b = among whitespace b ∷ is "/" b ∷ is "0" b ∷ among decimalDigits b ∷ among nameStarts b ∷ []
+abbrev pub not_mark : ℕ → List Bool
+not_mark b = among whitespace b ∷ is "/" b ∷ is "0" b ∷ among decimal_digits b ∷ among name_starts b ∷ []
 
 -- what is tested of each byte up to 127: each set is a range of classes, and a mark goes by its class
 abbrev tests : ℕ → List Bool
 tests b =
-    alike (inClasses byte.Underscore byte.Letter b) (among nameBytes b) ∷
-    alike (inClasses byte.Space byte.LineEnd b) (among whitespace b) ∷
-    alike (inClasses byte.Underscore byte.LineEnd b) (among plainBytes b) ∷
-    alike (inClasses byte.BinaryDigit byte.Digit b) (among decimalDigits b) ∷
-    alike (inClasses byte.Underscore byte.Digit b) (among decimalDigits b || among underscore b) ∷
-    alike (inClasses byte.BinaryDigit byte.HexLetter b) (among hexDigits b) ∷
-    alike (inClasses byte.Underscore byte.HexLetter b) (among hexDigits b || among underscore b) ∷
-    alike (inClasses byte.BinaryDigit byte.BinaryDigit b) (among binaryDigits b) ∷
-    alike (inClasses byte.Underscore byte.BinaryDigit b) (among binaryDigits b || among underscore b) ∷
-    alike (inClasses byte.Slash byte.Slash b) (is "/" b) ∷
-    alike (inClasses byte.Underscore byte.Underscore b || inClasses byte.HexLetter byte.Letter b) (among nameStarts b) ∷
-    alike (inClasses byte.BinaryDigit byte.BinaryDigit b && is "0" b) (is "0" b) ∷
-    alike (among nameStarts b && any (notName b)) false ∷
-    alike (among decimalDigits b && any (notDigit b)) false ∷
-    alike (inClasses byte.Minus byte.Other b && any (notMark b)) false ∷
-    alike (inClasses (byte.Slash + 1) (byte.Minus - 1) b) false ∷ []
+    alike (in_classes byte.Underscore byte.Letter b) (among name_bytes b) ∷
+    alike (in_classes byte.Space byte.LineEnd b) (among whitespace b) ∷
+    alike (in_classes byte.Underscore byte.LineEnd b) (among plain_bytes b) ∷
+    alike (in_classes byte.BinaryDigit byte.Digit b) (among decimal_digits b) ∷
+    alike (in_classes byte.Underscore byte.Digit b) (among decimal_digits b || among underscore b) ∷
+    alike (in_classes byte.BinaryDigit byte.HexLetter b) (among hex_digits b) ∷
+    alike (in_classes byte.Underscore byte.HexLetter b) (among hex_digits b || among underscore b) ∷
+    alike (in_classes byte.BinaryDigit byte.BinaryDigit b) (among binary_digits b) ∷
+    alike (in_classes byte.Underscore byte.BinaryDigit b) (among binary_digits b || among underscore b) ∷
+    alike (in_classes byte.Slash byte.Slash b) (is "/" b) ∷
+    alike (in_classes byte.Underscore byte.Underscore b || in_classes byte.HexLetter byte.Letter b) (among name_starts b) ∷
+    alike (in_classes byte.BinaryDigit byte.BinaryDigit b && is "0" b) (is "0" b) ∷
+    alike (among name_starts b && any (not_name b)) false ∷
+    alike (among decimal_digits b && any (not_digit b)) false ∷
+    alike (in_classes byte.Minus byte.Other b && any (not_mark b)) false ∷
+    alike (in_classes (byte.Slash + 1) (byte.Minus - 1) b) false ∷ []
 
 tests-pass : T (every {A = ℕ} (λ b x. all (tests b)) 0 (replicate 128 0))
-unfolding inClasses byteClass markClass marks same ascii asciiFrom among whitespace lineEnds plainBytes binaryDigits decimalDigits hexDigits underscore nameStarts nameBytes
+unfolding in_classes byte_class mark_class marks same ascii ascii_from among whitespace line_ends plain_bytes binary_digits decimal_digits hex_digits underscore name_starts name_bytes
 tests-pass = tt
 
 test_at : (b : ℕ) → b ≤ 127 → (k : ℕ) → T (get_or (tests b) k true)
 test_at b h = each (tests b) (at {A = ℕ} (λ b x. all (tests b)) (replicate 128 0) 0 tests-pass b (omega (arith, length-replicate {A = ℕ} 128 0)))
 
-pub over-class : (b : ℕ) → 127 < b → byteClass b ≡ byte.NotAscii
-unfolding byteClass among plainBytes
+pub over-class : (b : ℕ) → 127 < b → byte_class b ≡ byte.NotAscii
+unfolding byte_class among plain_bytes
 over-class b h = simp (lt-leb b 127 h, and-false)
 
-over-classes : (least most b : ℕ) → most ≤ byte.LineEnd → 127 < b → inClasses least most b ≡ false
-unfolding inClasses
+over-classes : (least most b : ℕ) → most ≤ byte.LineEnd → 127 < b → in_classes least most b ≡ false
+unfolding in_classes
 over-classes least most b h l = simp (over-class b l, lt-leb byte.NotAscii most (omega arith), and-false)
 
 -- two tests that agree up to 127, and that no byte over 127 passes
@@ -101,61 +101,61 @@ by-half p q b low over over' = go (leb b 127) refl
     go false e = let h = leb-false _ _ e in over h ∙ sym (over' h)
 
 -- each set by its classes
-pub name-classes : (b : ℕ) → inClasses byte.Underscore byte.Letter b ≡ among nameBytes b
-unfolding nameBytes nameStarts decimalDigits underscore
-name-classes b = by-half (inClasses byte.Underscore byte.Letter) (among nameBytes) b (λ h. alike_same _ _ (test_at b h 0)) (over-classes byte.Underscore byte.Letter b (omega arith)) (over-among nameBytes tt b)
+pub name-classes : (b : ℕ) → in_classes byte.Underscore byte.Letter b ≡ among name_bytes b
+unfolding name_bytes name_starts decimal_digits underscore
+name-classes b = by-half (in_classes byte.Underscore byte.Letter) (among name_bytes) b (λ h. alike_same _ _ (test_at b h 0)) (over-classes byte.Underscore byte.Letter b (omega arith)) (over-among name_bytes tt b)
 
-pub space-classes : (b : ℕ) → inClasses byte.Space byte.LineEnd b ≡ among whitespace b
+pub space-classes : (b : ℕ) → in_classes byte.Space byte.LineEnd b ≡ among whitespace b
 unfolding whitespace
-space-classes b = by-half (inClasses byte.Space byte.LineEnd) (among whitespace) b (λ h. alike_same _ _ (test_at b h 1)) (over-classes byte.Space byte.LineEnd b (omega arith)) (over-among whitespace tt b)
+space-classes b = by-half (in_classes byte.Space byte.LineEnd) (among whitespace) b (λ h. alike_same _ _ (test_at b h 1)) (over-classes byte.Space byte.LineEnd b (omega arith)) (over-among whitespace tt b)
 
-pub plain-classes : (b : ℕ) → inClasses byte.Underscore byte.LineEnd b ≡ among plainBytes b
-unfolding plainBytes
-plain-classes b = by-half (inClasses byte.Underscore byte.LineEnd) (among plainBytes) b (λ h. alike_same _ _ (test_at b h 2)) (over-classes byte.Underscore byte.LineEnd b (omega arith)) (over-among plainBytes tt b)
+pub plain-classes : (b : ℕ) → in_classes byte.Underscore byte.LineEnd b ≡ among plain_bytes b
+unfolding plain_bytes
+plain-classes b = by-half (in_classes byte.Underscore byte.LineEnd) (among plain_bytes) b (λ h. alike_same _ _ (test_at b h 2)) (over-classes byte.Underscore byte.LineEnd b (omega arith)) (over-among plain_bytes tt b)
 
-pub decimal-classes : (b : ℕ) → inClasses byte.BinaryDigit byte.Digit b ≡ among decimalDigits b
-unfolding decimalDigits
-decimal-classes b = by-half (inClasses byte.BinaryDigit byte.Digit) (among decimalDigits) b (λ h. alike_same _ _ (test_at b h 3)) (over-classes byte.BinaryDigit byte.Digit b (omega arith)) (over-among decimalDigits tt b)
+pub decimal-classes : (b : ℕ) → in_classes byte.BinaryDigit byte.Digit b ≡ among decimal_digits b
+unfolding decimal_digits
+decimal-classes b = by-half (in_classes byte.BinaryDigit byte.Digit) (among decimal_digits) b (λ h. alike_same _ _ (test_at b h 3)) (over-classes byte.BinaryDigit byte.Digit b (omega arith)) (over-among decimal_digits tt b)
 
-pub decimal-run : (b : ℕ) → inClasses byte.Underscore byte.Digit b ≡ (among decimalDigits b || among underscore b)
-unfolding decimalDigits underscore
+pub decimal-run : (b : ℕ) → in_classes byte.Underscore byte.Digit b ≡ (among decimal_digits b || among underscore b)
+unfolding decimal_digits underscore
 decimal-run b =
-    by-half (inClasses byte.Underscore byte.Digit) (λ b. among decimalDigits b || among underscore b) b (λ h. alike_same _ _ (test_at b h 4)) (over-classes byte.Underscore byte.Digit b (omega arith))
-    (λ h. rw (over-among decimalDigits tt b h) (over-among underscore tt b h))
+    by-half (in_classes byte.Underscore byte.Digit) (λ b. among decimal_digits b || among underscore b) b (λ h. alike_same _ _ (test_at b h 4)) (over-classes byte.Underscore byte.Digit b (omega arith))
+    (λ h. rw (over-among decimal_digits tt b h) (over-among underscore tt b h))
 
 -- a decimal digit is of a decimal run
-pub starts_run : (b : ℕ) → among decimalDigits b ≡ true → inClasses byte.Underscore byte.Digit b ≡ true
+pub starts_run : (b : ℕ) → among decimal_digits b ≡ true → in_classes byte.Underscore byte.Digit b ≡ true
 starts_run b h = decimal-run b ∙ simp h
 
-pub hex-classes : (b : ℕ) → inClasses byte.BinaryDigit byte.HexLetter b ≡ among hexDigits b
-unfolding hexDigits
-hex-classes b = by-half (inClasses byte.BinaryDigit byte.HexLetter) (among hexDigits) b (λ h. alike_same _ _ (test_at b h 5)) (over-classes byte.BinaryDigit byte.HexLetter b (omega arith)) (over-among hexDigits tt b)
+pub hex-classes : (b : ℕ) → in_classes byte.BinaryDigit byte.HexLetter b ≡ among hex_digits b
+unfolding hex_digits
+hex-classes b = by-half (in_classes byte.BinaryDigit byte.HexLetter) (among hex_digits) b (λ h. alike_same _ _ (test_at b h 5)) (over-classes byte.BinaryDigit byte.HexLetter b (omega arith)) (over-among hex_digits tt b)
 
-pub hex-run : (b : ℕ) → inClasses byte.Underscore byte.HexLetter b ≡ (among hexDigits b || among underscore b)
-unfolding hexDigits underscore
+pub hex-run : (b : ℕ) → in_classes byte.Underscore byte.HexLetter b ≡ (among hex_digits b || among underscore b)
+unfolding hex_digits underscore
 hex-run b =
-    by-half (inClasses byte.Underscore byte.HexLetter) (λ b. among hexDigits b || among underscore b) b (λ h. alike_same _ _ (test_at b h 6)) (over-classes byte.Underscore byte.HexLetter b (omega arith))
-    (λ h. rw (over-among hexDigits tt b h) (over-among underscore tt b h))
+    by-half (in_classes byte.Underscore byte.HexLetter) (λ b. among hex_digits b || among underscore b) b (λ h. alike_same _ _ (test_at b h 6)) (over-classes byte.Underscore byte.HexLetter b (omega arith))
+    (λ h. rw (over-among hex_digits tt b h) (over-among underscore tt b h))
 
-pub binary-classes : (b : ℕ) → inClasses byte.BinaryDigit byte.BinaryDigit b ≡ among binaryDigits b
-unfolding binaryDigits
-binary-classes b = by-half (inClasses byte.BinaryDigit byte.BinaryDigit) (among binaryDigits) b (λ h. alike_same _ _ (test_at b h 7)) (over-classes byte.BinaryDigit byte.BinaryDigit b (omega arith)) (over-among binaryDigits tt b)
+pub binary-classes : (b : ℕ) → in_classes byte.BinaryDigit byte.BinaryDigit b ≡ among binary_digits b
+unfolding binary_digits
+binary-classes b = by-half (in_classes byte.BinaryDigit byte.BinaryDigit) (among binary_digits) b (λ h. alike_same _ _ (test_at b h 7)) (over-classes byte.BinaryDigit byte.BinaryDigit b (omega arith)) (over-among binary_digits tt b)
 
-pub binary-run : (b : ℕ) → inClasses byte.Underscore byte.BinaryDigit b ≡ (among binaryDigits b || among underscore b)
-unfolding binaryDigits underscore
+pub binary-run : (b : ℕ) → in_classes byte.Underscore byte.BinaryDigit b ≡ (among binary_digits b || among underscore b)
+unfolding binary_digits underscore
 binary-run b =
-    by-half (inClasses byte.Underscore byte.BinaryDigit) (λ b. among binaryDigits b || among underscore b) b (λ h. alike_same _ _ (test_at b h 8)) (over-classes byte.Underscore byte.BinaryDigit b (omega arith))
-    (λ h. rw (over-among binaryDigits tt b h) (over-among underscore tt b h))
+    by-half (in_classes byte.Underscore byte.BinaryDigit) (λ b. among binary_digits b || among underscore b) b (λ h. alike_same _ _ (test_at b h 8)) (over-classes byte.Underscore byte.BinaryDigit b (omega arith))
+    (λ h. rw (over-among binary_digits tt b h) (over-among underscore tt b h))
 
 -- `/` and `0` by their classes, and what starts a name
-pub slash-class : (b : ℕ) → inClasses byte.Slash byte.Slash b ≡ is "/" b
-slash-class b = by-half (inClasses byte.Slash byte.Slash) (is "/") b (λ h. alike_same _ _ (test_at b h 9)) (over-classes byte.Slash byte.Slash b (omega arith)) (λ h. ne_eqb b 47 (λ e. absurd (omega arith)))
+pub slash-class : (b : ℕ) → in_classes byte.Slash byte.Slash b ≡ is "/" b
+slash-class b = by-half (in_classes byte.Slash byte.Slash) (is "/") b (λ h. alike_same _ _ (test_at b h 9)) (over-classes byte.Slash byte.Slash b (omega arith)) (λ h. ne_eqb b 47 (λ e. absurd (omega arith)))
 
-pub start-classes : (b : ℕ) → (inClasses byte.Underscore byte.Underscore b || inClasses byte.HexLetter byte.Letter b) ≡ among nameStarts b
-unfolding nameStarts underscore
+pub start-classes : (b : ℕ) → (in_classes byte.Underscore byte.Underscore b || in_classes byte.HexLetter byte.Letter b) ≡ among name_starts b
+unfolding name_starts underscore
 start-classes b =
-    by-half (λ b. inClasses byte.Underscore byte.Underscore b || inClasses byte.HexLetter byte.Letter b) (among nameStarts) b (λ h. alike_same _ _ (test_at b h 10))
-    (λ h. rw (over-classes byte.Underscore byte.Underscore b (omega arith) h) (over-classes byte.HexLetter byte.Letter b (omega arith) h)) (over-among nameStarts tt b)
+    by-half (λ b. in_classes byte.Underscore byte.Underscore b || in_classes byte.HexLetter byte.Letter b) (among name_starts) b (λ h. alike_same _ _ (test_at b h 10))
+    (λ h. rw (over-classes byte.Underscore byte.Underscore b (omega arith) h) (over-classes byte.HexLetter byte.Letter b (omega arith) h)) (over-among name_starts tt b)
 
 -- ---- sets that have no byte in common
 
@@ -164,53 +164,53 @@ beside : (a b : Bool) → (a && b) ≡ false → a ≡ true → b ≡ false
 beside true b e h = e
 beside false b e h = differ h
 
-pub name-apart : (b : ℕ) → among nameStarts b ≡ true → any (notName b) ≡ false
-unfolding nameStarts underscore
+pub name-apart : (b : ℕ) → among name_starts b ≡ true → any (not_name b) ≡ false
+unfolding name_starts underscore
 name-apart b h =
     beside _ _
-    (by-half (λ b. among nameStarts b && any (notName b)) (λ b. false) b (λ l. alike_same _ _ (test_at b l 12))
-    (λ l. rw (over-among nameStarts tt b l) refl) (λ l. refl)) h
+    (by-half (λ b. among name_starts b && any (not_name b)) (λ b. false) b (λ l. alike_same _ _ (test_at b l 12))
+    (λ l. rw (over-among name_starts tt b l) refl) (λ l. refl)) h
 
-pub digit-apart : (b : ℕ) → among decimalDigits b ≡ true → any (notDigit b) ≡ false
-unfolding decimalDigits
+pub digit-apart : (b : ℕ) → among decimal_digits b ≡ true → any (not_digit b) ≡ false
+unfolding decimal_digits
 digit-apart b h =
     beside _ _
-    (by-half (λ b. among decimalDigits b && any (notDigit b)) (λ b. false) b (λ l. alike_same _ _ (test_at b l 13))
-    (λ l. rw (over-among decimalDigits tt b l) refl) (λ l. refl)) h
+    (by-half (λ b. among decimal_digits b && any (not_digit b)) (λ b. false) b (λ l. alike_same _ _ (test_at b l 13))
+    (λ l. rw (over-among decimal_digits tt b l) refl) (λ l. refl)) h
 
-pub mark-apart : (b : ℕ) → inClasses byte.Minus byte.Other b ≡ true → any (notMark b) ≡ false
+pub mark-apart : (b : ℕ) → in_classes byte.Minus byte.Other b ≡ true → any (not_mark b) ≡ false
 mark-apart b h =
     beside _ _
-    (by-half (λ b. inClasses byte.Minus byte.Other b && any (notMark b)) (λ b. false) b
+    (by-half (λ b. in_classes byte.Minus byte.Other b && any (not_mark b)) (λ b. false) b
     (λ l. alike_same _ _ (test_at b l 14)) (λ l. rw (over-classes byte.Minus byte.Other b (omega arith) l) refl) (λ l. refl)) h
 
 -- ---- a byte whose class is known
 
-module _ (least most b c : ℕ) (e : c ≡ byteClass b) where
-  pub class-in : least ≤ c → c ≤ most → inClasses least most b ≡ true
-  unfolding inClasses
+module _ (least most b c : ℕ) (e : c ≡ byte_class b) where
+  pub class-in : least ≤ c → c ≤ most → in_classes least most b ≡ true
+  unfolding in_classes
   class-in h l = simp (← e, le-leb _ _ h, le-leb _ _ l)
 
-  pub class-below : c < least → inClasses least most b ≡ false
-  unfolding inClasses
+  pub class-below : c < least → in_classes least most b ≡ false
+  unfolding in_classes
   class-below h = simp (← e, lt-leb _ _ h)
 
-  pub class-above : most < c → inClasses least most b ≡ false
-  unfolding inClasses
+  pub class-above : most < c → in_classes least most b ≡ false
+  unfolding in_classes
   class-above h = simp (← e, lt-leb _ _ h, and-false)
 
-module _ (b c : ℕ) (e : c ≡ byteClass b) where
-  pub starts-underscore : c ≡ byte.Underscore → among nameStarts b ≡ true
+module _ (b c : ℕ) (e : c ≡ byte_class b) where
+  pub starts-underscore : c ≡ byte.Underscore → among name_starts b ≡ true
   starts-underscore z = sym (start-classes b) ∙ simp (class-in byte.Underscore byte.Underscore b c e (omega arith) (omega arith))
 
-  pub starts-not : (c ≡ byte.Underscore → ⊥) → c < byte.HexLetter → among nameStarts b ≡ false
+  pub starts-not : (c ≡ byte.Underscore → ⊥) → c < byte.HexLetter → among name_starts b ≡ false
   starts-not n l = sym (start-classes b) ∙ simp (class-above byte.Underscore byte.Underscore b c e (omega arith), class-below byte.HexLetter byte.Letter b c e l)
 
-  pub starts-letter : (c ≡ byte.Underscore → ⊥) → byte.HexLetter ≤ c → among nameStarts b ≡ leb c byte.Letter
-  unfolding inClasses
+  pub starts-letter : (c ≡ byte.Underscore → ⊥) → byte.HexLetter ≤ c → among name_starts b ≡ leb c byte.Letter
+  unfolding in_classes
   starts-letter n l = sym (start-classes b) ∙ simp (class-above byte.Underscore byte.Underscore b c e (omega arith), ← e, le-leb byte.HexLetter c l)
 
-  pub digit-class : (c ≡ byte.Underscore → ⊥) → c < byte.HexLetter → among decimalDigits b ≡ true
+  pub digit-class : (c ≡ byte.Underscore → ⊥) → c < byte.HexLetter → among decimal_digits b ≡ true
   digit-class n l = sym (decimal-classes b) ∙ class-in byte.BinaryDigit byte.Digit b c e (omega arith) (omega arith)
 
   pub slash-is : c ≡ byte.Slash → b ≡ 47
@@ -220,8 +220,8 @@ module _ (b c : ℕ) (e : c ≡ byteClass b) where
   pub class-gap : byte.Slash < c → byte.Minus ≤ c
   class-gap l = go (leb byte.Minus c) refl
     where
-      none : inClasses (byte.Slash + 1) (byte.Minus - 1) b ≡ false
-      none = by-half (inClasses (byte.Slash + 1) (byte.Minus - 1)) (λ b. false) b (λ h. alike_same _ _ (test_at b h 15)) (over-classes (byte.Slash + 1) (byte.Minus - 1) b (omega arith)) (λ h. refl)
+      none : in_classes (byte.Slash + 1) (byte.Minus - 1) b ≡ false
+      none = by-half (in_classes (byte.Slash + 1) (byte.Minus - 1)) (λ b. false) b (λ h. alike_same _ _ (test_at b h 15)) (over-classes (byte.Slash + 1) (byte.Minus - 1) b (omega arith)) (λ h. refl)
 
       go : (t : Bool) → leb byte.Minus c ≡ t → byte.Minus ≤ c
       go true q = leb-true _ _ q

@@ -10,23 +10,23 @@ use native.Mathlib.Omega.{arith}
 use borrow.Author.Tests.{eq-eqb, ne_eqb, eqb-true, eqb-false, le-leb, leb-true, ltb-true, ltb-false}
 use lib.Dec.{eqb, leb, ltb}
 use lib.ListN.{length, get_or, take, drop}
-use Rattle.text.specs.Ascii.{ascii, asciiFrom}
+use Rattle.text.specs.Ascii.{ascii, ascii_from}
 use Rattle.text.specs.Counts.{more, place_of}
 use Rattle.text.specs.Refusals as refusal
 use Rattle.text.specs.Same.{differ}
 use Rattle.text.specs.Table.{both_left, both_right}
-use Rattle.utf8.specs.Parts.{badIn, bad-end, bad-found, Good, good-next}
+use Rattle.utf8.specs.Parts.{bad_in, bad-end, bad-found, Good, good-next}
 use Rattle.utf8.specs.Sequences.{ascii-at, high, char-high}
-use Rattle.utf8.specs.Utf8.{charLength, badAt}
-use Rattle.lexer.specs.Chars.{among, whitespace, lineEnds, decimalDigits, underscore, nameStarts, first, run, begins}
-use Rattle.lexer.specs.Lexemes.{Inside, closed, within, inside, onward, closing, block, refused, checked, comment, inLine, space, lineComment, blockComment, qualified, macro, digits, hexadecimal, binary, decimal, word, marks, mark, noLexeme, lexeme}
-use Rattle.lexer.specs.Step.{stepFrom, lexemeAt}
-use Rattle.lexer.specs.Trivia.{plainInLine, plainInBlock, edge_of, brokenOf}
+use Rattle.utf8.specs.Utf8.{char_length, bad_at}
+use Rattle.lexer.specs.Chars.{among, whitespace, line_ends, decimal_digits, underscore, name_starts, first, run, begins}
+use Rattle.lexer.specs.Lexemes.{Inside, closed, within, inside, onward, closing, block, refused, checked, comment, in_line, space, line_comment, block_comment, qualified, macro, digits, hexadecimal, binary, decimal, word, marks, mark, no_lexeme, lexeme}
+use Rattle.lexer.specs.Step.{step_from, lexeme_at}
+use Rattle.lexer.specs.Trivia.{plain_in_line, plain_in_block, edge_of, broken_of}
 use Rattle.lexer.specs.declared.Step.{Step}
 use Rattle.lexer.specs.declared.Step.TheVariants.{Trivia, Refused}
 use Rattle.lexer.specs.declared.trivia.Edge.TheVariants.{Opens, Closes, Neither}
 use Rattle.lexer.proofs.Rest.{rest-first, rest-cons, rest-drop, begins-one}
-use Rattle.lexer.proofs.Runs.{runEnd, run_in, run-true}
+use Rattle.lexer.proofs.Runs.{run_end, run_in, run-true}
 use Rattle.lexer.proofs.Closings.{edge-opens, edge-closes, two-within, two-inside, high-on, place-neither}
 
 -- ---- the end of a line
@@ -40,41 +40,41 @@ one_byte n b h = go (leb n b) refl (leb b n) refl
     go true p false q = rw (q, and-false) refl
     go true p true q = absurd (h (let x = leb-true n b p in let y = leb-true b n q in omega arith))
 
-neither-end : (b : ℕ) → (b ≡ 10 → ⊥) → (b ≡ 13 → ⊥) → inLine b ≡ true
-unfolding among lineEnds
+neither-end : (b : ℕ) → (b ≡ 10 → ⊥) → (b ≡ 13 → ⊥) → in_line b ≡ true
+unfolding among line_ends
 neither-end b l c = simp (one_byte 10 b l, one_byte 13 b c)
 
-pub past-cr : (b : ℕ) → 13 < b → inLine b ≡ true
+pub past-cr : (b : ℕ) → 13 < b → in_line b ≡ true
 past-cr b h = neither-end b (λ z. absurd (omega arith)) (λ z. absurd (omega arith))
 
 -- a byte past CR, CR, and any other
 module _ (b : ℕ) where
-  pub line-past : 13 < b → leb b 127 ≡ plainInLine b
+  pub line-past : 13 < b → leb b 127 ≡ plain_in_line b
   line-past h = sym (ap (λ t. leb b 127 && t) (past-cr b h) ∙ and-true (leb b 127))
 
-  pub line-cr : b ≡ 13 → false ≡ plainInLine b
-  unfolding among lineEnds
+  pub line-cr : b ≡ 13 → false ≡ plain_in_line b
+  unfolding among line_ends
   line-cr e = rw e refl
 
-  is-lf : b ≡ 10 → false ≡ plainInLine b
-  unfolding among lineEnds
+  is-lf : b ≡ 10 → false ≡ plain_in_line b
+  unfolding among line_ends
   is-lf e = rw e refl
 
-  pub line_other : b ≤ 13 → (b ≡ 13 → ⊥) → not (eqb b 10) ≡ plainInLine b
+  pub line_other : b ≤ 13 → (b ≡ 13 → ⊥) → not (eqb b 10) ≡ plain_in_line b
   line_other h n = go (eqb b 10) refl
     where
-      go : (t : Bool) → eqb b 10 ≡ t → not (eqb b 10) ≡ plainInLine b
+      go : (t : Bool) → eqb b 10 ≡ t → not (eqb b 10) ≡ plain_in_line b
       go true e = ap not e ∙ is-lf (eqb-true b 10 e)
       go false e = ap not e ∙ sym (simp (le-leb b 127 (omega arith), neither-end b (eqb-false b 10 e) n))
 
   -- what such a byte is, and what it is not
-  pub line_plain : plainInLine b ≡ true → (b ≤ 127) × (inLine b ≡ true)
-  line_plain e = (leb-true b 127 (both_left (leb b 127) (inLine b) e), both_right (leb b 127) (inLine b) e)
+  pub line_plain : plain_in_line b ≡ true → (b ≤ 127) × (in_line b ≡ true)
+  line_plain e = (leb-true b 127 (both_left (leb b 127) (in_line b) e), both_right (leb b 127) (in_line b) e)
 
-  pub line-ends : plainInLine b ≡ false → b ≤ 127 → inLine b ≡ false
+  pub line-ends : plain_in_line b ≡ false → b ≤ 127 → in_line b ≡ false
   line-ends e h = rw (le-leb b 127 h) at e
 
-  pub block-plain : plainInBlock b ≡ true → (b ≤ 127) × (b ≡ 47 → ⊥) × (b ≡ 42 → ⊥)
+  pub block-plain : plain_in_block b ≡ true → (b ≤ 127) × (b ≡ 47 → ⊥) × (b ≡ 42 → ⊥)
   block-plain e =
       let o = both_right (leb b 127) (not (eqb b 47 || eqb b 42)) e in
       (leb-true b 127 (both_left (leb b 127) (not (eqb b 47 || eqb b 42)) e), λ z. not-slash z o, λ z. not-star z o)
@@ -99,25 +99,25 @@ by_size {A = A} n z f g = go (ltb 1 n) refl
     go false p = f (pick n z (ltb-false 1 n p))
 
 -- bytes over 127 stay in the line
-run-high : (k : ℕ) (r : List ℕ) → high k r ≡ true → run inLine r ≡ k + run inLine (drop k r)
+run-high : (k : ℕ) (r : List ℕ) → high k r ≡ true → run in_line r ≡ k + run in_line (drop k r)
 unfolding high
-run-high zero r e = let z : run inLine r ≡ 0 + run inLine r = omega arith in z
+run-high zero r e = let z : run in_line r ≡ 0 + run in_line r = omega arith in z
 run-high (suc k) [] e = differ e
 run-high (suc k) (b ∷ r) e =
     let o = ltb-true 127 b (both_left (ltb 127 b) (high k r) e) in
     let h = run-high k r (both_right (ltb 127 b) (high k r) e) in
-    let z = run-true inLine b r (past-cr b (omega arith)) in
+    let z = run-true in_line b r (past-cr b (omega arith)) in
     omega arith
 
-module _ (s : List ℕ) (j n : ℕ) (q : n ≡ charLength (drop j s)) (z : n ≡ 0 → ⊥) where
+module _ (s : List ℕ) (j n : ℕ) (q : n ≡ char_length (drop j s)) (z : n ≡ 0 → ⊥) where
   all-high : 1 < n → high n (drop j s) ≡ true
   all-high o = subst (λ k. high k (drop j s) ≡ true) (sym q) (char-high (drop j s) (let z = q in omega arith))
 
-  pub line-next : j < length s → inLine (get_or s j 0) ≡ true → runEnd inLine s (j + n) ≡ runEnd inLine s j
+  pub line-next : j < length s → in_line (get_or s j 0) ≡ true → run_end in_line s (j + n) ≡ run_end in_line s j
   line-next h l =
-      by_size n z (λ e. ap (λ m. runEnd inLine s (j + m)) e ∙ run_in inLine s j h l)
+      by_size n z (λ e. ap (λ m. run_end in_line s (j + m)) e ∙ run_in in_line s j h l)
       (λ o. let x = run-high n (drop j s) (all-high o) in
-      let y : run inLine (drop n (drop j s)) ≡ run inLine (drop (j + n) s) = ap (run inLine) (rest-drop s j n (j + n) refl) in
+      let y : run in_line (drop n (drop j s)) ≡ run in_line (drop (j + n) s) = ap (run in_line) (rest-drop s j n (j + n) refl) in
       omega arith)
 
   pub block-next : (d : ℕ) → j < length s → Neither ≡ edge_of (get_or s j 0) (get_or s (j + 1) 0) → place_of (closing (drop (j + n) s) d 0) (j + n) ≡ place_of (closing (drop j s) d 0) j
@@ -127,31 +127,31 @@ module _ (s : List ℕ) (j n : ℕ) (q : n ≡ charLength (drop j s)) (z : n ≡
 
 -- ---- a comment from i up to e
 
-abbrev commentAt : List ℕ → ℕ → ℕ → Step
-commentAt draft i e = stepFrom (comment (e - i) (drop i draft)) i
+abbrev comment_at : List ℕ → ℕ → ℕ → Step
+comment_at draft i e = step_from (comment (e - i) (drop i draft)) i
 
 module _ (s : List ℕ) (i e : ℕ) where
-  comment-good : i ≤ e → badIn s i e ≡ none → Trivia e ≡ commentAt s i e
-  unfolding comment badIn
-  comment-good h q = go (badAt (take (e - i) (drop i s))) q
+  comment-good : i ≤ e → bad_in s i e ≡ none → Trivia e ≡ comment_at s i e
+  unfolding comment bad_in
+  comment-good h q = go (bad_at (take (e - i) (drop i s))) q
     where
-      go : (x : Option ℕ) → place_of x i ≡ none → Trivia e ≡ stepFrom (checked x (e - i)) i
+      go : (x : Option ℕ) → place_of x i ≡ none → Trivia e ≡ step_from (checked x (e - i)) i
       go none q = ap Trivia (let z : e ≡ i + (e - i) = omega arith in z)
       go (some n) q = let z : ◌≡◌ {A = ℕ} 0 1 = cc in absurd (omega arith)
 
-  comment-bad : (j : ℕ) → badIn s i e ≡ some j → Refused refusal.NotUtf8 j ≡ commentAt s i e
-  unfolding comment badIn
-  comment-bad j q = go (badAt (take (e - i) (drop i s))) q
+  comment-bad : (j : ℕ) → bad_in s i e ≡ some j → Refused refusal.NotUtf8 j ≡ comment_at s i e
+  unfolding comment bad_in
+  comment-bad j q = go (bad_at (take (e - i) (drop i s))) q
     where
-      go : (x : Option ℕ) → place_of x i ≡ some j → Refused refusal.NotUtf8 j ≡ stepFrom (checked x (e - i)) i
+      go : (x : Option ℕ) → place_of x i ≡ some j → Refused refusal.NotUtf8 j ≡ step_from (checked x (e - i)) i
       go none q = let z : ◌≡◌ {A = ℕ} 0 1 = cc in absurd (omega arith)
       go (some n) q = let z : i + n ≡ j = cc in ap (Refused refusal.NotUtf8) (sym z)
 
 -- sequences up to its end, or up to a place before it where none stands
-comment-whole : (s : List ℕ) (i e : ℕ) → i ≤ e → Good s i e → Trivia e ≡ commentAt s i e
+comment-whole : (s : List ℕ) (i e : ℕ) → i ≤ e → Good s i e → Trivia e ≡ comment_at s i e
 comment-whole s i e h g = comment-good s i e h (sym (g.keeps e (omega arith)) ∙ bad-end s e)
 
-comment-broken : (s : List ℕ) (i j e : ℕ) → Good s i j → j < length s → 0 ≡ charLength (drop j s) → j < e → Refused refusal.NotUtf8 j ≡ commentAt s i e
+comment-broken : (s : List ℕ) (i j e : ℕ) → Good s i j → j < length s → 0 ≡ char_length (drop j s) → j < e → Refused refusal.NotUtf8 j ≡ comment_at s i e
 comment-broken s i j e g h q k = comment-bad s i e j (sym (g.keeps e (omega arith)) ∙ bad-found s j e 0 q refl h k)
 
 -- a byte up to 127 is one
@@ -178,18 +178,18 @@ good-closes s i j g h e =
 -- ---- the lexeme at a `/`
 
 module _ (r : List ℕ) where
-  slash-line : first r ≡ 47 → lexeme (47 ∷ r) ≡ comment (2 + run inLine (drop 1 r)) (47 ∷ r)
-  unfolding lexeme space among whitespace lineComment begins ascii asciiFrom
+  slash-line : first r ≡ 47 → lexeme (47 ∷ r) ≡ comment (2 + run in_line (drop 1 r)) (47 ∷ r)
+  unfolding lexeme space among whitespace line_comment begins ascii ascii_from
   slash-line e = simp (begins-one 46 r, eq-eqb _ _ e)
 
   slash-block : first r ≡ 42 → lexeme (47 ∷ r) ≡ block (closing (drop 1 r) 0 0) (47 ∷ r)
-  unfolding lexeme space among whitespace lineComment blockComment begins ascii asciiFrom
+  unfolding lexeme space among whitespace line_comment block_comment begins ascii ascii_from
   slash-block e =
       let n : first r ≡ 47 → ⊥ = (λ z. absurd (omega arith)) in
       simp (begins-one 46 r, begins-one 41 r, ne_eqb _ _ n, eq-eqb _ _ e)
 
   slash-alone : (first r ≡ 47 → ⊥) → (first r ≡ 42 → ⊥) → lexeme (47 ∷ r) ≡ refused refusal.NoLexeme 0
-  unfolding lexeme space among whitespace lineComment blockComment begins ascii asciiFrom qualified nameStarts underscore macro hexadecimal binary decimal digits decimalDigits word mark marks noLexeme
+  unfolding lexeme space among whitespace line_comment block_comment begins ascii ascii_from qualified name_starts underscore macro hexadecimal binary decimal digits decimal_digits word mark marks no_lexeme
   slash-alone n m = simp (begins-one 46 r, begins-one 41 r, ne_eqb _ _ n, ne_eqb _ _ m)
 
 module _ (s : List ℕ) (i b : ℕ) (h : i < length s) (e : get_or s i 0 ≡ 47) (f : b ≡ get_or s (i + 1) 0) where
@@ -199,16 +199,16 @@ module _ (s : List ℕ) (i b : ℕ) (h : i < length s) (e : get_or s i 0 ≡ 47)
   next : first (drop (suc i) s) ≡ b
   next = rest-first s (suc i) ∙ ap (λ n. get_or s n 0) (sym (add-one i)) ∙ sym f
 
-  at-line : b ≡ 47 → (k : ℕ) → k ≡ i + 2 + run inLine (drop (i + 2) s) → commentAt s i k ≡ lexemeAt s i
+  at-line : b ≡ 47 → (k : ℕ) → k ≡ i + 2 + run in_line (drop (i + 2) s) → comment_at s i k ≡ lexeme_at s i
   at-line z k q =
-      let n : k - i ≡ 2 + run inLine (drop (i + 2) s) = omega arith in
+      let n : k - i ≡ 2 + run in_line (drop (i + 2) s) = omega arith in
       let d : drop 1 (drop (suc i) s) ≡ drop (i + 2) s = rest-drop s (suc i) 1 (i + 2) (omega arith) in
       let w : comment (k - i) (drop i s) ≡ lexeme (drop i s) =
-      ap (λ m. comment m (drop i s)) (n ∙ ap (λ l. 2 + run inLine l) (sym d))
-      ∙ ap (λ l. comment (2 + run inLine (drop 1 (drop (suc i) s))) l) here
+      ap (λ m. comment m (drop i s)) (n ∙ ap (λ l. 2 + run in_line l) (sym d))
+      ∙ ap (λ l. comment (2 + run in_line (drop 1 (drop (suc i) s))) l) here
       ∙ sym (slash-line (drop (suc i) s) (next ∙ z))
       ∙ ap lexeme (sym here) in
-      ap (λ x. stepFrom x i) w
+      ap (λ x. step_from x i) w
 
   -- the block comment ends at k, or never
   block-is : b ≡ 42 → block (closing (drop (i + 2) s) 0 0) (drop i s) ≡ lexeme (drop i s)
@@ -219,39 +219,39 @@ module _ (s : List ℕ) (i b : ℕ) (h : i < length s) (e : get_or s i 0 ≡ 47)
       ∙ sym (slash-block (drop (suc i) s) (next ∙ z))
       ∙ ap lexeme (sym here)
 
-  at_block : b ≡ 42 → (k : ℕ) → place_of (closing (drop (i + 2) s) 0 0) (i + 2) ≡ some k → commentAt s i k ≡ lexemeAt s i
+  at_block : b ≡ 42 → (k : ℕ) → place_of (closing (drop (i + 2) s) 0 0) (i + 2) ≡ some k → comment_at s i k ≡ lexeme_at s i
   at_block z k q = go (closing (drop (i + 2) s) 0 0) refl q
     where
-      go : (x : Option ℕ) → closing (drop (i + 2) s) 0 0 ≡ x → place_of x (i + 2) ≡ some k → commentAt s i k ≡ lexemeAt s i
+      go : (x : Option ℕ) → closing (drop (i + 2) s) 0 0 ≡ x → place_of x (i + 2) ≡ some k → comment_at s i k ≡ lexeme_at s i
       go none p q = let z : ◌≡◌ {A = ℕ} 0 1 = cc in absurd (omega arith)
       go (some n) p q =
           let m : i + 2 + n ≡ k = cc in
           let l : k - i ≡ 2 + n = omega arith in
-          ap (λ x. stepFrom x i) (ap (λ m. comment m (drop i s)) l ∙ sym (ap (λ x. block x (drop i s)) p) ∙ block-is z)
+          ap (λ x. step_from x i) (ap (λ m. comment m (drop i s)) l ∙ sym (ap (λ x. block x (drop i s)) p) ∙ block-is z)
 
-  at-unclosed : b ≡ 42 → place_of (closing (drop (i + 2) s) 0 0) (i + 2) ≡ none → Refused refusal.Unclosed i ≡ lexemeAt s i
+  at-unclosed : b ≡ 42 → place_of (closing (drop (i + 2) s) 0 0) (i + 2) ≡ none → Refused refusal.Unclosed i ≡ lexeme_at s i
   at-unclosed z q = go (closing (drop (i + 2) s) 0 0) refl q
     where
-      go : (x : Option ℕ) → closing (drop (i + 2) s) 0 0 ≡ x → place_of x (i + 2) ≡ none → Refused refusal.Unclosed i ≡ lexemeAt s i
-      go none p q = ap (Refused refusal.Unclosed) (let z : i ≡ i + 0 = omega arith in z) ∙ ap (λ x. stepFrom x i) (sym (ap (λ x. block x (drop i s)) p) ∙ block-is z)
+      go : (x : Option ℕ) → closing (drop (i + 2) s) 0 0 ≡ x → place_of x (i + 2) ≡ none → Refused refusal.Unclosed i ≡ lexeme_at s i
+      go none p q = ap (Refused refusal.Unclosed) (let z : i ≡ i + 0 = omega arith in z) ∙ ap (λ x. step_from x i) (sym (ap (λ x. block x (drop i s)) p) ∙ block-is z)
       go (some n) p q = let z : ◌≡◌ {A = ℕ} 0 1 = cc in absurd (omega arith)
 
-  pub at-slash : (b ≡ 47 → ⊥) → (b ≡ 42 → ⊥) → Refused refusal.NoLexeme i ≡ lexemeAt s i
+  pub at-slash : (b ≡ 47 → ⊥) → (b ≡ 42 → ⊥) → Refused refusal.NoLexeme i ≡ lexeme_at s i
   at-slash n m =
       ap (Refused refusal.NoLexeme) (let z : i ≡ i + 0 = omega arith in z)
-      ∙ sym (ap (λ x. stepFrom x i) (ap lexeme here ∙ slash-alone (drop (suc i) s) (λ z. n (sym next ∙ z)) (λ z. m (sym next ∙ z))))
+      ∙ sym (ap (λ x. step_from x i) (ap lexeme here ∙ slash-alone (drop (suc i) s) (λ z. n (sym next ∙ z)) (λ z. m (sym next ∙ z))))
 
 -- ---- a line comment
 
 module _ (s : List ℕ) (i j : ℕ) (h : i + 1 < length s) (a : get_or s i 0 ≡ 47) (b : get_or s (i + 1) 0 ≡ 47) where
-  pub line-whole : i ≤ j → Good s i j → j ≡ runEnd inLine s (i + 2) → Trivia j ≡ lexemeAt s i
+  pub line-whole : i ≤ j → Good s i j → j ≡ run_end in_line s (i + 2) → Trivia j ≡ lexeme_at s i
   line-whole l g e = comment-whole s i j l g ∙ at-line s i 47 (omega arith) a (sym b) refl j e
 
-  pub line-broken : Good s i j → j < length s → inLine (get_or s j 0) ≡ true → 0 ≡ charLength (drop j s) → runEnd inLine s j ≡ runEnd inLine s (i + 2)
-      → Refused refusal.NotUtf8 j ≡ lexemeAt s i
+  pub line-broken : Good s i j → j < length s → in_line (get_or s j 0) ≡ true → 0 ≡ char_length (drop j s) → run_end in_line s j ≡ run_end in_line s (i + 2)
+      → Refused refusal.NotUtf8 j ≡ lexeme_at s i
   line-broken g l x q e =
-      let z = run_in inLine s j l x in
-      comment-broken s i j (runEnd inLine s (i + 2)) g l q (omega arith) ∙ at-line s i 47 (omega arith) a (sym b) refl _ refl
+      let z = run_in in_line s j l x in
+      comment-broken s i j (run_end in_line s (i + 2)) g l q (omega arith) ∙ at-line s i 47 (omega arith) a (sym b) refl _ refl
 
 -- ---- a block comment
 
@@ -269,19 +269,19 @@ closing-some (b ∷ r) d p n e = go (inside d p b) e
     go (within d p) e = further (closing r d p) e
 
 module _ (s : List ℕ) (i : ℕ) (h : i + 1 < length s) (a : get_or s i 0 ≡ 47) (b : get_or s (i + 1) 0 ≡ 42) where
-  pub block-broken : (j d : ℕ) → Good s i j → j < length s → 0 ≡ charLength (drop j s) → place_of (closing (drop j s) d 0) j ≡ place_of (closing (drop (i + 2) s) 0 0) (i + 2)
-      → brokenOf (closing (drop j s) d 0) i j ≡ lexemeAt s i
+  pub block-broken : (j d : ℕ) → Good s i j → j < length s → 0 ≡ char_length (drop j s) → place_of (closing (drop j s) d 0) j ≡ place_of (closing (drop (i + 2) s) 0 0) (i + 2)
+      → broken_of (closing (drop j s) d 0) i j ≡ lexeme_at s i
   block-broken j d g l q c = go (closing (drop j s) d 0) refl
     where
-      go : (x : Option ℕ) → closing (drop j s) d 0 ≡ x → brokenOf (closing (drop j s) d 0) i j ≡ lexemeAt s i
-      go none e = ap (λ x. brokenOf x i j) e ∙ at-unclosed s i 42 (omega arith) a (sym b) refl (sym c ∙ ap (λ x. place_of x j) e)
+      go : (x : Option ℕ) → closing (drop j s) d 0 ≡ x → broken_of (closing (drop j s) d 0) i j ≡ lexeme_at s i
+      go none e = ap (λ x. broken_of x i j) e ∙ at-unclosed s i 42 (omega arith) a (sym b) refl (sym c ∙ ap (λ x. place_of x j) e)
       go (some n) e =
           let o = closing-some (drop j s) d 0 n e in
-          ap (λ x. brokenOf x i j) e ∙ comment-broken s i j (j + n) g l q (omega arith)
+          ap (λ x. broken_of x i j) e ∙ comment-broken s i j (j + n) g l q (omega arith)
           ∙ at_block s i 42 (omega arith) a (sym b) refl (j + n) (sym c ∙ ap (λ x. place_of x j) e)
 
-  pub block-whole : (k : ℕ) → i ≤ k → Good s i k → place_of (closing (drop (i + 2) s) 0 0) (i + 2) ≡ some k → Trivia k ≡ lexemeAt s i
+  pub block-whole : (k : ℕ) → i ≤ k → Good s i k → place_of (closing (drop (i + 2) s) 0 0) (i + 2) ≡ some k → Trivia k ≡ lexeme_at s i
   block-whole k l g e = comment-whole s i k l g ∙ at_block s i 42 (omega arith) a (sym b) refl k e
 
-  pub block-unclosed : place_of (closing (drop (i + 2) s) 0 0) (i + 2) ≡ none → Refused refusal.Unclosed i ≡ lexemeAt s i
+  pub block-unclosed : place_of (closing (drop (i + 2) s) 0 0) (i + 2) ≡ none → Refused refusal.Unclosed i ≡ lexeme_at s i
   block-unclosed e = at-unclosed s i 42 (omega arith) a (sym b) refl e

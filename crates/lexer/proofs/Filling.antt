@@ -12,13 +12,13 @@ use lib.ListN.{length, get_or, drop, set, length-drop, length-append, length-set
 use lib.Seq.{sets-eq, take_at, drop_at, drop-drop, get_or_at}
 use Rattle.text.specs.Answers.{Answer, accepted, refused}
 use Rattle.text.specs.Refusals as refusal
-use Rattle.text.specs.Widths.{tokWide}
+use Rattle.text.specs.Widths.{tok_wide}
 use Rattle.text.specs.Front.{front, Held}
-use Rattle.lexer.specs.Lexemes.{Token, Lexemes, tokens, refusedAt, with-token, lexemesFrom, lexemes}
-use Rattle.lexer.specs.Limits.{noToken, meant, tooDeep, deep, judgedIn, tokenWords, tokensOf}
+use Rattle.lexer.specs.Lexemes.{Token, Lexemes, tokens, refused_at, with_token, lexemes_from, lexemes}
+use Rattle.lexer.specs.Limits.{no_token, meant, first_too_deep, deep, judged_in, token_words, tokens_of}
 use Rattle.lexer.specs.Buffer.{put_at}
 use Rattle.lexer.specs.Fits.{not-both, token-words-length}
-use Rattle.lexer.specs.Nesting.{isPast, nestAfter, nestOf, outermost, passed_at}
+use Rattle.lexer.specs.Nesting.{is_past, nest_after, nest_of, outermost, passed_at}
 use Rattle.lexer.specs.Step.{step_of}
 use Rattle.lexer.specs.declared.Step.{Step}
 use Rattle.lexer.specs.declared.Step.TheVariants as S
@@ -33,21 +33,21 @@ use Rattle.lexer.proofs.Steps.{follow, Leads, rest-follows, step-leads}
 abbrev words_of : Token → List ℕ
 words_of t = t.kind ∷ t.start ∷ t.end ∷ []
 
-words_snoc : (ts : List Token) (t : Token) → tokenWords (ts ++ t ∷ []) ≡ tokenWords ts ++ words_of t
-unfolding tokenWords
+words_snoc : (ts : List Token) (t : Token) → token_words (ts ++ t ∷ []) ≡ token_words ts ++ words_of t
+unfolding token_words
 words_snoc [] t = refl
 words_snoc (u ∷ ts) t = ap (λ l. u.kind ∷ u.start ∷ u.end ∷ l) (words_snoc ts t)
 
 -- the words of one token more, behind those that lie before them
-token-more : (p o : List ℕ) (k a e m : ℕ) → length p ≡ m → m + tokWide ≤ length o
-    → set (set (set (p ++ drop m o) m k) (m + 1) a) (m + 2) e ≡ (p ++ k ∷ a ∷ e ∷ []) ++ drop (m + tokWide) o
+token-more : (p o : List ℕ) (k a e m : ℕ) → length p ≡ m → m + tok_wide ≤ length o
+    → set (set (set (p ++ drop m o) m k) (m + 1) a) (m + 2) e ≡ (p ++ k ∷ a ∷ e ∷ []) ++ drop (m + tok_wide) o
 token-more p o k a e m l h =
     let q = p ++ drop m o in
     let b : suc m ≡ m + 1 = omega arith in
     let d : suc (suc m) ≡ m + 2 = omega arith in
-    let n : m + tokWide ≤ length q = omega (arith, length-append p (drop m o), length-drop m o) in
-    let f : drop (m + tokWide) q ≡ drop (m + tokWide) o =
-    sym (drop-drop tokWide m q) ∙ ap (λ x. drop tokWide x) (drop_at p (drop m o) m l) ∙ drop-drop tokWide m o in
+    let n : m + tok_wide ≤ length q = omega (arith, length-append p (drop m o), length-drop m o) in
+    let f : drop (m + tok_wide) q ≡ drop (m + tok_wide) o =
+    sym (drop-drop tok_wide m q) ∙ ap (λ x. drop tok_wide x) (drop_at p (drop m o) m l) ∙ drop-drop tok_wide m o in
     sym (ap₂ (λ x y. set (set (set q m k) x a) y e) b d)
     ∙ sets-eq (k ∷ a ∷ e ∷ []) q m n
     ∙ ap₂ (λ x y. x ++ (k ∷ a ∷ e ∷ []) ++ y) (take_at p (drop m o) m l) f
@@ -56,7 +56,7 @@ length-put : (out : List ℕ) (room n k a e : ℕ) → length (put_at out room n
 unfolding put_at
 length-put out room n k a e = go (ltb n room)
   where
-    go : (b : Bool) → length (cond b (set (set (set out (tokWide * n) k) (tokWide * n + 1) a) (tokWide * n + 2) e) out) ≡ length out
+    go : (b : Bool) → length (cond b (set (set (set out (tok_wide * n) k) (tok_wide * n + 1) a) (tok_wide * n + 2) e) out) ≡ length out
     go true = simp length-set
     go false = refl
 
@@ -69,15 +69,15 @@ over-stays n room at over h = let l = ltb-true n room h in simp (ne_eqb n room (
 -- the lexemes with these tokens before them
 abbrev pub before : List Token → Lexemes → Lexemes
 before ts (tokens us) = tokens (ts ++ us)
-before ts (refusedAt c p) = refusedAt c p
+before ts (refused_at c p) = refused_at c p
 
 before-none : (x : Lexemes) → before [] x ≡ x
 before-none (tokens us) = refl
-before-none (refusedAt c p) = refl
+before-none (refused_at c p) = refl
 
-before-snoc : (ts : List Token) (t : Token) (x : Lexemes) → before (ts ++ t ∷ []) x ≡ before ts (with-token t x)
+before-snoc : (ts : List Token) (t : Token) (x : Lexemes) → before (ts ++ t ∷ []) x ≡ before ts (with_token t x)
 before-snoc ts t (tokens us) = ap tokens (append_assoc ts (t ∷ []) us)
-before-snoc ts t (refusedAt c p) = refl
+before-snoc ts t (refused_at c p) = refl
 
 -- at place i of s, with n tokens found: those below the room stand in the buffer, w is the start of the first too many, x what is counted of them all
 pub record Filling (s : List ℕ) (room : ℕ) (o : List ℕ) (i n w : ℕ) (x : Nest) (out : List ℕ) : Type 0 where
@@ -85,14 +85,14 @@ pub record Filling (s : List ℕ) (room : ℕ) (o : List ℕ) (i n w : ℕ) (x :
   pub number : length done ≡ n
   pub within : i ≤ length s
   pub few : n ≤ i
-  pub rest : before done (lexemesFrom (drop i s) i 0) ≡ lexemes s
+  pub rest : before done (lexemes_from (drop i s) i 0) ≡ lexemes s
   pub long : length out ≡ length o
-  pub written : n ≤ room → out ≡ tokenWords done ++ drop (tokWide * n) o
-  pub over : room < n → w ≡ (get_or done room noToken).start
-  pub nested : nestOf outermost done ≡ x
+  pub written : n ≤ room → out ≡ token_words done ++ drop (tok_wide * n) o
+  pub over : room < n → w ≡ (get_or done room no_token).start
+  pub nested : nest_of outermost done ≡ x
 
 pub fill_start : (s : List ℕ) (room : ℕ) (o : List ℕ) (x : Nest) → x ≡ outermost → Filling s room o 0 0 0 x o
-unfolding lexemes tokenWords
+unfolding lexemes token_words
 fill_start s room o x e = record {
   done = [];
   number = refl;
@@ -107,8 +107,8 @@ fill_start s room o x e = record {
 
 module _ {s : List ℕ} {room : ℕ} {o : List ℕ} {i n w : ℕ} {x : Nest} {out : List ℕ} (v : Filling s room o i n w x out) (t : Step) (q : step_of s i ≡ t) where
   -- what is left, as the step has it
-  left : before v.done (follow t i (λ j. lexemesFrom (drop j s) j 0)) ≡ lexemes s
-  left = sym (ap (before v.done) (rest-follows s i ∙ ap (λ x. follow x i (λ j. lexemesFrom (drop j s) j 0)) q)) ∙ v.rest
+  left : before v.done (follow t i (λ j. lexemes_from (drop j s) j 0)) ≡ lexemes s
+  left = sym (ap (before v.done) (rest-follows s i ∙ ap (λ x. follow x i (λ j. lexemes_from (drop j s) j 0)) q)) ∙ v.rest
 
   pub fill-leads : Leads i (length s) t
   fill-leads = subst (Leads i (length s)) q (step-leads s i)
@@ -129,7 +129,7 @@ module _ {s : List ℕ} {room : ℕ} {o : List ℕ} {i n w : ℕ} {x : Nest} {ou
         nested = v.nested;
       }
 
-  pub fill-refused : (c p : ℕ) → step_of s i ≡ S.Refused c p → lexemes s ≡ refusedAt c p
+  pub fill-refused : (c p : ℕ) → step_of s i ≡ S.Refused c p → lexemes s ≡ refused_at c p
   fill-refused c p q = sym (left v (S.Refused c p) q)
 
   pub fill-over : step_of s i ≡ S.Nothing → lexemes s ≡ tokens v.done
@@ -139,27 +139,27 @@ module _ {s : List ℕ} {room : ℕ} {o : List ℕ} {i n w : ℕ} {x : Nest} {ou
     abbrev this : Token
     this = record { kind = k; start = i; end = e }
 
-    put_written : tokWide * room ≤ length o → n + 1 ≤ room → put_at out room n k i e ≡ tokenWords (v.done ++ this ∷ []) ++ drop (tokWide * (n + 1)) o
+    put_written : tok_wide * room ≤ length o → n + 1 ≤ room → put_at out room n k i e ≡ token_words (v.done ++ this ∷ []) ++ drop (tok_wide * (n + 1)) o
     unfolding put_at
     put_written f h =
-        let l : length (tokenWords v.done) ≡ tokWide * n = token-words-length v.done ∙ ap (λ x. tokWide * x) v.number in
-        let a : tokWide * n + tokWide ≡ tokWide * (n + 1) = omega arith in
+        let l : length (token_words v.done) ≡ tok_wide * n = token-words-length v.done ∙ ap (λ x. tok_wide * x) v.number in
+        let a : tok_wide * n + tok_wide ≡ tok_wide * (n + 1) = omega arith in
         let b : n < room = omega arith in
-        ap (λ x. cond x (set (set (set out (tokWide * n) k) (tokWide * n + 1) i) (tokWide * n + 2) e) out) (lt-ltb n room b)
-        ∙ ap (λ x. set (set (set x (tokWide * n) k) (tokWide * n + 1) i) (tokWide * n + 2) e) (v.written (omega arith))
-        ∙ token-more (tokenWords v.done) o k i e (tokWide * n) l (omega arith)
+        ap (λ x. cond x (set (set (set out (tok_wide * n) k) (tok_wide * n + 1) i) (tok_wide * n + 2) e) out) (lt-ltb n room b)
+        ∙ ap (λ x. set (set (set x (tok_wide * n) k) (tok_wide * n + 1) i) (tok_wide * n + 2) e) (v.written (omega arith))
+        ∙ token-more (token_words v.done) o k i e (tok_wide * n) l (omega arith)
         ∙ ap₂ (λ x y. x ++ drop y o) (sym (words_snoc v.done this)) a
 
-    put-over : room < n + 1 → cond (eqb n room) i w ≡ (get_or (v.done ++ this ∷ []) room noToken).start
+    put-over : room < n + 1 → cond (eqb n room) i w ≡ (get_or (v.done ++ this ∷ []) room no_token).start
     put-over h = go (eqb n room) refl
       where
-        go : (b : Bool) → eqb n room ≡ b → cond b i w ≡ (get_or (v.done ++ this ∷ []) room noToken).start
-        go true f = ap (λ x. x.start) (sym (get_or_at v.done this [] noToken room (v.number ∙ eqb-true n room f)))
+        go : (b : Bool) → eqb n room ≡ b → cond b i w ≡ (get_or (v.done ++ this ∷ []) room no_token).start
+        go true f = ap (λ x. x.start) (sym (get_or_at v.done this [] no_token room (v.number ∙ eqb-true n room f)))
         go false f =
             let g : room < n = omega (arith, eqb-false n room f) in
-            v.over g ∙ ap (λ x. x.start) (sym (get_or-append v.done (this ∷ []) noToken room (omega (arith, v.number))))
+            v.over g ∙ ap (λ x. x.start) (sym (get_or-append v.done (this ∷ []) no_token room (omega (arith, v.number))))
 
-    pub fill-token : tokWide * room ≤ length o → Filling s room o e (n + 1) (cond (eqb n room) i w) (nestAfter x k i) (put_at out room n k i e)
+    pub fill-token : tok_wide * room ≤ length o → Filling s room o e (n + 1) (cond (eqb n room) i w) (nest_after x k i) (put_at out room n k i e)
     fill-token f =
         let m = fill-leads v (S.Token k e) q in
         record {
@@ -167,44 +167,44 @@ module _ {s : List ℕ} {room : ℕ} {o : List ℕ} {i n w : ℕ} {x : Nest} {ou
           number = length-append v.done (this ∷ []) ∙ ap (λ x. x + 1) v.number;
           within = m.1;
           few = omega (arith, m.0, v.few);
-          rest = before-snoc v.done this (lexemesFrom (drop e s) e 0) ∙ left v (S.Token k e) q;
+          rest = before-snoc v.done this (lexemes_from (drop e s) e 0) ∙ left v (S.Token k e) q;
           long = length-put out room n k i e ∙ v.long;
           written = put_written f;
           over = put-over;
-          nested = nest-snoc outermost v.done this ∙ ap (λ (y : Nest). nestAfter y k i) v.nested;
+          nested = nest-snoc outermost v.done this ∙ ap (λ (y : Nest). nest_after y k i) v.nested;
         }
 
   -- every token is found: the answer and the buffer
   abbrev said : Bool → Bool → Answer
   said a b = cond a (refused refusal.TooMany w) (cond b (refused refusal.TooDeep x.place) (accepted n 0))
 
-  deep_is : cond (isPast x) (refused refusal.TooDeep x.place) (accepted n 0) ≡ deep (tooDeep 0 0 v.done) n
-  deep_is = go (isPast x) ∙ sym (ap (λ (p : Option ℕ). deep p n) (sym (nest_deep v.done 0 0 0 (omega arith)) ∙ ap passed_at v.nested))
+  deep_is : cond (is_past x) (refused refusal.TooDeep x.place) (accepted n 0) ≡ deep (first_too_deep 0 0 v.done) n
+  deep_is = go (is_past x) ∙ sym (ap (λ (p : Option ℕ). deep p n) (sym (nest_deep v.done 0 0 0 (omega arith)) ∙ ap passed_at v.nested))
     where
       go : (b : Bool) → cond b (refused refusal.TooDeep x.place) (accepted n 0) ≡ deep (cond b (some x.place) none) n
       go true = refl
       go false = refl
 
-  pub fill-answer : step_of s i ≡ S.Nothing → said (ltb room n) (isPast x) ≡ judgedIn room (lexemes s)
+  pub fill-answer : step_of s i ≡ S.Nothing → said (ltb room n) (is_past x) ≡ judged_in room (lexemes s)
   fill-answer q =
       go (ltb room n) refl
-      ∙ sym (ap (λ y. cond (ltb room y) (refused refusal.TooMany first-over) (deep (tooDeep 0 0 v.done) y)) v.number)
-      ∙ sym (ap (judgedIn room) (fill-over q))
+      ∙ sym (ap (λ y. cond (ltb room y) (refused refusal.TooMany first-over) (deep (first_too_deep 0 0 v.done) y)) v.number)
+      ∙ sym (ap (judged_in room) (fill-over q))
     where
       first-over : ℕ
-      first-over = (get_or v.done room noToken).start
+      first-over = (get_or v.done room no_token).start
 
-      go : (b : Bool) → ltb room n ≡ b → said b (isPast x) ≡ cond b (refused refusal.TooMany first-over) (deep (tooDeep 0 0 v.done) n)
+      go : (b : Bool) → ltb room n ≡ b → said b (is_past x) ≡ cond b (refused refusal.TooMany first-over) (deep (first_too_deep 0 0 v.done) n)
       go true f = ap (refused refusal.TooMany) (v.over (ltb-true room n f))
       go false f = deep_is
 
   -- the tokens stand in the buffer unless they are refused
-  pub fill-held : (r : Lexed) → step_of s i ≡ S.Nothing → meant r ≡ said (ltb room n) (isPast x) → Held (meant r) (tokenWords (tokensOf (lexemes s))) o out
-  fill-held r q e = record { holds = λ k m h. go (ltb room n) (isPast x) refl (sym e ∙ h) }
+  pub fill-held : (r : Lexed) → step_of s i ≡ S.Nothing → meant r ≡ said (ltb room n) (is_past x) → Held (meant r) (token_words (tokens_of (lexemes s))) o out
+  fill-held r q e = record { holds = λ k m h. go (ltb room n) (is_past x) refl (sym e ∙ h) }
     where
-      go : (a b : Bool) → ltb room n ≡ a → {k m : ℕ} → said a b ≡ accepted k m → out ≡ front (tokenWords (tokensOf (lexemes s))) o
+      go : (a b : Bool) → ltb room n ≡ a → {k m : ℕ} → said a b ≡ accepted k m → out ≡ front (token_words (tokens_of (lexemes s))) o
       go true b f h = absurd (not-both h)
       go false true f h = absurd (not-both h)
       go false false f h =
-          let l : length (tokenWords v.done) ≡ tokWide * n = token-words-length v.done ∙ ap (λ y. tokWide * y) v.number in
-          v.written (ltb-false room n f) ∙ ap (λ (k : ℕ). tokenWords v.done ++ drop k o) (sym l) ∙ ap (λ (y : Lexemes). front (tokenWords (tokensOf y)) o) (sym (fill-over q))
+          let l : length (token_words v.done) ≡ tok_wide * n = token-words-length v.done ∙ ap (λ y. tok_wide * y) v.number in
+          v.written (ltb-false room n f) ∙ ap (λ (k : ℕ). token_words v.done ++ drop k o) (sym l) ∙ ap (λ (y : Lexemes). front (token_words (tokens_of y)) o) (sym (fill-over q))

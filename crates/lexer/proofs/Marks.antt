@@ -10,19 +10,19 @@ use native.Mathlib.Omega.{arith}
 use borrow.Author.Tests.{eq-eqb, ne_eqb, leb-true, leb-false}
 use lib.Dec.{T, eqb, leb}
 use lib.ListN.{length, get_or, drop, replicate, length-replicate}
-use Rattle.text.specs.Ascii.{ascii, asciiFrom}
+use Rattle.text.specs.Ascii.{ascii, ascii_from}
 use Rattle.text.specs.Refusals as refusal
 use Rattle.text.specs.Same.{same, differ}
 use Rattle.text.specs.Table.{every, at, all, each}
-use Rattle.lexer.specs.Bytes.{markClass, byteClass, inClasses}
+use Rattle.lexer.specs.Bytes.{mark_class, byte_class, in_classes}
 use Rattle.lexer.specs.Bytes as byte
 use Rattle.lexer.specs.Classes as t
-use Rattle.lexer.specs.Chars.{among, whitespace, lineEnds, plainBytes, binaryDigits, decimalDigits, hexDigits, underscore, nameStarts, is, first, begins}
-use Rattle.lexer.specs.Lexemes.{Lexeme, token, refused, ◌orElse◌, space, lineComment, blockComment, qualified, macro, digits, hexadecimal, binary, decimal, word, marks, mark, noLexeme, lexeme}
-use Rattle.lexer.specs.SameLexeme.{sameLexeme, same-lexeme}
-use Rattle.lexer.specs.Step.{stepFrom, lexemeAt}
+use Rattle.lexer.specs.Chars.{among, whitespace, line_ends, plain_bytes, binary_digits, decimal_digits, hex_digits, underscore, name_starts, is, first, begins}
+use Rattle.lexer.specs.Lexemes.{Lexeme, token, refused, ◌or_else◌, space, line_comment, block_comment, qualified, macro, digits, hexadecimal, binary, decimal, word, marks, mark, no_lexeme, lexeme}
+use Rattle.lexer.specs.SameLexeme.{same_lexeme, same-lexeme}
+use Rattle.lexer.specs.Step.{step_from, lexeme_at}
 use Rattle.lexer.specs.declared.Step.TheVariants.{Token}
-use Rattle.lexer.proofs.ByteClasses.{class-in, class-above, over-class, mark-apart, notMark, each-fails}
+use Rattle.lexer.proofs.ByteClasses.{class-in, class-above, over-class, mark-apart, not_mark, each-fails}
 use Rattle.lexer.proofs.Rest.{rest-first, rest-cons, begins-one}
 
 -- ---- marks: the first byte, and whether `>` or `:` follows
@@ -30,11 +30,11 @@ use Rattle.lexer.proofs.Rest.{rest-first, rest-cons, begins-one}
 -- the mark of a byte b, where `>` follows (g), or `:` (h)
 abbrev chosen : ℕ → Bool → Bool → Lexeme
 chosen b g h =
-    (cond (is "-" b && g) (some (token t.Arrow 2)) (cond (is "=" b && g) (some (token t.FatArrow 2)) (cond (is ":" b && h) (some (token t.DoubleColon 2)) (mark (drop 3 marks) (b ∷ []))))) orElse noLexeme b
+    (cond (is "-" b && g) (some (token t.Arrow 2)) (cond (is "=" b && g) (some (token t.FatArrow 2)) (cond (is ":" b && h) (some (token t.DoubleColon 2)) (mark (drop 3 marks) (b ∷ []))))) or_else no_lexeme b
 
 -- the same by the byte's class
-abbrev pub byClass : ℕ → Bool → Bool → Lexeme
-byClass c g h =
+abbrev pub by_class : ℕ → Bool → Bool → Lexeme
+by_class c g h =
     cond (eqb c byte.Minus) (cond g (token t.Arrow 2) (refused refusal.NoLexeme 0))
     (cond (eqb c byte.Colon) (cond h (token t.DoubleColon 2) (token t.Colon 1))
     (cond (eqb c byte.Eq) (cond g (token t.FatArrow 2) (token t.Eq 1))
@@ -42,81 +42,81 @@ byClass c g h =
     (token c 1))))
 
 -- what is tested of each byte up to 127 that may be a mark
-abbrev mark-tests : ℕ → List Bool
-mark-tests b =
-    sameLexeme (chosen b false false) (byClass (byteClass b) false false) ∷
-    sameLexeme (chosen b false true) (byClass (byteClass b) false true) ∷
-    sameLexeme (chosen b true false) (byClass (byteClass b) true false) ∷
-    sameLexeme (chosen b true true) (byClass (byteClass b) true true) ∷ []
+abbrev mark_tests : ℕ → List Bool
+mark_tests b =
+    same_lexeme (chosen b false false) (by_class (byte_class b) false false) ∷
+    same_lexeme (chosen b false true) (by_class (byte_class b) false true) ∷
+    same_lexeme (chosen b true false) (by_class (byte_class b) true false) ∷
+    same_lexeme (chosen b true true) (by_class (byte_class b) true true) ∷ []
 
-marks-pass : T (every {A = ℕ} (λ b x. cond (inClasses byte.Minus byte.Other b) (all (mark-tests b)) true) 0 (replicate 128 0))
-unfolding sameLexeme mark marks noLexeme inClasses byteClass markClass same ascii asciiFrom begins among whitespace lineEnds plainBytes binaryDigits decimalDigits hexDigits underscore nameStarts
+marks-pass : T (every {A = ℕ} (λ b x. cond (in_classes byte.Minus byte.Other b) (all (mark_tests b)) true) 0 (replicate 128 0))
+unfolding same_lexeme mark marks no_lexeme in_classes byte_class mark_class same ascii ascii_from begins among whitespace line_ends plain_bytes binary_digits decimal_digits hex_digits underscore name_starts
 marks-pass = tt
 
 -- a byte of these classes is not over 127
-not-over : (b : ℕ) → inClasses byte.Minus byte.Other b ≡ true → b ≤ 127
+not-over : (b : ℕ) → in_classes byte.Minus byte.Other b ≡ true → b ≤ 127
 not-over b h = go (leb b 127) refl
   where
     go : (t : Bool) → leb b 127 ≡ t → b ≤ 127
     go true e = leb-true _ _ e
     go false e = differ (sym (class-above byte.Minus byte.Other b byte.NotAscii (sym (over-class b (leb-false _ _ e))) (omega arith)) ∙ h)
 
-passes : (b : ℕ) → inClasses byte.Minus byte.Other b ≡ true → T (all (mark-tests b))
+passes : (b : ℕ) → in_classes byte.Minus byte.Other b ≡ true → T (all (mark_tests b))
 passes b h =
-    subst (λ t. T (cond t (all (mark-tests b)) true)) h
-    (at {A = ℕ} (λ b x. cond (inClasses byte.Minus byte.Other b) (all (mark-tests b)) true) (replicate 128 0) 0 marks-pass b (let l = not-over b h in omega (arith, length-replicate {A = ℕ} 128 0)))
+    subst (λ t. T (cond t (all (mark_tests b)) true)) h
+    (at {A = ℕ} (λ b x. cond (in_classes byte.Minus byte.Other b) (all (mark_tests b)) true) (replicate 128 0) 0 marks-pass b (let l = not-over b h in omega (arith, length-replicate {A = ℕ} 128 0)))
 
-chosen_is : (b : ℕ) → inClasses byte.Minus byte.Other b ≡ true → (g h : Bool) → chosen b g h ≡ byClass (byteClass b) g h
-chosen_is b k false false = same-lexeme _ _ (each (mark-tests b) (passes b k) 0)
-chosen_is b k false true = same-lexeme _ _ (each (mark-tests b) (passes b k) 1)
-chosen_is b k true false = same-lexeme _ _ (each (mark-tests b) (passes b k) 2)
-chosen_is b k true true = same-lexeme _ _ (each (mark-tests b) (passes b k) 3)
+chosen_is : (b : ℕ) → in_classes byte.Minus byte.Other b ≡ true → (g h : Bool) → chosen b g h ≡ by_class (byte_class b) g h
+chosen_is b k false false = same-lexeme _ _ (each (mark_tests b) (passes b k) 0)
+chosen_is b k false true = same-lexeme _ _ (each (mark_tests b) (passes b k) 1)
+chosen_is b k true false = same-lexeme _ _ (each (mark_tests b) (passes b k) 2)
+chosen_is b k true true = same-lexeme _ _ (each (mark_tests b) (passes b k) 3)
 
 -- Where a mark may start, only the trial of the marks is left.
-only-marks : (b : ℕ) (r : List ℕ) → inClasses byte.Minus byte.Other b ≡ true → lexeme (b ∷ r) ≡ (mark marks (b ∷ r) orElse noLexeme b)
-unfolding lexeme space lineComment blockComment qualified macro hexadecimal binary decimal digits word begins ascii asciiFrom
+only-marks : (b : ℕ) (r : List ℕ) → in_classes byte.Minus byte.Other b ≡ true → lexeme (b ∷ r) ≡ (mark marks (b ∷ r) or_else no_lexeme b)
+unfolding lexeme space line_comment block_comment qualified macro hexadecimal binary decimal digits word begins ascii ascii_from
 only-marks b r h =
-    let no = each-fails (notMark b) (mark-apart b h) in
+    let no = each-fails (not_mark b) (mark-apart b h) in
     let w : among whitespace b ≡ false = no 0 in
     let s : is "/" b ≡ false = no 1 in
     let z : is "0" b ≡ false = no 2 in
-    let d : among decimalDigits b ≡ false = no 3 in
-    let n : among nameStarts b ≡ false = no 4 in
+    let d : among decimal_digits b ≡ false = no 3 in
+    let n : among name_starts b ≡ false = no 4 in
     simp (w, s, z, d, n)
 
-mark-is : (b : ℕ) (r : List ℕ) → (mark marks (b ∷ r) orElse noLexeme b) ≡ chosen b (eqb (first r) 62) (eqb (first r) 58)
-unfolding mark marks begins ascii asciiFrom
+mark-is : (b : ℕ) (r : List ℕ) → (mark marks (b ∷ r) or_else no_lexeme b) ≡ chosen b (eqb (first r) 62) (eqb (first r) 58)
+unfolding mark marks begins ascii ascii_from
 mark-is b r = simp (begins-one 61 r, begins-one 57 r)
 
-two_or_one : (b : Bool) (k l i : ℕ) → cond b (Token k (i + 2)) (Token l (i + 1)) ≡ stepFrom (cond b (token k 2) (token l 1)) i
+two_or_one : (b : Bool) (k l i : ℕ) → cond b (Token k (i + 2)) (Token l (i + 1)) ≡ step_from (cond b (token k 2) (token l 1)) i
 two_or_one true k l i = refl
 two_or_one false k l i = refl
 
-module _ (s : List ℕ) (i c n : ℕ) (h : i < length s) (q : c ≡ byteClass (get_or s i 0)) (f : n ≡ get_or s (i + 1) 0) (a : byte.Minus ≤ c) (b : c ≤ byte.Other) where
+module _ (s : List ℕ) (i c n : ℕ) (h : i < length s) (q : c ≡ byte_class (get_or s i 0)) (f : n ≡ get_or s (i + 1) 0) (a : byte.Minus ≤ c) (b : c ≤ byte.Other) where
   -- the lexeme by the class of its first byte and the byte behind it
-  pub at_mark : stepFrom (byClass c (eqb n 62) (eqb n 58)) i ≡ lexemeAt s i
+  pub at_mark : step_from (by_class c (eqb n 62) (eqb n 58)) i ≡ lexeme_at s i
   at_mark =
       let x = get_or s i 0 in
-      let k : inClasses byte.Minus byte.Other x ≡ true = class-in byte.Minus byte.Other x c q a b in
+      let k : in_classes byte.Minus byte.Other x ≡ true = class-in byte.Minus byte.Other x c q a b in
       let d : first (drop (suc i) s) ≡ n = rest-first s (suc i) ∙ ap (λ m. get_or s m 0) (sym (add-one i)) ∙ sym f in
-      let l : lexeme (drop i s) ≡ byClass c (eqb n 62) (eqb n 58) =
+      let l : lexeme (drop i s) ≡ by_class c (eqb n 62) (eqb n 58) =
       ap lexeme (rest-cons s i x h refl)
       ∙ only-marks x (drop (suc i) s) k
       ∙ mark-is x (drop (suc i) s)
       ∙ ap (λ m. chosen x (eqb m 62) (eqb m 58)) d
       ∙ chosen_is x k (eqb n 62) (eqb n 58)
-      ∙ ap (λ m. byClass m (eqb n 62) (eqb n 58)) (sym q) in
-      sym (ap (λ t. stepFrom t i) l)
+      ∙ ap (λ m. by_class m (eqb n 62) (eqb n 58)) (sym q) in
+      sym (ap (λ t. step_from t i) l)
 
   -- a mark of one byte with which no other mark begins
-  pub at_alone : (c ≡ byte.Minus → ⊥) → (c ≡ byte.Colon → ⊥) → (c ≡ byte.Eq → ⊥) → (c ≡ byte.Other → ⊥) → Token c (i + 1) ≡ lexemeAt s i
+  pub at_alone : (c ≡ byte.Minus → ⊥) → (c ≡ byte.Colon → ⊥) → (c ≡ byte.Eq → ⊥) → (c ≡ byte.Other → ⊥) → Token c (i + 1) ≡ lexeme_at s i
   at_alone k l m o = simp (ne_eqb _ _ k, ne_eqb _ _ l, ne_eqb _ _ m, ne_eqb _ _ o) at at_mark
 
   -- the marks of one byte or two
-  pub at-colon : c ≡ byte.Colon → cond (eqb n 58) (Token t.DoubleColon (i + 2)) (Token t.Colon (i + 1)) ≡ lexemeAt s i
+  pub at-colon : c ≡ byte.Colon → cond (eqb n 58) (Token t.DoubleColon (i + 2)) (Token t.Colon (i + 1)) ≡ lexeme_at s i
   at-colon e = two_or_one (eqb n 58) t.DoubleColon t.Colon i ∙ (simp (ne_eqb c byte.Minus (λ z. absurd (omega arith)), eq-eqb c byte.Colon e) at at_mark)
 
-  pub at-eq : c ≡ byte.Eq → cond (eqb n 62) (Token t.FatArrow (i + 2)) (Token t.Eq (i + 1)) ≡ lexemeAt s i
+  pub at-eq : c ≡ byte.Eq → cond (eqb n 62) (Token t.FatArrow (i + 2)) (Token t.Eq (i + 1)) ≡ lexeme_at s i
   at-eq e =
       two_or_one (eqb n 62) t.FatArrow t.Eq i
       ∙ (simp (ne_eqb c byte.Minus (λ z. absurd (omega arith)), ne_eqb c byte.Colon (λ z. absurd (omega arith)), eq-eqb c byte.Eq e) at at_mark)

@@ -11,8 +11,8 @@ use lib.Seq.{drop-cons}
 use Rattle.lexer.specs.Chars.{run}
 
 -- where the run from i on ends
-abbrev pub runEnd : (ℕ → Bool) → List ℕ → ℕ → ℕ
-runEnd p s i = i + run p (drop i s)
+abbrev pub run_end : (ℕ → Bool) → List ℕ → ℕ → ℕ
+run_end p s i = i + run p (drop i s)
 
 -- one byte more of a run, if it passes
 abbrev grown : Bool → ℕ → ℕ
@@ -27,18 +27,18 @@ unfolding run
 run-false p b r e = ap (λ t. grown t (run p r)) e
 
 module _ (p : ℕ → Bool) (s : List ℕ) (j : ℕ) where
-  pub run_in : j < length s → p (get_or s j 0) ≡ true → runEnd p s (j + 1) ≡ runEnd p s j
+  pub run_in : j < length s → p (get_or s j 0) ≡ true → run_end p s (j + 1) ≡ run_end p s j
   run_in h e =
       let q : run p (drop j s) ≡ suc (run p (drop (suc j) s)) = ap (run p) (drop-cons s j 0 h) ∙ run-true p (get_or s j 0) (drop (suc j) s) e in
       let a : run p (drop (j + 1) s) ≡ run p (drop (suc j) s) = ap (λ n. run p (drop n s)) (add-one j) in
       omega arith
 
-  pub run_out : j < length s → p (get_or s j 0) ≡ false → j ≡ runEnd p s j
+  pub run_out : j < length s → p (get_or s j 0) ≡ false → j ≡ run_end p s j
   run_out h e =
       let q : run p (drop j s) ≡ 0 = ap (run p) (drop-cons s j 0 h) ∙ run-false p (get_or s j 0) (drop (suc j) s) e in
       omega arith
 
-  pub run-over : length s ≤ j → j ≡ runEnd p s j
+  pub run-over : length s ≤ j → j ≡ run_end p s j
   unfolding run
   run-over h = let q : run p (drop j s) ≡ 0 = ap (run p) (drop_of_length-le s h) in omega arith
 
@@ -58,5 +58,5 @@ run-within p (b ∷ r) = go (p b) (run-within p r)
     go true e = omega arith
     go false e = omega arith
 
-pub run-end-within : (p : ℕ → Bool) (s : List ℕ) (i : ℕ) → i ≤ length s → runEnd p s i ≤ length s
+pub run-end-within : (p : ℕ → Bool) (s : List ℕ) (i : ℕ) → i ≤ length s → run_end p s i ≤ length s
 run-end-within p s i h = omega (arith, run-within p (drop i s), length-drop i s)

@@ -10,27 +10,27 @@ use borrow.Author.Tests.{lt-ltb, le-ltb, ltb-true, ltb-false}
 use lib.Dec.{ltb}
 use lib.ListN.{length, get_or, drop, length-drop, drop_of_length-le}
 use lib.Seq.{drop-cons, drop-drop}
-use Rattle.lexer.specs.Lexemes.{Lexeme, token, trivia, refused, lexeme, Lexemes, tokens, refusedAt, with-token, add, lexemesFrom}
-use Rattle.lexer.specs.Step.{stepFrom, step_of}
+use Rattle.lexer.specs.Lexemes.{Lexeme, token, trivia, refused, lexeme, Lexemes, tokens, refused_at, with_token, add, lexemes_from}
+use Rattle.lexer.specs.Step.{step_from, step_of}
 use Rattle.lexer.specs.declared.Step.{Step}
 use Rattle.lexer.specs.declared.Step.TheVariants.{Token, Trivia, Refused, Nothing}
 use Rattle.lexer.specs.Moves.{Moves, lexeme-moves}
 
 -- the bytes that are still part of the last lexeme are passed over
-pub passed : (r : List ℕ) (i k : ℕ) → lexemesFrom r i k ≡ lexemesFrom (drop k r) (i + k) 0
-unfolding lexemesFrom
+pub passed : (r : List ℕ) (i k : ℕ) → lexemes_from r i k ≡ lexemes_from (drop k r) (i + k) 0
+unfolding lexemes_from
 passed [] i zero = refl
 passed [] i (suc k) = refl
-passed (b ∷ r) i zero = ap (λ j. lexemesFrom (b ∷ r) j 0) (sym (add-zero i))
+passed (b ∷ r) i zero = ap (λ j. lexemes_from (b ∷ r) j 0) (sym (add-zero i))
 passed (b ∷ r) i (suc k) =
     let e : i + 1 + k ≡ i + suc k = omega arith in
-    passed r (i + 1) k ∙ ap (λ j. lexemesFrom (drop k r) j 0) e
+    passed r (i + 1) k ∙ ap (λ j. lexemes_from (drop k r) j 0) e
 
 -- what a step adds; go gives the rest from a place on
 abbrev pub follow : Step → ℕ → (ℕ → Lexemes) → Lexemes
-follow (Token k e) i go = with-token (record { kind = k; start = i; end = e }) (go e)
+follow (Token k e) i go = with_token (record { kind = k; start = i; end = e }) (go e)
 follow (Trivia e) i go = go e
-follow (Refused c p) i go = refusedAt c p
+follow (Refused c p) i go = refused_at c p
 follow Nothing i go = tokens []
 
 -- where a step leads in a draft of m bytes
@@ -43,22 +43,22 @@ Leads i m Nothing = m ≤ i
 module _ (s : List ℕ) (i : ℕ) where
   -- the lexemes from a place on
   abbrev rest : ℕ → Lexemes
-  rest j = lexemesFrom (drop j s) j 0
+  rest j = lexemes_from (drop j s) j 0
 
   -- one lexeme of n bytes on
-  onward : (n : ℕ) → 1 ≤ n → lexemesFrom (drop (suc i) s) (i + 1) (n - 1) ≡ rest (i + n)
+  onward : (n : ℕ) → 1 ≤ n → lexemes_from (drop (suc i) s) (i + 1) (n - 1) ≡ rest (i + n)
   onward n h =
       let e : suc i + (n - 1) ≡ i + n = omega arith in
       let f : i + 1 + (n - 1) ≡ i + n = omega arith in
       passed (drop (suc i) s) (i + 1) (n - 1)
-      ∙ ap₂ (λ l j. lexemesFrom l j 0) (drop-drop (n - 1) (suc i) s ∙ ap (λ j. drop j s) e) f
+      ∙ ap₂ (λ l j. lexemes_from l j 0) (drop-drop (n - 1) (suc i) s ∙ ap (λ j. drop j s) e) f
 
-  added : (x : Lexeme) → Moves (length (drop i s)) x → add x i (λ n. lexemesFrom (drop (suc i) s) (i + 1) (n - 1)) ≡ follow (stepFrom x i) i rest
-  added (token k n) v = ap (λ l. with-token (record { kind = k; start = i; end = i + n }) l) (onward n v.0)
+  added : (x : Lexeme) → Moves (length (drop i s)) x → add x i (λ n. lexemes_from (drop (suc i) s) (i + 1) (n - 1)) ≡ follow (step_from x i) i rest
+  added (token k n) v = ap (λ l. with_token (record { kind = k; start = i; end = i + n }) l) (onward n v.0)
   added (trivia n) v = onward n v.0
   added (refused c n) v = refl
 
-  leads : (x : Lexeme) → i < length s → Moves (length (drop i s)) x → Leads i (length s) (stepFrom x i)
+  leads : (x : Lexeme) → i < length s → Moves (length (drop i s)) x → Leads i (length s) (step_from x i)
   leads (token k n) h v = (omega (arith, v.0), omega (arith, v.1, length-drop i s))
   leads (trivia n) h v = (omega (arith, v.0), omega (arith, v.1, length-drop i s))
   leads (refused c n) h v = tt
@@ -66,7 +66,7 @@ module _ (s : List ℕ) (i : ℕ) where
   here : i < length s → Moves (length (drop i s)) (lexeme (drop i s))
   here h = subst (λ l. Moves (length l) (lexeme l)) (sym (drop-cons s i 0 h)) (lexeme-moves (get_or s i 0) (drop (suc i) s))
 
-  step_in : i < length s → step_of s i ≡ stepFrom (lexeme (drop i s)) i
+  step_in : i < length s → step_of s i ≡ step_from (lexeme (drop i s)) i
   unfolding step_of
   step_in h = simp (lt-ltb _ _ h)
 
@@ -74,13 +74,13 @@ module _ (s : List ℕ) (i : ℕ) where
   unfolding step_of
   step-out h = simp (le-ltb _ _ h)
 
-  rest_in : i < length s → rest i ≡ add (lexeme (drop i s)) i (λ n. lexemesFrom (drop (suc i) s) (i + 1) (n - 1))
-  unfolding lexemesFrom
-  rest_in h = subst (λ l. lexemesFrom l i 0 ≡ add (lexeme l) i (λ n. lexemesFrom (drop (suc i) s) (i + 1) (n - 1))) (sym (drop-cons s i 0 h)) refl
+  rest_in : i < length s → rest i ≡ add (lexeme (drop i s)) i (λ n. lexemes_from (drop (suc i) s) (i + 1) (n - 1))
+  unfolding lexemes_from
+  rest_in h = subst (λ l. lexemes_from l i 0 ≡ add (lexeme l) i (λ n. lexemes_from (drop (suc i) s) (i + 1) (n - 1))) (sym (drop-cons s i 0 h)) refl
 
   rest_out : length s ≤ i → rest i ≡ tokens []
-  unfolding lexemesFrom
-  rest_out h = ap (λ l. lexemesFrom l i 0) (drop_of_length-le s h)
+  unfolding lexemes_from
+  rest_out h = ap (λ l. lexemes_from l i 0) (drop_of_length-le s h)
 
   -- the lexemes from a place on are what the step there adds to the rest
   pub rest-follows : rest i ≡ follow (step_of s i) i rest

@@ -9,16 +9,16 @@ use Rattle.std.proofs.Common.{sym, ◌∙◌, subst, arith, length-drop, take-ap
 use Prim.Native.Nat.{ℕ, suc, ◌+◌, ◌≤◌, ◌<◌}
 use Rattle.std.proofs.Math.ListN.{length, drop}
 use Rattle.std.proofs.Math.Seq.{drop-append-le}
-use Rattle.text.specs.Ascii.{ascii, asciiFrom}
+use Rattle.text.specs.Ascii.{ascii, ascii_from}
 use Rattle.text.specs.Refusals as refusal
 use Rattle.text.specs.Same.{differ}
-use Rattle.utf8.specs.Utf8.{badAt}
+use Rattle.utf8.specs.Utf8.{bad_at}
 use Rattle.words.specs.Words.{KEYWORDS, MACROS, MODULE_RESERVED, word_of}
 use Rattle.words.specs.declared.Found.{Found}
 use Rattle.words.specs.declared.Found.TheVariants.{Word, Plain}
-use Rattle.lexer.specs.Chars.{Range, among, whitespace, binaryDigits, decimalDigits, hexDigits, underscore, nameStarts, first, run, begins}
+use Rattle.lexer.specs.Chars.{Range, among, whitespace, binary_digits, decimal_digits, hex_digits, underscore, name_starts, first, run, begins}
 use Rattle.lexer.specs.Classes as class
-use Rattle.lexer.specs.Lexemes.{Lexeme, token, trivia, refused, ◌orElse◌, space, checked, comment, lineComment, block, closing, blockComment, nameLength, isName, moduleToken, qualified, macroToken, macro, wordToken, word, digits, hexadecimal, binary, decimal, Mark, marks, mark, noLexeme, lexeme}
+use Rattle.lexer.specs.Lexemes.{Lexeme, token, trivia, refused, ◌or_else◌, space, checked, comment, line_comment, block, closing, block_comment, name_length, is_name, module_token, qualified, macro_token, macro, word_token, word, digits, hexadecimal, binary, decimal, Mark, marks, mark, no_lexeme, lexeme}
 use Rattle.lexer.specs.Gaps.{solid, run-gap, run-swap, run-some, begins-keep, begins-short, begins-back, first-same, first-inside, Base, base-apart, decimal-base, binary-base, hex-base, bang-solid, colons-solid, hex-solid, binary-solid, line-solid, block-solid, solids, marks-solid, name-swap, name-inside, name-within, name-filled, name-starts, take_same, begins-there, begins-before}
 use Rattle.lexer.specs.Moves.{Moves, or_left, lexeme-moves}
 use Rattle.lexer.specs.Trials.{both_left, both_right}
@@ -30,7 +30,7 @@ pub record Keeps (x : Lexeme) (o p : Option Lexeme) : Type 0 where
   pub hit : o ≡ some x → p ≡ some x
   pub miss : o ≡ none → p ≡ none
 
-or-keeps : {x : Lexeme} (o p : Option Lexeme) (y z : Lexeme) → Keeps x o p → (y ≡ x → z ≡ x) → (o orElse y) ≡ x → (p orElse z) ≡ x
+or-keeps : {x : Lexeme} (o p : Option Lexeme) (y z : Lexeme) → Keeps x o p → (y ≡ x → z ≡ x) → (o or_else y) ≡ x → (p or_else z) ≡ x
 or-keeps none p y z k f e = rw (k.miss refl) (f e)
 or-keeps (some w) p y z k f e = rw (k.hit (ap some e)) refl
 
@@ -62,7 +62,7 @@ no-refusal e = let z : ◌≡◌ {A = ℕ} 0 1 = cc in absurd (omega arith)
 
 pub no-comment : {A : Type 0} (n : ℕ) (r : List ℕ) {k m : ℕ} → comment n r ≡ token k m → A
 unfolding comment
-no-comment {A} n r {k} {m} e = go (badAt (take n r)) e
+no-comment {A} n r {k} {m} e = go (bad_at (take n r)) e
   where
     go : (o : Option ℕ) → checked o n ≡ token k m → A
     go none e = no-trivia e
@@ -76,19 +76,19 @@ trivia-keeps : {k n : ℕ} (c d : Bool) (y z : Lexeme) → (y ≡ token k n → 
 trivia-keeps c d y z other f = cond-keeps c d (some y) (some z) (λ q e. absurd (other (some_is e))) (λ q. (f q, λ e. clash (sym e)))
 
 -- how many bytes a found token has
-module-length : (f : Found) (n : ℕ) {k m : ℕ} → moduleToken f n ≡ some (token k m) → n ≡ m
+module-length : (f : Found) (n : ℕ) {k m : ℕ} → module_token f n ≡ some (token k m) → n ≡ m
 module-length (Word i) n e = cc
 module-length Plain n e = clash e
 
-module-none : (f : Found) (n m : ℕ) → moduleToken f n ≡ none → moduleToken f m ≡ none
+module-none : (f : Found) (n m : ℕ) → module_token f n ≡ none → module_token f m ≡ none
 module-none (Word i) n m e = clash (sym e)
 module-none Plain n m e = refl
 
-pub macro-length : (f : Found) (n : ℕ) {k m : ℕ} → macroToken f n ≡ some (token k m) → n ≡ m
+pub macro-length : (f : Found) (n : ℕ) {k m : ℕ} → macro_token f n ≡ some (token k m) → n ≡ m
 macro-length (Word i) n e = cc
 macro-length Plain n e = clash e
 
-pub word-length : (f : Found) (n : ℕ) {k m : ℕ} → wordToken f n ≡ token k m → n ≡ m
+pub word-length : (f : Found) (n : ℕ) {k m : ℕ} → word_token f n ≡ token k m → n ≡ m
 word-length (Word i) n {k} {m} e = go (eqb (class.Pub + i) class.Simc) (ltb class.Simc (class.Pub + i)) e
   where
     go : (a b : Bool) → cond a (refused refusal.Simc 0) (cond b (token class.Bool n) (token (class.Pub + i) n)) ≡ token k m → n ≡ m
@@ -107,17 +107,17 @@ digits-length base kind n r {k} {m} e = go (among base (first (drop n r))) e
 
 -- the tests of a qualified name, the first of whose names has i bytes
 abbrev tests : ℕ → List ℕ → Bool
-tests i r = isName r && begins (ascii "::") (drop i r) && isName (drop (i + 2) r)
+tests i r = is_name r && begins (ascii "::") (drop i r) && is_name (drop (i + 2) r)
 
-split-tests : (i : ℕ) (r : List ℕ) → tests i r ≡ true → (isName r ≡ true) × (begins (ascii "::") (drop i r) ≡ true) × (isName (drop (i + 2) r) ≡ true)
+split-tests : (i : ℕ) (r : List ℕ) → tests i r ≡ true → (is_name r ≡ true) × (begins (ascii "::") (drop i r) ≡ true) × (is_name (drop (i + 2) r) ≡ true)
 split-tests i r q =
-    let a = isName r in
+    let a = is_name r in
     let c = begins (ascii "::") (drop i r) in
-    let d = isName (drop (i + 2) r) in
+    let d = is_name (drop (i + 2) r) in
     let ac = both_left (a && c) d q in
     (both_left a c ac, both_right a c ac, both_right (a && c) d q)
 
-all-tests : (i : ℕ) (r : List ℕ) → isName r ≡ true → begins (ascii "::") (drop i r) ≡ true → isName (drop (i + 2) r) ≡ true → tests i r ≡ true
+all-tests : (i : ℕ) (r : List ℕ) → is_name r ≡ true → begins (ascii "::") (drop i r) ≡ true → is_name (drop (i + 2) r) ≡ true → tests i r ≡ true
 all-tests i r a c d = rw (a, c, d) refl
 
 -- ---- the trials on a text t
@@ -129,8 +129,8 @@ module _ (t u s : List ℕ) (g : gap s ≡ true) (k : ℕ) where
 
   -- where the first byte decides
   module _ (full : 0 < length t) where
-    start-same : isName (t ++ s) ≡ isName (t ++ u)
-    start-same = ap (among nameStarts) (first-same t u s full)
+    start-same : is_name (t ++ s) ≡ is_name (t ++ u)
+    start-same = ap (among name_starts) (first-same t u s full)
 
     space-keeps : Keeps x (space (t ++ u)) (space (t ++ s))
     unfolding space
@@ -140,49 +140,49 @@ module _ (t u s : List ℕ) (g : gap s ≡ true) (k : ℕ) where
     unfolding word
     word_keeps = cond-keeps _ _ _ _ found (λ q. (sym start-same ∙ q, λ e. clash (sym e)))
       where
-        found : isName (t ++ u) ≡ true → some (wordToken (word_of KEYWORDS (take (nameLength (t ++ u)) (t ++ u))) (nameLength (t ++ u))) ≡ some x
-            → (isName (t ++ s) ≡ true) × (some (wordToken (word_of KEYWORDS (take (nameLength (t ++ s)) (t ++ s))) (nameLength (t ++ s))) ≡ some x)
+        found : is_name (t ++ u) ≡ true → some (word_token (word_of KEYWORDS (take (name_length (t ++ u)) (t ++ u))) (name_length (t ++ u))) ≡ some x
+            → (is_name (t ++ s) ≡ true) × (some (word_token (word_of KEYWORDS (take (name_length (t ++ s)) (t ++ s))) (name_length (t ++ s))) ≡ some x)
         found q e =
-            let n = nameLength (t ++ u) in
+            let n = name_length (t ++ u) in
             let l : n ≡ length t = word-length (word_of KEYWORDS (take n (t ++ u))) n (some_is e) in
             (start-same ∙ q, rw (name-swap t u s g (omega arith), take_same t u s n (omega arith)) e)
 
-    none-keeps : noLexeme (first (t ++ u)) ≡ x → noLexeme (first (t ++ s)) ≡ x
-    none-keeps e = ap noLexeme (first-same t u s full) ∙ e
+    none-keeps : no_lexeme (first (t ++ u)) ≡ x → no_lexeme (first (t ++ s)) ≡ x
+    none-keeps e = ap no_lexeme (first-same t u s full) ∙ e
 
-  line-keeps : Keeps x (lineComment (t ++ u)) (lineComment (t ++ s))
-  unfolding lineComment
+  line-keeps : Keeps x (line_comment (t ++ u)) (line_comment (t ++ s))
+  unfolding line_comment
   line-keeps = trivia-keeps _ _ _ _ (no-comment _ (t ++ u)) (begins-back (ascii "//") t u s line-solid g)
 
-  block-keeps : Keeps x (blockComment (t ++ u)) (blockComment (t ++ s))
-  unfolding blockComment
+  block-keeps : Keeps x (block_comment (t ++ u)) (block_comment (t ++ s))
+  unfolding block_comment
   block-keeps = trivia-keeps _ _ _ _ (no_block (closing (drop 2 (t ++ u)) 0 0) (t ++ u)) (begins-back (ascii "/*") t u s block-solid g)
 
   macro-keeps : Keeps x (macro (t ++ u)) (macro (t ++ s))
-  unfolding macro ascii asciiFrom
+  unfolding macro ascii ascii_from
   macro-keeps = cond-keeps _ _ _ _ found lost
     where
       n : ℕ
-      n = nameLength (t ++ u)
+      n = name_length (t ++ u)
 
       m : ℕ
-      m = nameLength (t ++ s)
+      m = name_length (t ++ s)
 
-      found : (isName (t ++ u) && begins (ascii "!") (drop n (t ++ u))) ≡ true → macroToken (word_of MACROS (take (n + 1) (t ++ u))) (n + 1) ≡ some x
-          → ((isName (t ++ s) && begins (ascii "!") (drop m (t ++ s))) ≡ true) × (macroToken (word_of MACROS (take (m + 1) (t ++ s))) (m + 1) ≡ some x)
+      found : (is_name (t ++ u) && begins (ascii "!") (drop n (t ++ u))) ≡ true → macro_token (word_of MACROS (take (n + 1) (t ++ u))) (n + 1) ≡ some x
+          → ((is_name (t ++ s) && begins (ascii "!") (drop m (t ++ s))) ≡ true) × (macro_token (word_of MACROS (take (m + 1) (t ++ s))) (m + 1) ≡ some x)
       found q e =
           let l : n + 1 ≡ length t = macro-length (word_of MACROS (take (n + 1) (t ++ u))) (n + 1) e in
           let h : m ≡ n = name-swap t u s g (omega arith) in
-          let b = begins-there t u s n (omega arith) (ascii "!") (omega arith) (both_right (isName (t ++ u)) (begins (ascii "!") (drop n (t ++ u))) q) in
-          (rw (h, start-same (omega arith), both_left (isName (t ++ u)) (begins (ascii "!") (drop n (t ++ u))) q) b, rw (h, take_same t u s (n + 1) (omega arith)) e)
+          let b = begins-there t u s n (omega arith) (ascii "!") (omega arith) (both_right (is_name (t ++ u)) (begins (ascii "!") (drop n (t ++ u))) q) in
+          (rw (h, start-same (omega arith), both_left (is_name (t ++ u)) (begins (ascii "!") (drop n (t ++ u))) q) b, rw (h, take_same t u s (n + 1) (omega arith)) e)
 
-      lost : (isName (t ++ s) && begins (ascii "!") (drop m (t ++ s))) ≡ true
-          → ((isName (t ++ u) && begins (ascii "!") (drop n (t ++ u))) ≡ true)
-          × (macroToken (word_of MACROS (take (n + 1) (t ++ u))) (n + 1) ≡ none → macroToken (word_of MACROS (take (m + 1) (t ++ s))) (m + 1) ≡ none)
+      lost : (is_name (t ++ s) && begins (ascii "!") (drop m (t ++ s))) ≡ true
+          → ((is_name (t ++ u) && begins (ascii "!") (drop n (t ++ u))) ≡ true)
+          × (macro_token (word_of MACROS (take (n + 1) (t ++ u))) (n + 1) ≡ none → macro_token (word_of MACROS (take (m + 1) (t ++ s))) (m + 1) ≡ none)
       lost q =
-          let b = begins-before t u s m (name-within t s g) (ascii "!") bang-solid g (both_right (isName (t ++ s)) (begins (ascii "!") (drop m (t ++ s))) q) in
+          let b = begins-before t u s m (name-within t s g) (ascii "!") bang-solid g (both_right (is_name (t ++ s)) (begins (ascii "!") (drop m (t ++ s))) q) in
           let h : n ≡ m = name-inside t u s g (omega (arith, b.0)) in
-          (rw (h, ← (start-same (omega (arith, b.0))), both_left (isName (t ++ s)) (begins (ascii "!") (drop m (t ++ s))) q) b.1, λ e. rw (take_same t u s (m + 1) b.0) (rw h at e))
+          (rw (h, ← (start-same (omega (arith, b.0))), both_left (is_name (t ++ s)) (begins (ascii "!") (drop m (t ++ s))) q) b.1, λ e. rw (take_same t u s (m + 1) b.0) (rw h at e))
 
   digits-keeps : (base : List Range) (kind n : ℕ) → Base base → n ≤ length t → Keeps x (digits base kind n (t ++ u)) (digits base kind n (t ++ s))
   unfolding digits
@@ -197,13 +197,13 @@ module _ (t u s : List ℕ) (g : gap s ≡ true) (k : ℕ) where
       found q e =
           let i = length-drop n t in
           let r : n + run (λ b. among base b || among underscore b) (v ++ u) ≡ length t = cc in
-          let h = run-some (among base) (λ b. among base b || among underscore b) d.zero-none (λ b. or_left (among base b) (among underscore b)) (v ++ u) q in (
+          let h = run-some (among base) (λ b. among base b || among underscore b) d.zero_none (λ b. or_left (among base b) (among underscore b)) (v ++ u) q in (
             ap (among base) (first-same v u s (omega arith)) ∙ q,
             rw (run-swap (λ b. among base b || among underscore b) v u s (omega arith) (run-gap (λ b. among base b || among underscore b) d.apart s g)) e,
           )
 
       lost : among base (first (v ++ s)) ≡ true → among base (first (v ++ u)) ≡ true
-      lost q = ap (among base) (first-same v s u (first-inside (among base) d.zero-none (base-apart d) v s g q)) ∙ q
+      lost q = ap (among base) (first-same v s u (first-inside (among base) d.zero_none (base-apart d) v s g q)) ∙ q
 
   -- digits behind a prefix
   based-keeps : (w : List ℕ) (base : List Range) (kind : ℕ) → solid w ≡ true → Base base
@@ -219,16 +219,16 @@ module _ (t u s : List ℕ) (g : gap s ≡ true) (k : ℕ) where
       lost q = (begins-back w t u s d g q, (digits-keeps base kind (length w) b (begins-short w t s d g q)).miss)
 
   hexadecimal-keeps : Keeps x (hexadecimal (t ++ u)) (hexadecimal (t ++ s))
-  unfolding hexadecimal ascii asciiFrom
-  hexadecimal-keeps = based-keeps (ascii "0x") hexDigits class.HexLiteral hex-solid hex-base
+  unfolding hexadecimal ascii ascii_from
+  hexadecimal-keeps = based-keeps (ascii "0x") hex_digits class.HexLiteral hex-solid hex-base
 
   binary-keeps : Keeps x (binary (t ++ u)) (binary (t ++ s))
-  unfolding binary ascii asciiFrom
-  binary-keeps = based-keeps (ascii "0b") binaryDigits class.BinLiteral binary-solid binary-base
+  unfolding binary ascii ascii_from
+  binary-keeps = based-keeps (ascii "0b") binary_digits class.BinLiteral binary-solid binary-base
 
   decimal-keeps : Keeps x (decimal (t ++ u)) (decimal (t ++ s))
   unfolding decimal
-  decimal-keeps = digits-keeps decimalDigits class.DecLiteral 0 decimal-base (omega arith)
+  decimal-keeps = digits-keeps decimal_digits class.DecLiteral 0 decimal-base (omega arith)
 
   mark-keeps : (ms : List Mark) → solids ms ≡ true → Keeps x (mark ms (t ++ u)) (mark ms (t ++ s))
   unfolding mark
@@ -246,38 +246,38 @@ module _ (t u s : List ℕ) (g : gap s ≡ true) (k : ℕ) where
       go false p false q h = h
 
   qualified-keeps : Keeps x (qualified (t ++ u)) (qualified (t ++ s))
-  unfolding qualified ascii asciiFrom
+  unfolding qualified ascii ascii_from
   qualified-keeps = cond-keeps _ _ _ _ found lost
     where
       n : ℕ
-      n = nameLength (t ++ u)
+      n = name_length (t ++ u)
 
       m : ℕ
-      m = nameLength (t ++ s)
+      m = name_length (t ++ s)
 
-      found : tests n (t ++ u) ≡ true → moduleToken (word_of MODULE_RESERVED (take n (t ++ u))) (n + 2 + nameLength (drop (n + 2) (t ++ u))) ≡ some x
-          → (tests m (t ++ s) ≡ true) × (moduleToken (word_of MODULE_RESERVED (take m (t ++ s))) (m + 2 + nameLength (drop (m + 2) (t ++ s))) ≡ some x)
+      found : tests n (t ++ u) ≡ true → module_token (word_of MODULE_RESERVED (take n (t ++ u))) (n + 2 + name_length (drop (n + 2) (t ++ u))) ≡ some x
+          → (tests m (t ++ s) ≡ true) × (module_token (word_of MODULE_RESERVED (take m (t ++ s))) (m + 2 + name_length (drop (m + 2) (t ++ s))) ≡ some x)
       found q e =
           let r = t ++ u in
-          let l : n + 2 + nameLength (drop (n + 2) r) ≡ length t = module-length (word_of MODULE_RESERVED (take n r)) (n + 2 + nameLength (drop (n + 2) r)) e in
+          let l : n + 2 + name_length (drop (n + 2) r) ≡ length t = module-length (word_of MODULE_RESERVED (take n r)) (n + 2 + name_length (drop (n + 2) r)) e in
           let p = split-tests n r q in
           let h : m ≡ n = name-swap t u s g (omega arith) in
           let i = length-drop (n + 2) t in
           let du : drop (n + 2) r ≡ drop (n + 2) t ++ u = drop-append-le (n + 2) t u (omega arith) in
           let ds : drop (n + 2) (t ++ s) ≡ drop (n + 2) t ++ s = drop-append-le (n + 2) t s (omega arith) in
-          let lu : nameLength (drop (n + 2) r) ≡ nameLength (drop (n + 2) t ++ u) = ap (λ (z : List ℕ). nameLength z) du in
-          let f = name-filled (drop (n + 2) t) u s g (ap (λ (z : List ℕ). isName z) (sym du) ∙ p.2) (omega arith) in
+          let lu : name_length (drop (n + 2) r) ≡ name_length (drop (n + 2) t ++ u) = ap (λ (z : List ℕ). name_length z) du in
+          let f = name-filled (drop (n + 2) t) u s g (ap (λ (z : List ℕ). is_name z) (sym du) ∙ p.2) (omega arith) in
           let lf = f.1 in
-          let ls : nameLength (drop (n + 2) (t ++ s)) ≡ nameLength (drop (n + 2) r) = ap (λ (z : List ℕ). nameLength z) ds ∙ (let y : nameLength (drop (n + 2) t ++ s) ≡ nameLength (drop (n + 2) r) = omega arith in y) in (
+          let ls : name_length (drop (n + 2) (t ++ s)) ≡ name_length (drop (n + 2) r) = ap (λ (z : List ℕ). name_length z) ds ∙ (let y : name_length (drop (n + 2) t ++ s) ≡ name_length (drop (n + 2) r) = omega arith in y) in (
             ap (λ (z : ℕ). tests z (t ++ s)) h
-                ∙ all-tests n (t ++ s) (start-same (omega arith) ∙ p.0) (begins-there t u s n (omega arith) (ascii "::") (omega arith) p.1) (ap (λ (z : List ℕ). isName z) ds ∙ f.0),
+                ∙ all-tests n (t ++ s) (start-same (omega arith) ∙ p.0) (begins-there t u s n (omega arith) (ascii "::") (omega arith) p.1) (ap (λ (z : List ℕ). is_name z) ds ∙ f.0),
             rw (h, take_same t u s n (omega arith), ls) e,
           )
 
       lost : tests m (t ++ s) ≡ true
           → (tests n (t ++ u) ≡ true)
-          × (moduleToken (word_of MODULE_RESERVED (take n (t ++ u))) (n + 2 + nameLength (drop (n + 2) (t ++ u))) ≡ none
-          → moduleToken (word_of MODULE_RESERVED (take m (t ++ s))) (m + 2 + nameLength (drop (m + 2) (t ++ s))) ≡ none)
+          × (module_token (word_of MODULE_RESERVED (take n (t ++ u))) (n + 2 + name_length (drop (n + 2) (t ++ u))) ≡ none
+          → module_token (word_of MODULE_RESERVED (take m (t ++ s))) (m + 2 + name_length (drop (m + 2) (t ++ s))) ≡ none)
       lost q =
           let p = split-tests m (t ++ s) q in
           let b = begins-before t u s m (name-within t s g) (ascii "::") colons-solid g p.1 in
@@ -285,10 +285,10 @@ module _ (t u s : List ℕ) (g : gap s ≡ true) (k : ℕ) where
           let h : n ≡ m = name-inside t u s g (omega arith) in
           let du : drop (m + 2) (t ++ u) ≡ drop (m + 2) t ++ u = drop-append-le (m + 2) t u b₀ in
           let ds : drop (m + 2) (t ++ s) ≡ drop (m + 2) t ++ s = drop-append-le (m + 2) t s b₀ in
-          let f = name-starts (drop (m + 2) t) u s g (ap (λ (z : List ℕ). isName z) (sym ds) ∙ p.2) in (
-            ap (λ (z : ℕ). tests z (t ++ u)) h ∙ all-tests m (t ++ u) (sym (start-same (omega arith)) ∙ p.0) b.1 (ap (λ (z : List ℕ). isName z) du ∙ f),
-            λ e. module-none (word_of MODULE_RESERVED (take m (t ++ s))) (n + 2 + nameLength (drop (n + 2) (t ++ u))) (m + 2 + nameLength (drop (m + 2) (t ++ s)))
-                (ap (λ (z : List ℕ). moduleToken (word_of MODULE_RESERVED z) (n + 2 + nameLength (drop (n + 2) (t ++ u)))) (take_same t u s m (omega arith) ∙ ap (λ (z : ℕ). take z (t ++ u)) (sym h)) ∙ e),
+          let f = name-starts (drop (m + 2) t) u s g (ap (λ (z : List ℕ). is_name z) (sym ds) ∙ p.2) in (
+            ap (λ (z : ℕ). tests z (t ++ u)) h ∙ all-tests m (t ++ u) (sym (start-same (omega arith)) ∙ p.0) b.1 (ap (λ (z : List ℕ). is_name z) du ∙ f),
+            λ e. module-none (word_of MODULE_RESERVED (take m (t ++ s))) (n + 2 + name_length (drop (n + 2) (t ++ u))) (m + 2 + name_length (drop (m + 2) (t ++ s)))
+                (ap (λ (z : List ℕ). module_token (word_of MODULE_RESERVED z) (n + 2 + name_length (drop (n + 2) (t ++ u)))) (take_same t u s m (omega arith) ∙ ap (λ (z : ℕ). take z (t ++ u)) (sym h)) ∙ e),
           )
 
   -- the lexeme at the front
@@ -310,7 +310,7 @@ module _ (t u s : List ℕ) (g : gap s ≡ true) (k : ℕ) where
 -- ---- the law
 
 no_bytes : {k n : ℕ} {A : Type 0} → lexeme [] ≡ token k n → A
-unfolding lexeme space lineComment blockComment qualified macro hexadecimal binary decimal digits word mark marks noLexeme begins nameLength run ascii asciiFrom among whitespace nameStarts underscore decimalDigits
+unfolding lexeme space line_comment block_comment qualified macro hexadecimal binary decimal digits word mark marks no_lexeme begins name_length run ascii ascii_from among whitespace name_starts underscore decimal_digits
 no_bytes e = no-refusal e
 
 -- A text that is one token has a byte,

@@ -1,14 +1,14 @@
 -- How tokens lie in the token buffer.
 -- Assumes nothing.
 use Rattle.std.specs.Prelude.{cond, List, [], ◌∷◌, ◌≡◌, ℕ, zero, suc, ◌+◌, ◌*◌, ltb, get_or, drop, set}
-use Rattle.text.specs.Widths.{tokWide}
+use Rattle.text.specs.Widths.{tok_wide}
 use Rattle.lexer.specs.Lexemes.{Token}
 
 -- token number n is written if it is below the room
 unfoldable pub put_at : List ℕ → ℕ → ℕ → ℕ → ℕ → ℕ → List ℕ
-put_at out room n kind start end = cond (ltb n room) (set (set (set out (tokWide * n) kind) (tokWide * n + 1) start) (tokWide * n + 2) end) out
+put_at out room n kind start end = cond (ltb n room) (set (set (set out (tok_wide * n) kind) (tok_wide * n + 1) start) (tok_wide * n + 2) end) out
 
 -- the first n tokens that the words hold
-unfoldable pub tokensIn : ℕ → List ℕ → List Token
-tokensIn zero words = []
-tokensIn (suc n) words = record { kind = get_or words 0 0; start = get_or words 1 0; end = get_or words 2 0 } ∷ tokensIn n (drop tokWide words)
+unfoldable pub tokens_in : ℕ → List ℕ → List Token
+tokens_in zero words = []
+tokens_in (suc n) words = record { kind = get_or words 0 0; start = get_or words 1 0; end = get_or words 2 0 } ∷ tokens_in n (drop tok_wide words)

@@ -3,7 +3,7 @@
 use Rattle.std.specs.Prelude.{Bool, cond, not, ◌&&◌, List, [], ◌∷◌, ◌≡◌, ℕ, ◌<◌, leb, get_or}
 use Rattle.text.specs.Ascii.{ascii}
 use Rattle.text.specs.Same.{same}
-use Rattle.lexer.specs.Chars.{among, whitespace, lineEnds, plainBytes, binaryDigits, decimalDigits, hexDigits, underscore, nameStarts, is}
+use Rattle.lexer.specs.Chars.{among, whitespace, line_ends, plain_bytes, binary_digits, decimal_digits, hex_digits, underscore, name_starts, is}
 use Rattle.lexer.specs.Classes as t
 use Rattle.lexer.specs.Lexemes.{Mark, marks}
 
@@ -56,28 +56,28 @@ abbrev pub NotAscii : ℕ
 NotAscii = 31
 
 -- the kind of the mark that is this one byte, Other if there is none
-unfoldable pub markClass : List Mark → ℕ → ℕ
-markClass [] b = Other
-markClass (m ∷ ms) b = cond (same (ascii m.text) (b ∷ [])) m.kind (markClass ms b)
+unfoldable pub mark_class : List Mark → ℕ → ℕ
+mark_class [] b = Other
+mark_class (m ∷ ms) b = cond (same (ascii m.text) (b ∷ [])) m.kind (mark_class ms b)
 
-unfoldable pub byteClass : ℕ → ℕ
-byteClass b =
-    cond (not (among plainBytes b)) NotAscii
-    (cond (among lineEnds b) LineEnd
+unfoldable pub byte_class : ℕ → ℕ
+byte_class b =
+    cond (not (among plain_bytes b)) NotAscii
+    (cond (among line_ends b) LineEnd
     (cond (among whitespace b) Space
     (cond (among underscore b) Underscore
-    (cond (among binaryDigits b) BinaryDigit
-    (cond (among decimalDigits b) Digit
-    (cond (among hexDigits b) HexLetter
-    (cond (among nameStarts b) Letter
+    (cond (among binary_digits b) BinaryDigit
+    (cond (among decimal_digits b) Digit
+    (cond (among hex_digits b) HexLetter
+    (cond (among name_starts b) Letter
     (cond (is "/" b) Slash
     (cond (is "-" b) Minus
-    (markClass marks b))))))))))
+    (mark_class marks b))))))))))
 
 -- a byte's class is from least to most
-unfoldable pub inClasses : ℕ → ℕ → ℕ → Bool
-inClasses least most b = leb least (byteClass b) && leb (byteClass b) most
+unfoldable pub in_classes : ℕ → ℕ → ℕ → Bool
+in_classes least most b = leb least (byte_class b) && leb (byte_class b) most
 
 -- a table that gives each byte its class
 pub record ClassTable (t : List ℕ) : Type 0 where
-  pub gives : (b : ℕ) → b < 256 → get_or t b 0 ≡ byteClass b
+  pub gives : (b : ℕ) → b < 256 → get_or t b 0 ≡ byte_class b

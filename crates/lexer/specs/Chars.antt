@@ -13,31 +13,31 @@ unfoldable pub whitespace : List Range
 whitespace = record { least = 9; most = 13 } ∷ record { least = 32; most = 32 } ∷ []
 
 -- CR and LF, before which a line comment ends
-unfoldable pub lineEnds : List Range
-lineEnds = record { least = 10; most = 10 } ∷ record { least = 13; most = 13 } ∷ []
+unfoldable pub line_ends : List Range
+line_ends = record { least = 10; most = 10 } ∷ record { least = 13; most = 13 } ∷ []
 
-unfoldable pub plainBytes : List Range
-plainBytes = record { least = 0; most = 127 } ∷ []
+unfoldable pub plain_bytes : List Range
+plain_bytes = record { least = 0; most = 127 } ∷ []
 
 -- the digits of each base
-unfoldable pub binaryDigits : List Range
-binaryDigits = (chars "0" "1") ∷ []
+unfoldable pub binary_digits : List Range
+binary_digits = (chars "0" "1") ∷ []
 
-unfoldable pub decimalDigits : List Range
-decimalDigits = (chars "0" "9") ∷ []
+unfoldable pub decimal_digits : List Range
+decimal_digits = (chars "0" "9") ∷ []
 
-unfoldable pub hexDigits : List Range
-hexDigits = (chars "0" "9") ∷ (chars "a" "f") ∷ (chars "A" "F") ∷ []
+unfoldable pub hex_digits : List Range
+hex_digits = (chars "0" "9") ∷ (chars "a" "f") ∷ (chars "A" "F") ∷ []
 
 unfoldable pub underscore : List Range
 underscore = (chars "_" "_") ∷ []
 
 -- "A name is a letter or `_`, then letters, digits, `_`."
-unfoldable pub nameStarts : List Range
-nameStarts = (chars "a" "z") ∷ (chars "A" "Z") ∷ underscore
+unfoldable pub name_starts : List Range
+name_starts = (chars "a" "z") ∷ (chars "A" "Z") ∷ underscore
 
-unfoldable pub nameBytes : List Range
-nameBytes = nameStarts ++ decimalDigits
+unfoldable pub name_bytes : List Range
+name_bytes = name_starts ++ decimal_digits
 
 abbrev pub is : Char → ℕ → Bool
 is c b = eqb b (code c)

@@ -6,10 +6,10 @@ use Rattle.words.specs.declared.Found.{Found}
 use Rattle.words.specs.declared.Found.TheVariants.{Word, Plain}
 use Rattle.lexer.specs.Classes as t
 
-abbrev pub wordClass : Found → ℕ → ℕ
-wordClass (Word k) kind = t.words + k
-wordClass Plain kind = kind
+abbrev pub word_class : Found → ℕ → ℕ
+word_class (Word k) kind = t.words + k
+word_class Plain kind = kind
 
 -- booleans, names and macros have a class of their own where the rules tell them apart
 unfoldable pub class_of : ℕ → List ℕ → ℕ
-class_of kind text = cond (eqb kind t.Bool || eqb kind t.Ident || eqb kind t.Macro) (wordClass (word_of RULE_WORDS text) kind) kind
+class_of kind text = cond (eqb kind t.Bool || eqb kind t.Ident || eqb kind t.Macro) (word_class (word_of RULE_WORDS text) kind) kind

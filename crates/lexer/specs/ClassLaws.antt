@@ -5,7 +5,7 @@ use Rattle.std.specs.Prelude.{Bool, true, false, cond, ◌&&◌, ◌||◌, not, 
 use mathlib.Core.List.{List, [], ◌∷◌, Memᴰ}
 use Rattle.std.proofs.Math.Path.{refl}
 use Rattle.std.proofs.Common.{sym, subst, arith, eq-eqb, eqb-true, ltb→lt, T_not}
-use Rattle.text.specs.Ascii.{ascii, asciiFrom}
+use Rattle.text.specs.Ascii.{ascii, ascii_from}
 use Rattle.text.specs.Lists.{has, all}
 use Rattle.text.specs.Same.{same}
 use Rattle.text.specs.Table.{every, at, first-of, second-of, implied}
@@ -13,13 +13,13 @@ use Rattle.words.specs.Members.{found_in, plain_out, found-passes}
 use Rattle.words.specs.Words.{FUNCTION_RESERVED, KEYWORDS, MACROS, RULE_NAMES, BOOLEANS, BOOL, UINT_TYPES, BUILTIN_ALIASES, TYPE_NAMES, RULE_WORDS, ALIAS_RESERVED, find, word_of}
 use Rattle.words.specs.declared.Found.{Found}
 use Rattle.words.specs.declared.Found.TheVariants.{Word, Plain}
-use Rattle.lexer.specs.Chars.{among, decimalDigits, underscore, nameStarts, nameBytes, run}
-use Rattle.lexer.specs.Class.{wordClass, class_of}
+use Rattle.lexer.specs.Chars.{among, decimal_digits, underscore, name_starts, name_bytes, run}
+use Rattle.lexer.specs.Class.{word_class, class_of}
 use Rattle.lexer.specs.Classes as t
-use Rattle.lexer.specs.ClassTexts.{neverGiven, given}
-use Rattle.lexer.specs.Lexemes.{nameLength}
+use Rattle.lexer.specs.ClassTexts.{never_given, given}
+use Rattle.lexer.specs.Lexemes.{name_length}
 use Rattle.lexer.specs.Texts.{OneToken}
-use Rattle.lexer.specs.TokenKinds.{otherKind, Kind, a-name, a-boolean, a-macro, another, kind-of}
+use Rattle.lexer.specs.TokenKinds.{other_kind, Kind, a_name, a_boolean, a_macro, another, kind-of}
 
 -- ---- members by their test
 
@@ -50,9 +50,9 @@ unfolding all
 within k {c = c} t (Memᴰ.head {x = x} {xs = l} e) = listed k c (subst (λ n. T (has k n)) (sym e) (first-of (has k x) (all (has k) l) t))
 within k t (Memᴰ.tail {x = x} {xs = l} m) = within k (second-of (has k x) (all (has k) l) t) m
 
-abbrev isWord : Found → Bool
-isWord (Word i) = true
-isWord Plain = false
+abbrev is_word : Found → Bool
+is_word (Word i) = true
+is_word Plain = false
 
 -- ---- the tables
 
@@ -62,23 +62,23 @@ sorted f r true c = has r c && not (has f c)
 sorted f r false c = has f c && not (has r c)
 
 -- a word of the rules that is a name token's text: its class is given, and sorted so
-abbrev name-test : List (List ℕ) → List ℕ → List ℕ → ℕ → List ℕ → Bool
-name-test ws f r i w = isWord (word_of KEYWORDS w) || (not (eqb (nameLength w) (length w)) || (given (t.words + i) && sorted f r (isWord (word_of ws w)) (t.words + i)))
+abbrev name_test : List (List ℕ) → List ℕ → List ℕ → ℕ → List ℕ → Bool
+name_test ws f r i w = is_word (word_of KEYWORDS w) || (not (eqb (name_length w) (length w)) || (given (t.words + i) && sorted f r (is_word (word_of ws w)) (t.words + i)))
 
 -- What is computed of a list of reserved words and the classes of names: the words of the rules are sorted, the list has no other words, any other
 -- name is free, and the classes are names'.
 record Reserves (ws : List (List ℕ)) (f r : List ℕ) : Type 0 where
-  words : T (every (name-test ws f r) 0 RULE_WORDS)
-  known : T (every (λ i w. isWord (word_of RULE_WORDS w)) 0 ws)
+  words : T (every (name_test ws f r) 0 RULE_WORDS)
+  known : T (every (λ i w. is_word (word_of RULE_WORDS w)) 0 ws)
   plain : T (sorted f r false t.Ident)
   names : T (all (has t.identifiers) f && all (has t.identifiers) r)
 
-functions : Reserves FUNCTION_RESERVED t.functionNames t.reserved
-unfolding word_of find same FUNCTION_RESERVED KEYWORDS MACROS RULE_NAMES BOOLEANS BOOL UINT_TYPES BUILTIN_ALIASES TYPE_NAMES RULE_WORDS ascii asciiFrom nameLength run among nameBytes nameStarts underscore decimalDigits given neverGiven class_of has all
+functions : Reserves FUNCTION_RESERVED t.function_names t.reserved
+unfolding word_of find same FUNCTION_RESERVED KEYWORDS MACROS RULE_NAMES BOOLEANS BOOL UINT_TYPES BUILTIN_ALIASES TYPE_NAMES RULE_WORDS ascii ascii_from name_length run among name_bytes name_starts underscore decimal_digits given never_given class_of has all
 functions = record { words = tt; known = tt; plain = tt; names = tt }
 
-aliases : Reserves ALIAS_RESERVED t.aliasNames t.aliasReserved
-unfolding ALIAS_RESERVED word_of find same FUNCTION_RESERVED KEYWORDS MACROS RULE_NAMES BOOLEANS BOOL UINT_TYPES BUILTIN_ALIASES TYPE_NAMES RULE_WORDS ascii asciiFrom nameLength run among nameBytes nameStarts underscore decimalDigits given neverGiven class_of has all
+aliases : Reserves ALIAS_RESERVED t.alias_names t.alias_reserved
+unfolding ALIAS_RESERVED word_of find same FUNCTION_RESERVED KEYWORDS MACROS RULE_NAMES BOOLEANS BOOL UINT_TYPES BUILTIN_ALIASES TYPE_NAMES RULE_WORDS ascii ascii_from name_length run among name_bytes name_starts underscore decimal_digits given never_given class_of has all
 aliases = record { words = tt; known = tt; plain = tt; names = tt }
 
 -- a class is given, and no name's
@@ -86,16 +86,16 @@ abbrev nameless : ℕ → Bool
 nameless c = given c && not (has t.identifiers c)
 
 booleans-pass : T (every (λ i w. not (ltb t.Simc (t.Pub + i)) || nameless (class_of t.Bool w)) 0 KEYWORDS)
-unfolding word_of find same FUNCTION_RESERVED KEYWORDS MACROS RULE_NAMES BOOLEANS BOOL UINT_TYPES BUILTIN_ALIASES TYPE_NAMES RULE_WORDS ascii asciiFrom given neverGiven class_of has
+unfolding word_of find same FUNCTION_RESERVED KEYWORDS MACROS RULE_NAMES BOOLEANS BOOL UINT_TYPES BUILTIN_ALIASES TYPE_NAMES RULE_WORDS ascii ascii_from given never_given class_of has
 booleans-pass = tt
 
 macros-pass : T (every (λ i w. nameless (class_of t.Macro w)) 0 MACROS)
-unfolding word_of find same FUNCTION_RESERVED MACROS RULE_NAMES BOOLEANS BOOL UINT_TYPES BUILTIN_ALIASES TYPE_NAMES RULE_WORDS ascii asciiFrom given neverGiven class_of has
+unfolding word_of find same FUNCTION_RESERVED MACROS RULE_NAMES BOOLEANS BOOL UINT_TYPES BUILTIN_ALIASES TYPE_NAMES RULE_WORDS ascii ascii_from given never_given class_of has
 macros-pass = tt
 
 -- the kinds that are classes themselves
-others-pass : T (every {A = ℕ} (λ k x. not (otherKind k) || (not (eqb k t.Bool || eqb k t.Ident || eqb k t.Macro) && nameless k)) 0 (replicate t.words 0))
-unfolding word_of find same FUNCTION_RESERVED MACROS RULE_NAMES BOOLEANS BOOL UINT_TYPES BUILTIN_ALIASES TYPE_NAMES RULE_WORDS ascii asciiFrom given neverGiven class_of has
+others-pass : T (every {A = ℕ} (λ k x. not (other_kind k) || (not (eqb k t.Bool || eqb k t.Ident || eqb k t.Macro) && nameless k)) 0 (replicate t.words 0))
+unfolding word_of find same FUNCTION_RESERVED MACROS RULE_NAMES BOOLEANS BOOL UINT_TYPES BUILTIN_ALIASES TYPE_NAMES RULE_WORDS ascii ascii_from given never_given class_of has
 others-pass = tt
 
 -- ---- names
@@ -106,14 +106,14 @@ data Sorted (ws : List (List ℕ)) (f r : List ℕ) (w : List ℕ) (c : ℕ) : T
   taken : Memᴰ w ws → Memᴰ c r → ¬ Memᴰ c f → Sorted ws f r w c
 
 -- of a name that is no keyword
-name-passes : {ws : List (List ℕ)} {f r : List ℕ} → Reserves ws f r → (w : List ℕ) → nameLength w ≡ length w → word_of KEYWORDS w ≡ Plain → (i : ℕ) → word_of RULE_WORDS w ≡ Word i
-    → T (given (t.words + i) && sorted f r (isWord (word_of ws w)) (t.words + i))
+name-passes : {ws : List (List ℕ)} {f r : List ℕ} → Reserves ws f r → (w : List ℕ) → name_length w ≡ length w → word_of KEYWORDS w ≡ Plain → (i : ℕ) → word_of RULE_WORDS w ≡ Word i
+    → T (given (t.words + i) && sorted f r (is_word (word_of ws w)) (t.words + i))
 name-passes {ws} {f} {r} s w l q i e =
-    let h = found-passes (name-test ws f r) RULE_WORDS s.words w i e in
-    rw (q, eq-eqb (nameLength w) (length w) l) at h
+    let h = found-passes (name_test ws f r) RULE_WORDS s.words w i e in
+    rw (q, eq-eqb (name_length w) (length w) l) at h
 
 module _ {ws : List (List ℕ)} {f r : List ℕ} (s : Reserves ws f r) where
-  by-test : (w : List ℕ) (x : Found) → word_of ws w ≡ x → (c : ℕ) → T (sorted f r (isWord x) c) → Sorted ws f r w c
+  by-test : (w : List ℕ) (x : Found) → word_of ws w ≡ x → (c : ℕ) → T (sorted f r (is_word x) c) → Sorted ws f r w c
   by-test w (Word i) q c h = taken (found_in ws w i q) (listed r c (first-of (has r c) _ h)) (unlisted f c (second-of (has r c) _ h))
   by-test w Plain q c h = free (plain_out ws w q) (listed f c (first-of (has f c) _ h)) (unlisted r c (second-of (has f c) _ h))
 
@@ -122,14 +122,14 @@ module _ {ws : List (List ℕ)} {f r : List ℕ} (s : Reserves ws f r) where
   unreserved w e = go (word_of ws w) refl
     where
       go : (x : Found) → word_of ws w ≡ x → x ≡ Plain
-      go (Word i) q = absurd (subst (λ x. T (isWord x)) e (found-passes (λ i w. isWord (word_of RULE_WORDS w)) ws s.known w i q))
+      go (Word i) q = absurd (subst (λ x. T (is_word x)) e (found-passes (λ i w. is_word (word_of RULE_WORDS w)) ws s.known w i q))
       go Plain q = refl
 
-  name-sorted : (w : List ℕ) → nameLength w ≡ length w → word_of KEYWORDS w ≡ Plain → Sorted ws f r w (class_of t.Ident w)
+  name-sorted : (w : List ℕ) → name_length w ≡ length w → word_of KEYWORDS w ≡ Plain → Sorted ws f r w (class_of t.Ident w)
   unfolding class_of
   name-sorted w l q = go (word_of RULE_WORDS w) refl
     where
-      go : (x : Found) → word_of RULE_WORDS w ≡ x → Sorted ws f r w (wordClass x t.Ident)
+      go : (x : Found) → word_of RULE_WORDS w ≡ x → Sorted ws f r w (word_class x t.Ident)
       go (Word i) e = by-test w (word_of ws w) refl (t.words + i) (second-of (given (t.words + i)) _ (name-passes s w l q i e))
       go Plain e = by-test w Plain (unreserved w e) t.Ident s.plain
 
@@ -137,33 +137,33 @@ module _ {ws : List (List ℕ)} {f r : List ℕ} (s : Reserves ws f r) where
   sorted-identifier (free a b d) = within t.identifiers (first-of (all (has t.identifiers) f) _ s.names) b
   sorted-identifier (taken a b d) = within t.identifiers (second-of (all (has t.identifiers) f) _ s.names) b
 
-name-given : (w : List ℕ) → nameLength w ≡ length w → word_of KEYWORDS w ≡ Plain → T (given (class_of t.Ident w))
-unfolding class_of given neverGiven word_of find same FUNCTION_RESERVED MACROS RULE_NAMES BOOLEANS BOOL UINT_TYPES BUILTIN_ALIASES TYPE_NAMES RULE_WORDS ascii asciiFrom has
+name-given : (w : List ℕ) → name_length w ≡ length w → word_of KEYWORDS w ≡ Plain → T (given (class_of t.Ident w))
+unfolding class_of given never_given word_of find same FUNCTION_RESERVED MACROS RULE_NAMES BOOLEANS BOOL UINT_TYPES BUILTIN_ALIASES TYPE_NAMES RULE_WORDS ascii ascii_from has
 name-given w l q = go (word_of RULE_WORDS w) refl
   where
-    go : (x : Found) → word_of RULE_WORDS w ≡ x → T (given (wordClass x t.Ident))
+    go : (x : Found) → word_of RULE_WORDS w ≡ x → T (given (word_class x t.Ident))
     go (Word i) e = first-of (given (t.words + i)) _ (name-passes functions w l q i e)
     go Plain e = tt
 
 -- ---- the other tokens
 
-other-passes : (k : ℕ) → T (otherKind k) → T (not (eqb k t.Bool || eqb k t.Ident || eqb k t.Macro) && nameless k)
+other-passes : (k : ℕ) → T (other_kind k) → T (not (eqb k t.Bool || eqb k t.Ident || eqb k t.Macro) && nameless k)
 other-passes k h =
     let l : k < t.words = ltb→lt k t.words (second-of (leb t.Pub k) (ltb k t.words) (first-of (leb t.Pub k && ltb k t.words) _ h)) in
-    implied (otherKind k) _
-    (at {A = ℕ} (λ k x. not (otherKind k) || (not (eqb k t.Bool || eqb k t.Ident || eqb k t.Macro) && nameless k)) (replicate t.words 0) 0 others-pass k l) h
+    implied (other_kind k) _
+    (at {A = ℕ} (λ k x. not (other_kind k) || (not (eqb k t.Bool || eqb k t.Ident || eqb k t.Macro) && nameless k)) (replicate t.words 0) 0 others-pass k l) h
 
 -- a kind that is a class itself
-pub other-class : (k : ℕ) (w : List ℕ) → T (otherKind k) → class_of k w ≡ k
+pub other-class : (k : ℕ) (w : List ℕ) → T (other_kind k) → class_of k w ≡ k
 unfolding class_of
 other-class k w h = go (eqb k t.Bool || eqb k t.Ident || eqb k t.Macro) (first-of (not (eqb k t.Bool || eqb k t.Ident || eqb k t.Macro)) (nameless k) (other-passes k h))
   where
-    go : (b : Bool) → T (not b) → cond b (wordClass (word_of RULE_WORDS w) k) k ≡ k
+    go : (b : Bool) → T (not b) → cond b (word_class (word_of RULE_WORDS w) k) k ≡ k
     go true h = absurd h
     go false h = refl
 
 data Sort (k : ℕ) (w : List ℕ) : Type 0 where
-  named : k ≡ t.Ident → nameLength w ≡ length w → word_of KEYWORDS w ≡ Plain → Sort k w
+  named : k ≡ t.Ident → name_length w ≡ length w → word_of KEYWORDS w ≡ Plain → Sort k w
   unnamed : ¬ (k ≡ t.Ident) → T (nameless (class_of k w)) → Sort k w
 
 sort-of : {k : ℕ} {w : List ℕ} → OneToken k w → Sort k w
@@ -171,15 +171,15 @@ unfolding has
 sort-of {k} {w} o = go (kind-of w k o)
   where
     go : Kind w k → Sort k w
-    go (a-name e l q) = named e l q
-    go (a-boolean i e q b) =
+    go (a_name e l q) = named e l q
+    go (a_boolean i e q b) =
         unnamed (λ f. omega arith)
         (subst (λ j. T (nameless (class_of j w))) (sym e)
         (implied (ltb t.Simc (t.Pub + i)) _ (found-passes (λ i w. not (ltb t.Simc (t.Pub + i)) || nameless (class_of t.Bool w)) KEYWORDS booleans-pass w i q) (subst T (sym b) tt)))
-    go (a-macro i e q) =
+    go (a_macro i e q) =
         unnamed (λ f. omega arith) (subst (λ j. T (nameless (class_of j w))) (sym e) (found-passes (λ i w. nameless (class_of t.Macro w)) MACROS macros-pass w i q))
     go (another h) =
-        unnamed (λ f. subst (λ j. T (otherKind j)) f h)
+        unnamed (λ f. subst (λ j. T (other_kind j)) f h)
         (subst (λ c. T (nameless c)) (sym (other-class k w h)) (second-of (not (eqb k t.Bool || eqb k t.Ident || eqb k t.Macro)) (nameless k) (other-passes k h)))
 
 -- ---- the laws
@@ -190,7 +190,7 @@ identifier-class {k} {w} o = go (sort-of o)
   where
     go : Sort k w → Memᴰ (class_of k w) t.identifiers ↔ (k ≡ t.Ident)
     go (named e l q) =
-        (λ m. e, λ z. sorted-identifier functions (subst (λ j. Sorted FUNCTION_RESERVED t.functionNames t.reserved w (class_of j w)) (sym e) (name-sorted functions w l q)))
+        (λ m. e, λ z. sorted-identifier functions (subst (λ j. Sorted FUNCTION_RESERVED t.function_names t.reserved w (class_of j w)) (sym e) (name-sorted functions w l q)))
     go (unnamed n h) = (λ m. absurd (unlisted t.identifiers (class_of k w) (second-of (given (class_of k w)) _ h) m), λ q. absurd (n q))
 
 -- The free names are those that are not reserved.
@@ -207,11 +207,11 @@ module _ {ws : List (List ℕ)} {f r : List ℕ} (s : Reserves ws f r) {k : ℕ}
       go (unnamed n h) = (λ m. absurd (n ((identifier-class o).0 (within t.identifiers (first-of (all (has t.identifiers) f) _ s.names) m))), λ q. absurd (n q.0))
 
 -- "A function name is any not in `FUNCTION_RESERVED`": any such name token. (`match` is in it, and never a name token, so it needs no word here.)
-pub function-name-class : {k : ℕ} {w : List ℕ} → OneToken k w → Memᴰ (class_of k w) t.functionNames ↔ ((k ≡ t.Ident) × ¬ Memᴰ w FUNCTION_RESERVED)
+pub function-name-class : {k : ℕ} {w : List ℕ} → OneToken k w → Memᴰ (class_of k w) t.function_names ↔ ((k ≡ t.Ident) × ¬ Memᴰ w FUNCTION_RESERVED)
 function-name-class = free-class functions
 
 -- "A type's own name may not be in `ALIAS_RESERVED`": any name token that is not.
-pub alias-name-class : {k : ℕ} {w : List ℕ} → OneToken k w → Memᴰ (class_of k w) t.aliasNames ↔ ((k ≡ t.Ident) × ¬ Memᴰ w ALIAS_RESERVED)
+pub alias-name-class : {k : ℕ} {w : List ℕ} → OneToken k w → Memᴰ (class_of k w) t.alias_names ↔ ((k ≡ t.Ident) × ¬ Memᴰ w ALIAS_RESERVED)
 alias-name-class = free-class aliases
 
 -- Each token's class is one of those that are given.

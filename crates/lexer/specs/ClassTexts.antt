@@ -74,10 +74,10 @@ samples =
     ∷ name t.Either "Either"
     ∷ name t.Option "Option"
     ∷ name t.List "List"
-    ∷ name t.unwrap-left "unwrap_left"
-    ∷ name t.unwrap-right "unwrap_right"
-    ∷ name t.array-fold "array_fold"
-    ∷ name t.for-while "for_while"
+    ∷ name t.unwrap_left "unwrap_left"
+    ∷ name t.unwrap_right "unwrap_right"
+    ∷ name t.array_fold "array_fold"
+    ∷ name t.for_while "for_while"
     ∷ name t.is_none "is_none"
     ∷ name t.unwrap "unwrap"
     ∷ name t.assert "assert"
@@ -85,7 +85,7 @@ samples =
     ∷ name t.into "into"
     ∷ name t.fold "fold"
     ∷ name t.dbg "dbg"
-    ∷ name t.raw-hash "raw_hash"
+    ∷ name t.raw_hash "raw_hash"
     ∷ macro t.assert! "assert!"
     ∷ macro t.panic! "panic!"
     ∷ macro t.dbg! "dbg!"
@@ -129,38 +129,38 @@ samples =
     ∷ []
 
 -- The kinds whose words have classes of their own.
-abbrev pub wordKinds : List ℕ
-wordKinds = t.Bool ∷ t.Ident ∷ t.Macro ∷ []
+abbrev pub word_kinds : List ℕ
+word_kinds = t.Bool ∷ t.Ident ∷ t.Macro ∷ []
 
 -- Numbers up to the last class that no token has: `simc` is refused, each boolean and each macro has a class of its own, and `match` is always the
 -- keyword.
-unfoldable pub neverGiven : List ℕ
-neverGiven = t.Simc ∷ t.Bool ∷ t.Macro ∷ class_of t.Ident (ascii "match") ∷ []
+unfoldable pub never_given : List ℕ
+never_given = t.Simc ∷ t.Bool ∷ t.Macro ∷ class_of t.Ident (ascii "match") ∷ []
 
 -- The classes of tokens.
 unfoldable pub given : ℕ → Bool
-given c = leb t.Pub c && leb c t.last && not (has neverGiven c)
+given c = leb t.Pub c && leb c t.last && not (has never_given c)
 
 -- each of them is one
 abbrev pub AllGiven : List ℕ → Type 0
 AllGiven cs = (c : ℕ) → Memᴰ c cs → T (given c)
 
 -- the sample of a class, a plain name where there is none
-unfoldable pub sampleIn : List Sample → ℕ → Sample
-sampleIn [] c = kind t.Ident "x"
-sampleIn (s ∷ ss) c = cond (eqb s.class c) s (sampleIn ss c)
+unfoldable pub sample_in : List Sample → ℕ → Sample
+sample_in [] c = kind t.Ident "x"
+sample_in (s ∷ ss) c = cond (eqb s.class c) s (sample_in ss c)
 
-abbrev pub sampleOf : ℕ → Sample
-sampleOf = sampleIn samples
+abbrev pub sample_of : ℕ → Sample
+sample_of = sample_in samples
 
 -- its text, and then a space
 abbrev pub sampled : ℕ → Piece
-sampled c = spaced (sampleOf c).kind (ascii (sampleOf c).text)
+sampled c = spaced (sample_of c).kind (ascii (sample_of c).text)
 
 -- A draft with a token of each of these classes, in this order,
-unfoldable pub draftOf : List ℕ → List ℕ
-draftOf cs = joined (map sampled cs)
+unfoldable pub draft_of : List ℕ → List ℕ
+draft_of cs = joined (map sampled cs)
 
 -- and one that begins with these tokens of another draft and goes on with tokens of these classes.
-unfoldable pub continuedWith : List ℕ → List Token → List ℕ → List ℕ
-continuedWith draft ts cs = joined (map (respaced draft) ts ++ map sampled cs)
+unfoldable pub continued_with : List ℕ → List Token → List ℕ → List ℕ
+continued_with draft ts cs = joined (map (respaced draft) ts ++ map sampled cs)

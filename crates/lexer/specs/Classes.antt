@@ -146,17 +146,17 @@ List = 43
 
 -- ---- the words of FUNCTION_RESERVED; `match` is a keyword, so class 52 never occurs
 
-abbrev pub unwrap-left : ℕ
-unwrap-left = 44
+abbrev pub unwrap_left : ℕ
+unwrap_left = 44
 
-abbrev pub unwrap-right : ℕ
-unwrap-right = 45
+abbrev pub unwrap_right : ℕ
+unwrap_right = 45
 
-abbrev pub array-fold : ℕ
-array-fold = 46
+abbrev pub array_fold : ℕ
+array_fold = 46
 
-abbrev pub for-while : ℕ
-for-while = 47
+abbrev pub for_while : ℕ
+for_while = 47
 
 abbrev pub is_none : ℕ
 is_none = 48
@@ -179,8 +179,8 @@ fold = 54
 abbrev pub dbg : ℕ
 dbg = 55
 
-abbrev pub raw-hash : ℕ
-raw-hash = 56
+abbrev pub raw_hash : ℕ
+raw_hash = 56
 
 -- ---- macros
 
@@ -309,35 +309,35 @@ abbrev pub TokenAmount1 : ℕ
 TokenAmount1 = 96
 
 -- "`u1` to `u256`" and the built-in aliases, each in their order
-abbrev pub unsignedTypes : list.List ℕ
-unsignedTypes = u1 ∷ u2 ∷ u4 ∷ u8 ∷ u16 ∷ u32 ∷ u64 ∷ u128 ∷ u256 ∷ []
+abbrev pub unsigned_types : list.List ℕ
+unsigned_types = u1 ∷ u2 ∷ u4 ∷ u8 ∷ u16 ∷ u32 ∷ u64 ∷ u128 ∷ u256 ∷ []
 
-abbrev pub builtinTypes : list.List ℕ
-builtinTypes = Ctx8 ∷ Pubkey ∷ Message ∷ Message64 ∷ Signature ∷ Scalar ∷ Fe ∷ Ge ∷ Gej ∷ Point ∷ Height ∷ Time ∷ Distance ∷ Duration ∷ Lock ∷ Outpoint ∷ Confidential1 ∷ ExplicitAsset ∷ Asset1 ∷ ExplicitAmount ∷ Amount1 ∷ ExplicitNonce ∷ Nonce ∷ TokenAmount1 ∷ []
+abbrev pub builtin_types : list.List ℕ
+builtin_types = Ctx8 ∷ Pubkey ∷ Message ∷ Message64 ∷ Signature ∷ Scalar ∷ Fe ∷ Ge ∷ Gej ∷ Point ∷ Height ∷ Time ∷ Distance ∷ Duration ∷ Lock ∷ Outpoint ∷ Confidential1 ∷ ExplicitAsset ∷ Asset1 ∷ ExplicitAmount ∷ Amount1 ∷ ExplicitNonce ∷ Nonce ∷ TokenAmount1 ∷ []
 
-abbrev pub typeNames : list.List ℕ
-typeNames = bool ∷ unsignedTypes ++ builtinTypes
+abbrev pub type_names : list.List ℕ
+type_names = bool ∷ unsigned_types ++ builtin_types
 
 -- the last class
 abbrev pub last : ℕ
 last = TokenAmount1
 
 -- "A function name is any not in `FUNCTION_RESERVED`": the classes of names that are not,
-abbrev pub functionNames : list.List ℕ
-functionNames = Ident ∷ Left ∷ Right ∷ Some ∷ None ∷ Either ∷ Option ∷ List ∷ typeNames
+abbrev pub function_names : list.List ℕ
+function_names = Ident ∷ Left ∷ Right ∷ Some ∷ None ∷ Either ∷ Option ∷ List ∷ type_names
 
 -- and those of names that are.
 abbrev pub reserved : list.List ℕ
-reserved = unwrap-left ∷ unwrap-right ∷ array-fold ∷ for-while ∷ is_none ∷ unwrap ∷ assert ∷ panic ∷ into ∷ fold ∷ dbg ∷ raw-hash ∷ []
+reserved = unwrap_left ∷ unwrap_right ∷ array_fold ∷ for_while ∷ is_none ∷ unwrap ∷ assert ∷ panic ∷ into ∷ fold ∷ dbg ∷ raw_hash ∷ []
 
 -- "An identifier is any name token".
 abbrev pub identifiers : list.List ℕ
-identifiers = functionNames ++ reserved
+identifiers = function_names ++ reserved
 
 -- "A type's own name may not be in `ALIAS_RESERVED`" (document 02, order 3): the classes of names that are not,
-abbrev pub aliasNames : list.List ℕ
-aliasNames = Ident ∷ Left ∷ Right ∷ Some ∷ None ∷ reserved
+abbrev pub alias_names : list.List ℕ
+alias_names = Ident ∷ Left ∷ Right ∷ Some ∷ None ∷ reserved
 
 -- and those of names that are.
-abbrev pub aliasReserved : list.List ℕ
-aliasReserved = Either ∷ Option ∷ List ∷ typeNames
+abbrev pub alias_reserved : list.List ℕ
+alias_reserved = Either ∷ Option ∷ List ∷ type_names

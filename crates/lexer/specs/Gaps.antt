@@ -4,11 +4,11 @@ use Rattle.std.specs.Prelude.{Bool, true, false, ◌&&◌, ◌||◌, not, List, 
 use Rattle.std.proofs.Common.{sym, ap, ◌∙◌, arith, eqb-true, leb-true, length-drop}
 use Rattle.std.proofs.lemmas.Bool.{not-true}
 use Rattle.std.proofs.lemmas.List.{take-append-le, drop-append-le}
-use Rattle.text.specs.Ascii.{ascii, asciiFrom}
+use Rattle.text.specs.Ascii.{ascii, ascii_from}
 use Rattle.text.specs.Same.{differ}
 use Rattle.text.specs.Table.{every, at, is_true}
-use Rattle.lexer.specs.Chars.{Range, among, whitespace, binaryDigits, decimalDigits, hexDigits, underscore, nameStarts, nameBytes, first, run, begins}
-use Rattle.lexer.specs.Lexemes.{nameLength, isName, Mark, marks}
+use Rattle.lexer.specs.Chars.{Range, among, whitespace, binary_digits, decimal_digits, hex_digits, underscore, name_starts, name_bytes, first, run, begins}
+use Rattle.lexer.specs.Lexemes.{name_length, is_name, Mark, marks}
 use Rattle.lexer.specs.Moves.{among-append, run-first}
 use Rattle.lexer.specs.Trials.{both_left, both_right}
 use Rattle.lexer.specs.Texts.{gap}
@@ -118,22 +118,22 @@ first-inside p z a [] (b ∷ s) g e = differ (sym (a b g) ∙ e)
 first-inside p z a (b ∷ t) s g e = omega arith
 
 -- the bytes of names and of digit runs are no whitespace
-pub name-apart : Apart (among nameBytes)
-unfolding among whitespace nameBytes nameStarts underscore decimalDigits
-name-apart = apart_if (among nameBytes) tt
+pub name-apart : Apart (among name_bytes)
+unfolding among whitespace name_bytes name_starts underscore decimal_digits
+name-apart = apart_if (among name_bytes) tt
 
-pub start-apart : Apart (among nameStarts)
-unfolding among whitespace nameStarts underscore
-start-apart = apart_if (among nameStarts) tt
+pub start-apart : Apart (among name_starts)
+unfolding among whitespace name_starts underscore
+start-apart = apart_if (among name_starts) tt
 
-pub start-zero : among nameStarts 0 ≡ false
-unfolding among nameStarts underscore
+pub start-zero : among name_starts 0 ≡ false
+unfolding among name_starts underscore
 start-zero = refl
 
 -- what is wanted of the digits of a base
 pub record Base (base : List Range) : Type 0 where
   pub apart : Apart (λ b. among base b || among underscore b)
-  pub zero-none : among base 0 ≡ false
+  pub zero_none : among base 0 ≡ false
 
 pub base-apart : {base : List Range} → Base base → Apart (among base)
 base-apart {base} h b e = go (among base b) (h.apart b e)
@@ -142,41 +142,41 @@ base-apart {base} h b e = go (among base b) (h.apart b e)
     go true q = q
     go false q = refl
 
-pub decimal-base : Base decimalDigits
-unfolding among whitespace underscore decimalDigits
-decimal-base = record { apart = apart_if (λ b. among decimalDigits b || among underscore b) tt; zero-none = refl }
+pub decimal-base : Base decimal_digits
+unfolding among whitespace underscore decimal_digits
+decimal-base = record { apart = apart_if (λ b. among decimal_digits b || among underscore b) tt; zero_none = refl }
 
-pub binary-base : Base binaryDigits
-unfolding among whitespace underscore binaryDigits
-binary-base = record { apart = apart_if (λ b. among binaryDigits b || among underscore b) tt; zero-none = refl }
+pub binary-base : Base binary_digits
+unfolding among whitespace underscore binary_digits
+binary-base = record { apart = apart_if (λ b. among binary_digits b || among underscore b) tt; zero_none = refl }
 
-pub hex-base : Base hexDigits
-unfolding among whitespace underscore hexDigits
-hex-base = record { apart = apart_if (λ b. among hexDigits b || among underscore b) tt; zero-none = refl }
+pub hex-base : Base hex_digits
+unfolding among whitespace underscore hex_digits
+hex-base = record { apart = apart_if (λ b. among hex_digits b || among underscore b) tt; zero_none = refl }
 
 -- and so are those of the texts that are looked for
 pub bang-solid : solid (ascii "!") ≡ true
-unfolding ascii asciiFrom among whitespace
+unfolding ascii ascii_from among whitespace
 bang-solid = refl
 
 pub colons-solid : solid (ascii "::") ≡ true
-unfolding ascii asciiFrom among whitespace
+unfolding ascii ascii_from among whitespace
 colons-solid = refl
 
 pub hex-solid : solid (ascii "0x") ≡ true
-unfolding ascii asciiFrom among whitespace
+unfolding ascii ascii_from among whitespace
 hex-solid = refl
 
 pub binary-solid : solid (ascii "0b") ≡ true
-unfolding ascii asciiFrom among whitespace
+unfolding ascii ascii_from among whitespace
 binary-solid = refl
 
 pub line-solid : solid (ascii "//") ≡ true
-unfolding ascii asciiFrom among whitespace
+unfolding ascii ascii_from among whitespace
 line-solid = refl
 
 pub block-solid : solid (ascii "/*") ≡ true
-unfolding ascii asciiFrom among whitespace
+unfolding ascii ascii_from among whitespace
 block-solid = refl
 
 abbrev pub solids : List Mark → Bool
@@ -184,35 +184,35 @@ solids [] = true
 solids (m ∷ ms) = solid (ascii m.text) && solids ms
 
 pub marks-solid : solids marks ≡ true
-unfolding marks ascii asciiFrom among whitespace
+unfolding marks ascii ascii_from among whitespace
 marks-solid = refl
 
 -- ---- names
 
 -- a name has a byte
-pub name-some : (r : List ℕ) → isName r ≡ true → 0 < nameLength r
-unfolding nameLength nameBytes
-name-some r e = run-some (among nameStarts) (among nameBytes) start-zero (among-append nameStarts decimalDigits) r e
+pub name-some : (r : List ℕ) → is_name r ≡ true → 0 < name_length r
+unfolding name_length name_bytes
+name-some r e = run-some (among name_starts) (among name_bytes) start-zero (among-append name_starts decimal_digits) r e
 
-pub name-within : (t s : List ℕ) → gap s ≡ true → nameLength (t ++ s) ≤ length t
-unfolding nameLength
-name-within t s g = run-in-text (among nameBytes) t s (run-gap (among nameBytes) name-apart s g)
+pub name-within : (t s : List ℕ) → gap s ≡ true → name_length (t ++ s) ≤ length t
+unfolding name_length
+name-within t s g = run-in-text (among name_bytes) t s (run-gap (among name_bytes) name-apart s g)
 
 module _ (t u s : List ℕ) (g : gap s ≡ true) where
-  pub name-swap : nameLength (t ++ u) ≤ length t → nameLength (t ++ s) ≡ nameLength (t ++ u)
-  unfolding nameLength
-  name-swap h = run-swap (among nameBytes) t u s h (run-gap (among nameBytes) name-apart s g)
+  pub name-swap : name_length (t ++ u) ≤ length t → name_length (t ++ s) ≡ name_length (t ++ u)
+  unfolding name_length
+  name-swap h = run-swap (among name_bytes) t u s h (run-gap (among name_bytes) name-apart s g)
 
-  pub name-inside : nameLength (t ++ s) < length t → nameLength (t ++ u) ≡ nameLength (t ++ s)
-  unfolding nameLength
-  name-inside h = run_inside (among nameBytes) t u s h
+  pub name-inside : name_length (t ++ s) < length t → name_length (t ++ u) ≡ name_length (t ++ s)
+  unfolding name_length
+  name-inside h = run_inside (among name_bytes) t u s h
 
   -- a name that fills t
-  pub name-filled : isName (t ++ u) ≡ true → nameLength (t ++ u) ≡ length t → (isName (t ++ s) ≡ true) × (nameLength (t ++ s) ≡ length t)
-  name-filled e h = let l = name-some (t ++ u) e in (ap (among nameStarts) (first-same t u s (omega arith)) ∙ e, name-swap (omega arith) ∙ h)
+  pub name-filled : is_name (t ++ u) ≡ true → name_length (t ++ u) ≡ length t → (is_name (t ++ s) ≡ true) × (name_length (t ++ s) ≡ length t)
+  name-filled e h = let l = name-some (t ++ u) e in (ap (among name_starts) (first-same t u s (omega arith)) ∙ e, name-swap (omega arith) ∙ h)
 
-  pub name-starts : isName (t ++ s) ≡ true → isName (t ++ u) ≡ true
-  name-starts e = ap (among nameStarts) (first-same t s u (first-inside (among nameStarts) start-zero start-apart t s g e)) ∙ e
+  pub name-starts : is_name (t ++ s) ≡ true → is_name (t ++ u) ≡ true
+  name-starts e = ap (among name_starts) (first-same t s u (first-inside (among name_starts) start-zero start-apart t s g e)) ∙ e
 
 -- ---- behind n bytes of t
 

@@ -6,12 +6,12 @@ use Prim.Native.String.{String}
 use Rattle.text.specs.Ascii.{ascii}
 use Rattle.text.specs.Counts.{more}
 use Rattle.text.specs.Refusals as refusal
-use Rattle.utf8.specs.Utf8.{badAt}
+use Rattle.utf8.specs.Utf8.{bad_at}
 use Rattle.words.specs.Words.{KEYWORDS, MACROS, MODULE_RESERVED, word_of}
 use Rattle.words.specs.declared.Found.{Found}
 use Rattle.words.specs.declared.Found.TheVariants.{Word, Plain}
 use Rattle.lexer.specs.Classes as t
-use Rattle.lexer.specs.Chars.{Range, among, whitespace, lineEnds, binaryDigits, decimalDigits, hexDigits, underscore, nameStarts, nameBytes, is, first, run, begins}
+use Rattle.lexer.specs.Chars.{Range, among, whitespace, line_ends, binary_digits, decimal_digits, hex_digits, underscore, name_starts, name_bytes, is, first, run, begins}
 
 -- What stands at the front of a text: a token of a kind and so many bytes, so many bytes of trivia, or a refusal behind so many bytes.
 pub data Lexeme : Type 0 where
@@ -20,10 +20,10 @@ pub data Lexeme : Type 0 where
   refused : ℕ → ℕ → Lexeme
 
 -- what a trial finds, and where it finds nothing what the others find
-infixr 20 ◌orElse◌
-abbrev pub ◌orElse◌ : Option Lexeme → Lexeme → Lexeme
-some x orElse y = x
-none orElse y = y
+infixr 20 ◌or_else◌
+abbrev pub ◌or_else◌ : Option Lexeme → Lexeme → Lexeme
+some x or_else y = x
+none or_else y = y
 
 -- ---- trivia
 
@@ -36,17 +36,17 @@ checked none n = trivia n
 checked (some p) n = refused refusal.NotUtf8 p
 
 unfoldable pub comment : ℕ → List ℕ → Lexeme
-comment n r = checked (badAt (take n r)) n
+comment n r = checked (bad_at (take n r)) n
 
 -- "`//` runs to before CR, LF or the end."
-abbrev pub inLine : ℕ → Bool
-inLine b = not (among lineEnds b)
+abbrev pub in_line : ℕ → Bool
+in_line b = not (among line_ends b)
 
-abbrev pub lineLength : List ℕ → ℕ
-lineLength r = 2 + run inLine (drop 2 r)
+abbrev pub line_length : List ℕ → ℕ
+line_length r = 2 + run in_line (drop 2 r)
 
-unfoldable pub lineComment : List ℕ → Option Lexeme
-lineComment r = cond (begins (ascii "//") r) (some (comment (lineLength r) r)) none
+unfoldable pub line_comment : List ℕ → Option Lexeme
+line_comment r = cond (begins (ascii "//") r) (some (comment (line_length r) r)) none
 
 -- one byte more inside a block comment: that closes it, or it goes on with d comments open within it and p the byte before, 0 if that belongs to a mark
 pub data Inside : Type 0 where
@@ -72,46 +72,46 @@ abbrev pub block : Option ℕ → List ℕ → Lexeme
 block none r = refused refusal.Unclosed 0
 block (some n) r = comment (2 + n) r
 
-unfoldable pub blockComment : List ℕ → Option Lexeme
-blockComment r = cond (begins (ascii "/*") r) (some (block (closing (drop 2 r) 0 0) r)) none
+unfoldable pub block_comment : List ℕ → Option Lexeme
+block_comment r = cond (begins (ascii "/*") r) (some (block (closing (drop 2 r) 0 0) r)) none
 
 -- ---- names and words
 
 -- how many bytes the name at the front has
-unfoldable pub nameLength : List ℕ → ℕ
-nameLength r = run (among nameBytes) r
+unfoldable pub name_length : List ℕ → ℕ
+name_length r = run (among name_bytes) r
 
-abbrev pub isName : List ℕ → Bool
-isName r = among nameStarts (first r)
+abbrev pub is_name : List ℕ → Bool
+is_name r = among name_starts (first r)
 
-abbrev pub moduleToken : Found → ℕ → Option Lexeme
-moduleToken (Word k) n = some (token (t.Jet + k) n)
-moduleToken Plain n = none
+abbrev pub module_token : Found → ℕ → Option Lexeme
+module_token (Word k) n = some (token (t.Jet + k) n)
+module_token Plain n = none
 
 -- "`jet::`, `witness::` or `param::` with a name, no gap": the kinds from Jet on, in the order of the words
 unfoldable pub qualified : List ℕ → Option Lexeme
 qualified r =
-    let n = nameLength r in
+    let n = name_length r in
     let name = drop (n + 2) r in
-    cond (isName r && begins (ascii "::") (drop n r) && isName name) (moduleToken (word_of MODULE_RESERVED (take n r)) (n + 2 + nameLength name)) none
+    cond (is_name r && begins (ascii "::") (drop n r) && is_name name) (module_token (word_of MODULE_RESERVED (take n r)) (n + 2 + name_length name)) none
 
-abbrev pub macroToken : Found → ℕ → Option Lexeme
-macroToken (Word k) n = some (token t.Macro n)
-macroToken Plain n = none
+abbrev pub macro_token : Found → ℕ → Option Lexeme
+macro_token (Word k) n = some (token t.Macro n)
+macro_token Plain n = none
 
 -- "`assert! panic! dbg! list!`"
 unfoldable pub macro : List ℕ → Option Lexeme
 macro r =
-    let n = nameLength r + 1 in
-    cond (isName r && begins (ascii "!") (drop (nameLength r) r)) (macroToken (word_of MACROS (take n r)) n) none
+    let n = name_length r + 1 in
+    cond (is_name r && begins (ascii "!") (drop (name_length r) r)) (macro_token (word_of MACROS (take n r)) n) none
 
 -- the keywords are the kinds from Pub on in the order of the words, of which `simc` is refused; behind it are the booleans; any other name is an identifier
-abbrev pub wordToken : Found → ℕ → Lexeme
-wordToken (Word k) n = cond (eqb (t.Pub + k) t.Simc) (refused refusal.Simc 0) (cond (ltb t.Simc (t.Pub + k)) (token t.Bool n) (token (t.Pub + k) n))
-wordToken Plain n = token t.Ident n
+abbrev pub word_token : Found → ℕ → Lexeme
+word_token (Word k) n = cond (eqb (t.Pub + k) t.Simc) (refused refusal.Simc 0) (cond (ltb t.Simc (t.Pub + k)) (token t.Bool n) (token (t.Pub + k) n))
+word_token Plain n = token t.Ident n
 
 unfoldable pub word : List ℕ → Option Lexeme
-word r = cond (isName r) (some (wordToken (word_of KEYWORDS (take (nameLength r) r)) (nameLength r))) none
+word r = cond (is_name r) (some (word_token (word_of KEYWORDS (take (name_length r) r)) (name_length r))) none
 
 -- ---- digits
 
@@ -122,13 +122,13 @@ digits base kind n r =
 
 -- "`0x` digits": kind 29; "`0b` digits": kind 30; decimal: kind 28
 unfoldable pub hexadecimal : List ℕ → Option Lexeme
-hexadecimal r = cond (begins (ascii "0x") r) (digits hexDigits t.HexLiteral 2 r) none
+hexadecimal r = cond (begins (ascii "0x") r) (digits hex_digits t.HexLiteral 2 r) none
 
 unfoldable pub binary : List ℕ → Option Lexeme
-binary r = cond (begins (ascii "0b") r) (digits binaryDigits t.BinLiteral 2 r) none
+binary r = cond (begins (ascii "0b") r) (digits binary_digits t.BinLiteral 2 r) none
 
 unfoldable pub decimal : List ℕ → Option Lexeme
-decimal r = digits decimalDigits t.DecLiteral 0 r
+decimal r = digits decimal_digits t.DecLiteral 0 r
 
 -- ---- marks
 
@@ -153,20 +153,20 @@ mark (m ∷ ms) r = cond (begins (ascii m.text) r) (some (token m.kind (length (
 -- ---- the lexeme at the front of a text, and all of them
 
 -- "a byte over 127", and "another byte starts no lexeme"
-unfoldable pub noLexeme : ℕ → Lexeme
-noLexeme b = cond (ltb 127 b) (refused refusal.NotAscii 0) (refused refusal.NoLexeme 0)
+unfoldable pub no_lexeme : ℕ → Lexeme
+no_lexeme b = cond (ltb 127 b) (refused refusal.NotAscii 0) (refused refusal.NoLexeme 0)
 
 -- "Tried in order: trivia; `jet::`, `witness::` or `param::` with a name, no gap; `assert! panic! dbg! list!`; `0x` digits; `0b` digits; decimal;
 -- a word; a mark, the longer first."
 abbrev pub trials : List (List ℕ → Option Lexeme)
-trials = space ∷ lineComment ∷ blockComment ∷ qualified ∷ macro ∷ hexadecimal ∷ binary ∷ decimal ∷ word ∷ mark marks ∷ []
+trials = space ∷ line_comment ∷ block_comment ∷ qualified ∷ macro ∷ hexadecimal ∷ binary ∷ decimal ∷ word ∷ mark marks ∷ []
 
 abbrev pub first_of : List (List ℕ → Option Lexeme) → List ℕ → Lexeme → Lexeme
 first_of [] r y = y
-first_of (f ∷ fs) r y = f r orElse first_of fs r y
+first_of (f ∷ fs) r y = f r or_else first_of fs r y
 
 unfoldable pub lexeme : List ℕ → Lexeme
-lexeme r = first_of trials r (noLexeme (first r))
+lexeme r = first_of trials r (no_lexeme (first r))
 
 -- "kind [..], start, end (the byte after)"
 pub record Token : Type 0 where
@@ -177,23 +177,23 @@ pub record Token : Type 0 where
 -- the tokens of a text, or its first refusal by number and place
 pub data Lexemes : Type 0 where
   tokens : List Token → Lexemes
-  refusedAt : ℕ → ℕ → Lexemes
+  refused_at : ℕ → ℕ → Lexemes
 
-abbrev pub with-token : Token → Lexemes → Lexemes
-with-token t (tokens ts) = tokens (t ∷ ts)
-with-token t (refusedAt c p) = refusedAt c p
+abbrev pub with_token : Token → Lexemes → Lexemes
+with_token t (tokens ts) = tokens (t ∷ ts)
+with_token t (refused_at c p) = refused_at c p
 
 -- what the lexeme at place i adds; go gives the rest behind so many bytes
 abbrev pub add : Lexeme → ℕ → (ℕ → Lexemes) → Lexemes
-add (token k n) i go = with-token (record { kind = k; start = i; end = i + n }) (go n)
+add (token k n) i go = with_token (record { kind = k; start = i; end = i + n }) (go n)
 add (trivia n) i go = go n
-add (refused c n) i go = refusedAt c (i + n)
+add (refused c n) i go = refused_at c (i + n)
 
 -- the lexemes of a text at place i, behind the k bytes that are still part of the last one
-unfoldable pub lexemesFrom : List ℕ → ℕ → ℕ → Lexemes
-lexemesFrom [] i k = tokens []
-lexemesFrom (b ∷ r) i zero = add (lexeme (b ∷ r)) i (λ n. lexemesFrom r (i + 1) (n - 1))
-lexemesFrom (b ∷ r) i (suc k) = lexemesFrom r (i + 1) k
+unfoldable pub lexemes_from : List ℕ → ℕ → ℕ → Lexemes
+lexemes_from [] i k = tokens []
+lexemes_from (b ∷ r) i zero = add (lexeme (b ∷ r)) i (λ n. lexemes_from r (i + 1) (n - 1))
+lexemes_from (b ∷ r) i (suc k) = lexemes_from r (i + 1) k
 
 unfoldable pub lexemes : List ℕ → Lexemes
-lexemes draft = lexemesFrom draft 0 0
+lexemes draft = lexemes_from draft 0 0

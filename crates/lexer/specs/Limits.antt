@@ -4,9 +4,9 @@ use Rattle.std.specs.Prelude.{Bool, cond, ◌||◌, List, [], ◌∷◌, ◌++�
 use Rattle.std.proofs.Math.Option.{Option, none, some}
 use Rattle.text.specs.Answers.{Answer, accepted, refused}
 use Rattle.text.specs.Refusals as refusal
-use Rattle.text.specs.Widths.{tokWide}
+use Rattle.text.specs.Widths.{tok_wide}
 use Rattle.lexer.specs.Classes as t
-use Rattle.lexer.specs.Lexemes.{Token, Lexemes, tokens, refusedAt, lexemes}
+use Rattle.lexer.specs.Lexemes.{Token, Lexemes, tokens, refused_at, lexemes}
 use Rattle.lexer.specs.declared.Lexed.{Lexed}
 use Rattle.lexer.specs.declared.Lexed.TheVariants.{Tokens, Refused}
 
@@ -16,48 +16,48 @@ pub record Limits : Type 0 where
   pub tokens : ℕ
 
 -- "draft over 16,384 bytes"
-abbrev pub draftBytes : ℕ
-draftBytes = 16384
+abbrev pub draft_bytes : ℕ
+draft_bytes = 16384
 
 -- "over 2,048 tokens"
-abbrev pub draftTokens : ℕ
-draftTokens = 2048
+abbrev pub draft_tokens : ℕ
+draft_tokens = 2048
 
 -- "over 48 brackets open"
-abbrev pub mostOpen : ℕ
-mostOpen = 48
+abbrev pub most_open : ℕ
+most_open = 48
 
 -- "over 8 `match` tokens in a row"
-abbrev pub mostInRow : ℕ
-mostInRow = 8
+abbrev pub most_in_row : ℕ
+most_in_row = 8
 
 -- "each of `( [ { <` adds one and each of `) ] } >` takes one off, never below 0"
-unfoldable pub depthAfter : ℕ → ℕ → ℕ
-depthAfter k d =
+unfoldable pub depth_after : ℕ → ℕ → ℕ
+depth_after k d =
     cond (eqb k t.LParen || eqb k t.LBracket || eqb k t.LBrace || eqb k t.LAngle) (d + 1)
     (cond (eqb k t.RParen || eqb k t.RBracket || eqb k t.RBrace || eqb k t.RAngle) (d - 1)
     d)
 
-unfoldable pub rowAfter : ℕ → ℕ → ℕ
-rowAfter k m = cond (eqb k t.Match) (m + 1) 0
+unfoldable pub row_after : ℕ → ℕ → ℕ
+row_after k m = cond (eqb k t.Match) (m + 1) 0
 
 abbrev pub passes : ℕ → ℕ → Bool
-passes d m = ltb mostOpen d || ltb mostInRow m
+passes d m = ltb most_open d || ltb most_in_row m
 
 -- "over 48 brackets open, or over 8 `match` tokens in a row": the token that passes it
-unfoldable pub tooDeep : ℕ → ℕ → List Token → Option ℕ
-tooDeep d m [] = none
-tooDeep d m (t ∷ ts) =
-    let d' = depthAfter t.kind d in
-    let m' = rowAfter t.kind m in
-    cond (passes d' m') (some t.start) (tooDeep d' m' ts)
+unfoldable pub first_too_deep : ℕ → ℕ → List Token → Option ℕ
+first_too_deep d m [] = none
+first_too_deep d m (t ∷ ts) =
+    let d' = depth_after t.kind d in
+    let m' = row_after t.kind m in
+    cond (passes d' m') (some t.start) (first_too_deep d' m' ts)
 
 -- how many tokens fit: the limit, or "a third of the token buffer's words" if that is less
 unfoldable pub room : Limits → ℕ → ℕ
-room l size = min l.tokens (size / tokWide)
+room l size = min l.tokens (size / tok_wide)
 
-abbrev pub noToken : Token
-noToken = record { kind = 0; start = 0; end = 0 }
+abbrev pub no_token : Token
+no_token = record { kind = 0; start = 0; end = 0 }
 
 -- The paper's answer for each case of `Lexed`, as far as rows 1 to 7 decide it: `accepted n 0` says that none of them applies; there are no records yet.
 abbrev pub meant : Lexed → Answer
@@ -69,37 +69,37 @@ deep none n = accepted n 0
 deep (some p) n = refused refusal.TooDeep p
 
 -- the refusals of the bytes, then too many tokens for the r that fit, then too deep
-abbrev pub judgedIn : ℕ → Lexemes → Answer
-judgedIn r (refusedAt c p) = refused c p
-judgedIn r (tokens ts) = cond (ltb r (length ts)) (refused refusal.TooMany (get_or ts r noToken).start) (deep (tooDeep 0 0 ts) (length ts))
+abbrev pub judged_in : ℕ → Lexemes → Answer
+judged_in r (refused_at c p) = refused c p
+judged_in r (tokens ts) = cond (ltb r (length ts)) (refused refusal.TooMany (get_or ts r no_token).start) (deep (first_too_deep 0 0 ts) (length ts))
 
 abbrev pub judged : Limits → ℕ → Lexemes → Answer
-judged l size = judgedIn (room l size)
+judged l size = judged_in (room l size)
 
 -- the answer for a draft and a token buffer of so many words
-unfoldable pub lexedOf : Limits → List ℕ → ℕ → Answer
-lexedOf l draft size = cond (ltb l.bytes (length draft)) (refused refusal.TooLong l.bytes) (judged l size (lexemes draft))
+unfoldable pub lexed_of : Limits → List ℕ → ℕ → Answer
+lexed_of l draft size = cond (ltb l.bytes (length draft)) (refused refusal.TooLong l.bytes) (judged l size (lexemes draft))
 
 -- "A token is three u32 words: kind .., start, end"
-unfoldable pub tokenWords : List Token → List ℕ
-tokenWords [] = []
-tokenWords (t ∷ ts) = t.kind ∷ t.start ∷ t.end ∷ tokenWords ts
+unfoldable pub token_words : List Token → List ℕ
+token_words [] = []
+token_words (t ∷ ts) = t.kind ∷ t.start ∷ t.end ∷ token_words ts
 
-abbrev pub tokensOf : Lexemes → List Token
-tokensOf (tokens ts) = ts
-tokensOf (refusedAt c p) = []
+abbrev pub tokens_of : Lexemes → List Token
+tokens_of (tokens ts) = ts
+tokens_of (refused_at c p) = []
 
 -- what the buffer holds: the tokens and zeros behind them; on a refusal zeros alone
 abbrev pub content : Answer → List Token → ℕ → List ℕ
-content (accepted n m) ts size = tokenWords ts ++ replicate (size - tokWide * length ts) 0
+content (accepted n m) ts size = token_words ts ++ replicate (size - tok_wide * length ts) 0
 content (refused c p) ts size = replicate size 0
 
-unfoldable pub bufferOf : Limits → List ℕ → ℕ → List ℕ
-bufferOf l draft size = content (lexedOf l draft size) (tokensOf (lexemes draft)) size
+unfoldable pub buffer_of : Limits → List ℕ → ℕ → List ℕ
+buffer_of l draft size = content (lexed_of l draft size) (tokens_of (lexemes draft)) size
 
-abbrev pub limitsOf : ℕ → ℕ → Limits
-limitsOf b t = record { bytes = b; tokens = t }
+abbrev pub limits_of : ℕ → ℕ → Limits
+limits_of b t = record { bytes = b; tokens = t }
 
 -- the limits of a draft
-abbrev pub draftLimits : Limits
-draftLimits = limitsOf draftBytes draftTokens
+abbrev pub draft_limits : Limits
+draft_limits = limits_of draft_bytes draft_tokens

@@ -9,19 +9,19 @@ use Rattle.std.proofs.Common.{◌∙◌, ap, add-zero, ltb-true, length-take-le,
 use Prim.Native.Nat.{ℕ, suc, ◌+◌, ◌≤◌, ◌<◌}
 use native.Mathlib.Omega.{arith}
 use Rattle.std.proofs.Math.ListN.{drop, length-drop}
-use Rattle.text.specs.Ascii.{ascii, asciiFrom}
+use Rattle.text.specs.Ascii.{ascii, ascii_from}
 use Rattle.text.specs.Counts.{more}
 use Rattle.text.specs.Refusals as refusal
 use Rattle.text.specs.Same.{differ}
 use Rattle.text.specs.Lists.{has}
 use Rattle.utf8.specs.Laws.{bad-place}
-use Rattle.utf8.specs.Utf8.{badAt}
+use Rattle.utf8.specs.Utf8.{bad_at}
 use Rattle.words.specs.Words.{KEYWORDS, MACROS, MODULE_RESERVED, word_of}
 use Rattle.words.specs.declared.Found.{Found}
 use Rattle.words.specs.declared.Found.TheVariants.{Word, Plain}
 use Rattle.lexer.specs.Classes as t
-use Rattle.lexer.specs.Chars.{Range, among, whitespace, lineEnds, binaryDigits, decimalDigits, hexDigits, underscore, nameStarts, nameBytes, first, run, begins}
-use Rattle.lexer.specs.Lexemes.{Lexeme, token, trivia, refused, space, checked, comment, lineComment, Inside, closed, within, inside, onward, closing, block, blockComment, nameLength, isName, moduleToken, qualified, macroToken, macro, wordToken, word, digits, hexadecimal, binary, decimal, Mark, marks, mark, noLexeme, trials, lexeme}
+use Rattle.lexer.specs.Chars.{Range, among, whitespace, line_ends, binary_digits, decimal_digits, hex_digits, underscore, name_starts, name_bytes, first, run, begins}
+use Rattle.lexer.specs.Lexemes.{Lexeme, token, trivia, refused, space, checked, comment, line_comment, Inside, closed, within, inside, onward, closing, block, block_comment, name_length, is_name, module_token, qualified, macro_token, macro, word_token, word, digits, hexadecimal, binary, decimal, Mark, marks, mark, no_lexeme, trials, lexeme}
 use Rattle.lexer.specs.Trials.{Finds, nil, ◌&◌, cond-if, try-if, both_left, both_right, first_finds}
 
 -- what is found in m bytes goes on, and stays inside; or it is a refusal of the bytes' family at one of the bytes
@@ -81,9 +81,9 @@ or_left false b e = differ e
 
 comment-moves : (n : ℕ) (r : List ℕ) → 1 ≤ n → n ≤ length r → Moves (length r) (comment n r)
 unfolding comment has
-comment-moves n r h k = go (badAt (take n r)) refl
+comment-moves n r h k = go (bad_at (take n r)) refl
   where
-    go : (o : Option ℕ) → badAt (take n r) ≡ o → Moves (length r) (checked o n)
+    go : (o : Option ℕ) → bad_at (take n r) ≡ o → Moves (length r) (checked o n)
     go none e = (h, k)
     go (some p) e = (tt, omega (arith, (bad-place (take n r) p e).within, length-take-le n r k))
 
@@ -106,53 +106,53 @@ closing-ends (b ∷ r) d p = go (inside d p b) (closing-ends r)
     go (within d p) ih = more-ends (length r) (closing r d p) (ih d p)
 
 module _ (r : List ℕ) where
-  line-moves : Finds (Moves (length r)) (lineComment r)
-  unfolding lineComment ascii asciiFrom
+  line-moves : Finds (Moves (length r)) (line_comment r)
+  unfolding line_comment ascii ascii_from
   line-moves =
       try-if (Moves (length r)) (begins (ascii "//") r) _
       (λ t. let h = begins-le (ascii "//") r t in
-      comment-moves (2 + run (λ b. not (among lineEnds b)) (drop 2 r)) r (omega arith) (run-behind (λ b. not (among lineEnds b)) 2 r h))
+      comment-moves (2 + run (λ b. not (among line_ends b)) (drop 2 r)) r (omega arith) (run-behind (λ b. not (among line_ends b)) 2 r h))
 
   block-moves : (o : Option ℕ) → 2 ≤ length r → Ends (length (drop 2 r)) o → Moves (length r) (block o r)
   unfolding has
   block-moves none h e = (tt, omega arith)
   block-moves (some n) h e = comment-moves (2 + n) r (omega arith) (omega (arith, length-drop 2 r))
 
-  blockComment-moves : Finds (Moves (length r)) (blockComment r)
-  unfolding blockComment ascii asciiFrom
-  blockComment-moves =
+  block_comment-moves : Finds (Moves (length r)) (block_comment r)
+  unfolding block_comment ascii ascii_from
+  block_comment-moves =
       try-if (Moves (length r)) (begins (ascii "/*") r) _
       (λ t. block-moves (closing (drop 2 r) 0 0) (begins-le (ascii "/*") r t) (closing-ends (drop 2 r) 0 0))
 
   -- ---- names and words
 
-  module-moves : (f : Found) (n : ℕ) → 1 ≤ n → n ≤ length r → Finds (Moves (length r)) (moduleToken f n)
+  module-moves : (f : Found) (n : ℕ) → 1 ≤ n → n ≤ length r → Finds (Moves (length r)) (module_token f n)
   module-moves (Word k) n h l = (h, l)
   module-moves Plain n h l = tt
 
   qualified-moves : Finds (Moves (length r)) (qualified r)
-  unfolding qualified nameLength ascii asciiFrom
+  unfolding qualified name_length ascii ascii_from
   qualified-moves =
-      let n = nameLength r in
+      let n = name_length r in
       let name = drop (n + 2) r in
-      try-if (Moves (length r)) (isName r && begins (ascii "::") (drop n r) && isName name) _
-      (λ t. let h = begins-behind (ascii "::") n r (omega arith) (both_right (isName r) (begins (ascii "::") (drop n r)) (both_left (isName r && begins (ascii "::") (drop n r)) (isName name) t)) in
-      let l = run-behind (among nameBytes) (n + 2) r h in
-      module-moves (word_of MODULE_RESERVED (take n r)) (n + 2 + nameLength name) (omega arith) l)
+      try-if (Moves (length r)) (is_name r && begins (ascii "::") (drop n r) && is_name name) _
+      (λ t. let h = begins-behind (ascii "::") n r (omega arith) (both_right (is_name r) (begins (ascii "::") (drop n r)) (both_left (is_name r && begins (ascii "::") (drop n r)) (is_name name) t)) in
+      let l = run-behind (among name_bytes) (n + 2) r h in
+      module-moves (word_of MODULE_RESERVED (take n r)) (n + 2 + name_length name) (omega arith) l)
 
-  macro-found : (f : Found) (n : ℕ) → 1 ≤ n → n ≤ length r → Finds (Moves (length r)) (macroToken f n)
+  macro-found : (f : Found) (n : ℕ) → 1 ≤ n → n ≤ length r → Finds (Moves (length r)) (macro_token f n)
   macro-found (Word k) n h l = (h, l)
   macro-found Plain n h l = tt
 
   macro-moves : Finds (Moves (length r)) (macro r)
-  unfolding macro ascii asciiFrom
+  unfolding macro ascii ascii_from
   macro-moves =
-      let n = nameLength r + 1 in
-      try-if (Moves (length r)) (isName r && begins (ascii "!") (drop (nameLength r) r)) _
-      (λ t. let h = begins-behind (ascii "!") (nameLength r) r (omega arith) (both_right (isName r) (begins (ascii "!") (drop (nameLength r) r)) t) in
+      let n = name_length r + 1 in
+      try-if (Moves (length r)) (is_name r && begins (ascii "!") (drop (name_length r) r)) _
+      (λ t. let h = begins-behind (ascii "!") (name_length r) r (omega arith) (both_right (is_name r) (begins (ascii "!") (drop (name_length r) r)) t) in
       macro-found (word_of MACROS (take n r)) n (omega arith) h)
 
-  word-found : (f : Found) (n : ℕ) → 1 ≤ n → n ≤ length r → Moves (length r) (wordToken f n)
+  word-found : (f : Found) (n : ℕ) → 1 ≤ n → n ≤ length r → Moves (length r) (word_token f n)
   unfolding has
   word-found (Word k) n h l =
       cond-if (Moves (length r)) (eqb (t.Pub + k) t.Simc) (λ _. (tt, omega arith))
@@ -168,12 +168,12 @@ module _ (r : List ℕ) where
       (λ _. let g = run-behind (λ b. among base b || among underscore b) n r l in (omega arith, g))
 
   hexadecimal-moves : Finds (Moves (length r)) (hexadecimal r)
-  unfolding hexadecimal ascii asciiFrom
-  hexadecimal-moves = try-if (Moves (length r)) (begins (ascii "0x") r) _ (λ e. digits-moves hexDigits t.HexLiteral 2 (omega arith) (begins-le (ascii "0x") r e))
+  unfolding hexadecimal ascii ascii_from
+  hexadecimal-moves = try-if (Moves (length r)) (begins (ascii "0x") r) _ (λ e. digits-moves hex_digits t.HexLiteral 2 (omega arith) (begins-le (ascii "0x") r e))
 
   binary-moves : Finds (Moves (length r)) (binary r)
-  unfolding binary ascii asciiFrom
-  binary-moves = try-if (Moves (length r)) (begins (ascii "0b") r) _ (λ e. digits-moves binaryDigits t.BinLiteral 2 (omega arith) (begins-le (ascii "0b") r e))
+  unfolding binary ascii ascii_from
+  binary-moves = try-if (Moves (length r)) (begins (ascii "0b") r) _ (λ e. digits-moves binary_digits t.BinLiteral 2 (omega arith) (begins-le (ascii "0b") r e))
 
   -- ---- marks
 
@@ -191,11 +191,11 @@ module _ (r : List ℕ) where
       (λ _. mark-moves ms (both_right (ltb 0 (length (ascii m.text))) (full ms) e))
 
   marks-full : full marks ≡ true
-  unfolding marks ascii asciiFrom
+  unfolding marks ascii ascii_from
   marks-full = refl
 
-  none_moves : (b : ℕ) → 1 ≤ length r → Moves (length r) (noLexeme b)
-  unfolding noLexeme has
+  none_moves : (b : ℕ) → 1 ≤ length r → Moves (length r) (no_lexeme b)
+  unfolding no_lexeme has
   none_moves b h = cond-if (Moves (length r)) (ltb 127 b) (λ _. (tt, h)) (λ _. (tt, h))
 
 -- ---- the trials that look at the first byte
@@ -208,23 +208,23 @@ module _ (b : ℕ) (r : List ℕ) where
   decimal-moves : Finds (Moves (length (b ∷ r))) (decimal (b ∷ r))
   unfolding decimal digits
   decimal-moves =
-      let q : ℕ → Bool = λ x. among decimalDigits x || among underscore x in
-      try-if (Moves (suc (length r))) (among decimalDigits b) _
-      (λ t. let h = run-first q b r (or_left (among decimalDigits b) (among underscore b) t) in
+      let q : ℕ → Bool = λ x. among decimal_digits x || among underscore x in
+      try-if (Moves (suc (length r))) (among decimal_digits b) _
+      (λ t. let h = run-first q b r (or_left (among decimal_digits b) (among underscore b) t) in
       let l = run-le q (b ∷ r) in
       (omega arith, omega arith))
 
   word-moves : Finds (Moves (length (b ∷ r))) (word (b ∷ r))
-  unfolding word nameLength nameBytes
+  unfolding word name_length name_bytes
   word-moves =
-      try-if (Moves (suc (length r))) (among nameStarts b) _
-      (λ t. word-found (b ∷ r) (word_of KEYWORDS (take (nameLength (b ∷ r)) (b ∷ r))) (nameLength (b ∷ r)) (run-first (among nameBytes) b r (among-append nameStarts decimalDigits b t)) (run-le (among nameBytes) (b ∷ r)))
+      try-if (Moves (suc (length r))) (among name_starts b) _
+      (λ t. word-found (b ∷ r) (word_of KEYWORDS (take (name_length (b ∷ r)) (b ∷ r))) (name_length (b ∷ r)) (run-first (among name_bytes) b r (among-append name_starts decimal_digits b t)) (run-le (among name_bytes) (b ∷ r)))
 
   -- the lexeme at the front of a text goes on, and stays inside
   pub lexeme-moves : Moves (length (b ∷ r)) (lexeme (b ∷ r))
   unfolding lexeme
   lexeme-moves =
       let s = b ∷ r in
-      first_finds (Moves (length s)) trials s (noLexeme b)
-      (space-moves & line-moves s & blockComment-moves s & qualified-moves s & macro-moves s & hexadecimal-moves s & binary-moves s & decimal-moves & word-moves & mark-moves s marks (marks-full s) & nil)
+      first_finds (Moves (length s)) trials s (no_lexeme b)
+      (space-moves & line-moves s & block_comment-moves s & qualified-moves s & macro-moves s & hexadecimal-moves s & binary-moves s & decimal-moves & word-moves & mark-moves s marks (marks-full s) & nil)
       (λ _. none_moves s b (omega arith))

@@ -5,19 +5,19 @@ use Rattle.std.proofs.Common.{ap, ap₂, eqb→eq}
 use Rattle.text.specs.Table.{first-of, second-of}
 use Rattle.lexer.specs.Lexemes.{Lexeme, token, trivia, refused}
 
-unfoldable pub sameLexeme : Lexeme → Lexeme → Bool
-sameLexeme (token k n) (token l m) = eqb k l && eqb n m
-sameLexeme (token k n) (trivia m) = false
-sameLexeme (token k n) (refused c m) = false
-sameLexeme (trivia n) (token l m) = false
-sameLexeme (trivia n) (trivia m) = eqb n m
-sameLexeme (trivia n) (refused c m) = false
-sameLexeme (refused c n) (token l m) = false
-sameLexeme (refused c n) (trivia m) = false
-sameLexeme (refused c n) (refused d m) = eqb c d && eqb n m
+unfoldable pub same_lexeme : Lexeme → Lexeme → Bool
+same_lexeme (token k n) (token l m) = eqb k l && eqb n m
+same_lexeme (token k n) (trivia m) = false
+same_lexeme (token k n) (refused c m) = false
+same_lexeme (trivia n) (token l m) = false
+same_lexeme (trivia n) (trivia m) = eqb n m
+same_lexeme (trivia n) (refused c m) = false
+same_lexeme (refused c n) (token l m) = false
+same_lexeme (refused c n) (trivia m) = false
+same_lexeme (refused c n) (refused d m) = eqb c d && eqb n m
 
-pub same-lexeme : (x y : Lexeme) → T (sameLexeme x y) → x ≡ y
-unfolding sameLexeme
+pub same-lexeme : (x y : Lexeme) → T (same_lexeme x y) → x ≡ y
+unfolding same_lexeme
 same-lexeme (token k n) (token l m) t = ap₂ token (eqb→eq k l (first-of (eqb k l) (eqb n m) t)) (eqb→eq n m (second-of (eqb k l) (eqb n m) t))
 same-lexeme (token k n) (trivia m) t = absurd t
 same-lexeme (token k n) (refused c m) t = absurd t

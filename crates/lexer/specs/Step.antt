@@ -13,39 +13,39 @@ pub record Numbers : Type 0 where
   pub kind : ℕ
   pub next : ℕ
 
-abbrev pub goesOn : ℕ → ℕ → Numbers
-goesOn k e = record { number = 0; place = 0; kind = k; next = e }
+abbrev pub goes_on : ℕ → ℕ → Numbers
+goes_on k e = record { number = 0; place = 0; kind = k; next = e }
 
 abbrev pub stops : ℕ → ℕ → Numbers
 stops c p = record { number = c; place = p; kind = 0; next = 0 }
 
 -- those of each case of `Step`,
 abbrev pub numbers : Step → Numbers
-numbers (Token k e) = goesOn k e
-numbers (Trivia e) = goesOn 0 e
+numbers (Token k e) = goes_on k e
+numbers (Trivia e) = goes_on 0 e
 numbers (Refused c p) = stops c p
 numbers Nothing = stops 0 0
 
 -- and those that the lexeme at place i has.
-abbrev pub numbersFrom : Lexeme → ℕ → Numbers
-numbersFrom (token k n) i = goesOn k (i + n)
-numbersFrom (trivia n) i = goesOn 0 (i + n)
-numbersFrom (refused c n) i = stops c (i + n)
+abbrev pub numbers_from : Lexeme → ℕ → Numbers
+numbers_from (token k n) i = goes_on k (i + n)
+numbers_from (trivia n) i = goes_on 0 (i + n)
+numbers_from (refused c n) i = stops c (i + n)
 
 -- What a step at place i is to answer; there is nothing at the end of the draft and past it.
-unfoldable pub numbersAt : List ℕ → ℕ → Numbers
-numbersAt draft i = cond (ltb i (length draft)) (numbersFrom (lexeme (drop i draft)) i) (stops 0 0)
+unfoldable pub numbers_at : List ℕ → ℕ → Numbers
+numbers_at draft i = cond (ltb i (length draft)) (numbers_from (lexeme (drop i draft)) i) (stops 0 0)
 
 -- the lexeme at place i
-abbrev pub stepFrom : Lexeme → ℕ → Step
-stepFrom (token k n) i = Token k (i + n)
-stepFrom (trivia n) i = Trivia (i + n)
-stepFrom (refused c n) i = Refused c (i + n)
+abbrev pub step_from : Lexeme → ℕ → Step
+step_from (token k n) i = Token k (i + n)
+step_from (trivia n) i = Trivia (i + n)
+step_from (refused c n) i = Refused c (i + n)
 
 -- the lexeme that the draft has at place i
-abbrev pub lexemeAt : List ℕ → ℕ → Step
-lexemeAt draft i = stepFrom (lexeme (drop i draft)) i
+abbrev pub lexeme_at : List ℕ → ℕ → Step
+lexeme_at draft i = step_from (lexeme (drop i draft)) i
 
 -- what stands at place i: nothing at the end of the draft and past it
 unfoldable pub step_of : List ℕ → ℕ → Step
-step_of draft i = cond (ltb i (length draft)) (lexemeAt draft i) Nothing
+step_of draft i = cond (ltb i (length draft)) (lexeme_at draft i) Nothing

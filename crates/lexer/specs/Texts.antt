@@ -6,15 +6,15 @@ use Rattle.text.specs.Ascii.{ascii}
 use Rattle.text.specs.Part.{part_of}
 use Rattle.lexer.specs.Chars.{among, whitespace}
 use Rattle.lexer.specs.Class.{class_of}
-use Rattle.lexer.specs.Lexemes.{token, lexeme, Token, Lexemes, tokens, refusedAt, with-token}
+use Rattle.lexer.specs.Lexemes.{token, lexeme, Token, Lexemes, tokens, refused_at, with_token}
 
 -- "The raw text of a start and an end is handed back as that part of the caller's draft": the text of a token of a draft,
-unfoldable pub textIn : List ℕ → Token → List ℕ
-textIn draft t = part_of draft t.start t.end
+unfoldable pub text_in : List ℕ → Token → List ℕ
+text_in draft t = part_of draft t.start t.end
 
 -- and the class that it has there.
-unfoldable pub classIn : List ℕ → Token → ℕ
-classIn draft t = class_of t.kind (textIn draft t)
+unfoldable pub class_in : List ℕ → Token → ℕ
+class_in draft t = class_of t.kind (text_in draft t)
 
 -- The text is one lexeme, a token of this kind.
 pub record OneToken (kind : ℕ) (text : List ℕ) : Type 0 where
@@ -52,7 +52,7 @@ spaced kind text = record { kind = kind; text = text; between = ascii " " }
 
 -- a token of a draft, and then a space
 abbrev pub respaced : List ℕ → Token → Piece
-respaced draft t = spaced t.kind (textIn draft t)
+respaced draft t = spaced t.kind (text_in draft t)
 
 -- The draft that pieces are joined to,
 unfoldable pub joined : List Piece → List ℕ
@@ -60,19 +60,19 @@ joined [] = []
 joined (p ∷ ps) = p.text ++ (p.between ++ joined ps)
 
 -- and their tokens where it begins at place i.
-unfoldable pub tokensAt : ℕ → List Piece → List Token
-tokensAt i [] = []
-tokensAt i (p ∷ ps) = record { kind = p.kind; start = i; end = i + length p.text } ∷ tokensAt (i + length p.text + length p.between) ps
+unfoldable pub tokens_at : ℕ → List Piece → List Token
+tokens_at i [] = []
+tokens_at i (p ∷ ps) = record { kind = p.kind; start = i; end = i + length p.text } ∷ tokens_at (i + length p.text + length p.between) ps
 
 -- Tokens in front of the lexemes behind them: a refusal stays what it is.
-unfoldable pub with-tokens : List Token → Lexemes → Lexemes
-with-tokens [] x = x
-with-tokens (t ∷ ts) x = with-token t (with-tokens ts x)
+unfoldable pub with_tokens : List Token → Lexemes → Lexemes
+with_tokens [] x = x
+with_tokens (t ∷ ts) x = with_token t (with_tokens ts x)
 
 -- The same n bytes further on.
-abbrev pub movedToken : ℕ → Token → Token
-movedToken n t = record { kind = t.kind; start = n + t.start; end = n + t.end }
+abbrev pub moved_token : ℕ → Token → Token
+moved_token n t = record { kind = t.kind; start = n + t.start; end = n + t.end }
 
 abbrev pub moved : ℕ → Lexemes → Lexemes
-moved n (tokens ts) = tokens (map (movedToken n) ts)
-moved n (refusedAt c p) = refusedAt c (n + p)
+moved n (tokens ts) = tokens (map (moved_token n) ts)
+moved n (refused_at c p) = refused_at c (n + p)

@@ -2,7 +2,7 @@
 -- Assumes nothing.
 use Rattle.std.specs.Prelude.{Bool, true, false, cond, List, [], ◌∷◌, ◌≡◌, refl, ℕ}
 use Rattle.std.proofs.Math.Option.{Option, none, some}
-use Rattle.lexer.specs.Lexemes.{Lexeme, ◌orElse◌, first_of}
+use Rattle.lexer.specs.Lexemes.{Lexeme, ◌or_else◌, first_of}
 use Rattle.lexer.specs.Rows.{NoneFinds}
 pub use Rattle.text.specs.Table.{both_left, both_right}
 
@@ -32,7 +32,7 @@ pub first_finds : (P : Lexeme → Type 0) (fs : List (List ℕ → Option Lexeme
 first_finds P [] r y nil k = k tt
 first_finds P (f ∷ fs) r y (a & later) k = go (f r) refl a (first_finds P fs r y later)
   where
-    go : (o : Option Lexeme) → f r ≡ o → Finds P o → ((NoneFinds fs r → P y) → P (first_of fs r y)) → P (o orElse first_of fs r y)
+    go : (o : Option Lexeme) → f r ≡ o → Finds P o → ((NoneFinds fs r → P y) → P (first_of fs r y)) → P (o or_else first_of fs r y)
     go none e t rest = rest (λ n. k (e, n))
     go (some x) e t rest = t
 

@@ -4,24 +4,24 @@ use Rattle.std.specs.Prelude.{Bool, cond, not, ◌&&◌, ◌||◌, ℕ, leb}
 use Rattle.std.proofs.Math.Option.{Option, none, some}
 use Rattle.text.specs.Refusals as refusal
 use Rattle.lexer.specs.Chars.{is}
-use Rattle.lexer.specs.Lexemes.{inLine}
+use Rattle.lexer.specs.Lexemes.{in_line}
 use Rattle.lexer.specs.declared.Step.{Step}
 use Rattle.lexer.specs.declared.Step.TheVariants.{Refused}
 use Rattle.lexer.specs.declared.trivia.Edge.{Edge}
 use Rattle.lexer.specs.declared.trivia.Edge.TheVariants.{Opens, Closes, Neither}
 
 -- a byte up to 127 that does not end a line comment, and one that is of no mark of a block comment
-abbrev pub plainInLine : ℕ → Bool
-plainInLine b = leb b 127 && inLine b
+abbrev pub plain_in_line : ℕ → Bool
+plain_in_line b = leb b 127 && in_line b
 
-abbrev pub plainInBlock : ℕ → Bool
-plainInBlock b = leb b 127 && not (is "/" b || is "*" b)
+abbrev pub plain_in_block : ℕ → Bool
+plain_in_block b = leb b 127 && not (is "/" b || is "*" b)
 
 -- two bytes, one behind the other
 abbrev pub edge_of : ℕ → ℕ → Edge
 edge_of b c = cond (is "/" b && is "*" c) Opens (cond (is "*" b && is "/" c) Closes Neither)
 
 -- the block comment at i with a bad sequence at k, by how many bytes are left of it
-abbrev pub brokenOf : Option ℕ → ℕ → ℕ → Step
-brokenOf none i k = Refused refusal.Unclosed i
-brokenOf (some n) i k = Refused refusal.NotUtf8 k
+abbrev pub broken_of : Option ℕ → ℕ → ℕ → Step
+broken_of none i k = Refused refusal.Unclosed i
+broken_of (some n) i k = Refused refusal.NotUtf8 k

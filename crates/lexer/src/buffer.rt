@@ -1,6 +1,6 @@
 // The token buffer: `TOKEN_WORDS` words a token.
 ghost use Rattle.std.specs.Prelude.{ltb, ◌≡◌, ◌*◌, ◌≤◌, length};
-ghost use Rattle.text.specs.Widths.{tokWide};
+ghost use Rattle.text.specs.Widths.{tok_wide};
 ghost use Rattle.lexer.specs.Buffer.{put_at};
 
 use text::TOKEN_WORDS;
@@ -8,7 +8,7 @@ use text::TOKEN_WORDS;
 // Writes token number n and answers true, if it is below the room.
 #[inline(always)]
 pub(crate) fn put(out: &mut [u32], room: usize, n: usize, kind: u32, start: u32, end: u32) -> bool
-    requires { tokWide * room ≤ length out.old }
+    requires { tok_wide * room ≤ length out.old }
     ensures is_written { result ≡ ltb n room }
     ensures out_after { out.new ≡ put_at out.old room n kind start end }
 {

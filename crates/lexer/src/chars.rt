@@ -1,7 +1,7 @@
 // Bytes of a draft by their lexeme class, and runs of them.
 ghost use Rattle.std.specs.Prelude.{true, ◌≡◌, ◌+◌, ◌≤◌, ◌<◌, length, get_or, drop};
 ghost use Rattle.lexer.specs.Chars.{run};
-ghost use Rattle.lexer.specs.Bytes.{byteClass, inClasses, ClassTable};
+ghost use Rattle.lexer.specs.Bytes.{byte_class, in_classes, ClassTable};
 
 use crate::table::CLASSES;
 
@@ -14,7 +14,7 @@ pub(crate) fn class_table() -> [u8; 256]
 
 pub(crate) fn byte_class(classes: &[u8; 256], b: u8) -> u8
     requires { ClassTable classes.now }
-    ensures { result ≡ byteClass b }
+    ensures { result ≡ byte_class b }
 {
     classes[b as usize]
 }
@@ -23,7 +23,7 @@ pub(crate) fn byte_class(classes: &[u8; 256], b: u8) -> u8
 pub(crate) fn run_end(classes: &[u8; 256], s: &[u8], i: usize, least: u8, most: u8) -> usize
     requires class_table { ClassTable classes.now }
     requires i_in_bounds { i ≤ length s.now }
-    ensures { result ≡ i + run (inClasses least most) (drop i s.now) }
+    ensures { result ≡ i + run (in_classes least most) (drop i s.now) }
 {
     let mut j = i;
     while j < s.len() {
@@ -43,8 +43,8 @@ pub(crate) fn run_end(classes: &[u8; 256], s: &[u8], i: usize, least: u8, most: 
 #[inline(always)]
 pub(crate) fn rest_end(classes: &[u8; 256], s: &[u8], i: usize, least: u8, most: u8) -> usize
     requires class_table { ClassTable classes.now }
-    requires i_in_run { (i < length s.now) × (inClasses least most (get_or s.now i 0) ≡ true) }
-    ensures { result ≡ i + run (inClasses least most) (drop i s.now) }
+    requires i_in_run { (i < length s.now) × (in_classes least most (get_or s.now i 0) ≡ true) }
+    ensures { result ≡ i + run (in_classes least most) (drop i s.now) }
 {
     run_end(classes, s, i + 1, least, most)
 }

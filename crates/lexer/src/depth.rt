@@ -1,7 +1,7 @@
 // Brackets open and `match` tokens in a row, counted while lexing: refusal 7 is found in the same pass as the tokens.
 ghost use Rattle.std.specs.Prelude.{◌≡◌, ◌+◌, ◌-◌, ◌≤◌};
-ghost use Rattle.lexer.specs.Limits.{mostOpen, depthAfter, rowAfter};
-ghost use Rattle.lexer.specs.Nesting.{within, past, isPast, counted, nestAfter, outermost};
+ghost use Rattle.lexer.specs.Limits.{most_open, depth_after, row_after};
+ghost use Rattle.lexer.specs.Nesting.{within, past, is_past, counted, nest_after, outermost};
 
 use crate::classes as class;
 
@@ -32,7 +32,7 @@ pub(crate) fn outside() -> Nest
 
 // Whether a limit is passed.
 pub(crate) fn passed(nest: Nest) -> bool
-    ensures { result ≡ isPast nest }
+    ensures { result ≡ is_past nest }
 {
     nest.depth > MOST_OPEN
 }
@@ -50,7 +50,7 @@ fn passing(start: usize) -> Nest
 
 // Behind a bracket that opens.
 fn opened(nest: Nest, start: usize) -> Nest
-    requires { nest.depth ≤ mostOpen }
+    requires { nest.depth ≤ most_open }
     ensures { result ≡ counted (nest.depth + 1) 0 start nest.place }
 {
     if nest.depth == MOST_OPEN {
@@ -83,7 +83,7 @@ fn closed(nest: Nest) -> Nest
 
 // Behind `match`.
 fn matched(nest: Nest, start: usize) -> Nest
-    requires { nest.depth ≤ mostOpen }
+    requires { nest.depth ≤ most_open }
     ensures { result ≡ counted nest.depth (nest.row + 1) start nest.place }
 {
     if nest.row >= MOST_IN_ROW {
@@ -109,8 +109,8 @@ fn ended(nest: Nest) -> Nest
 
 // Behind a bracket or `match`, where no limit is passed.
 fn count_one(nest: Nest, kind: u32, start: usize) -> Nest
-    requires { nest.depth ≤ mostOpen }
-    ensures { result ≡ counted (depthAfter kind nest.depth) (rowAfter kind nest.row) start nest.place }
+    requires { nest.depth ≤ most_open }
+    ensures { result ≡ counted (depth_after kind nest.depth) (row_after kind nest.row) start nest.place }
 {
     match kind {
         class::LPAREN => opened(nest, start),
@@ -128,7 +128,7 @@ fn count_one(nest: Nest, kind: u32, start: usize) -> Nest
 
 // Behind a bracket or `match`. Once a limit is passed, nothing is counted any longer: the first token that did is the refused one.
 fn count_on(nest: Nest, kind: u32, start: usize) -> Nest
-    ensures { result ≡ nestAfter nest kind start }
+    ensures { result ≡ nest_after nest kind start }
 {
     if nest.depth > MOST_OPEN {
         return ended(nest);
@@ -139,7 +139,7 @@ fn count_on(nest: Nest, kind: u32, start: usize) -> Nest
 // Behind one token more. Names and numbers, the most frequent, have kinds behind those of brackets, so one test sets them apart.
 #[inline(always)]
 pub(crate) fn nest_after(nest: Nest, kind: u32, start: usize) -> Nest
-    ensures { result ≡ nestAfter nest kind start }
+    ensures { result ≡ nest_after nest kind start }
 {
     if kind > class::RANGLE {
         return ended(nest);

@@ -1,8 +1,8 @@
 // What most of a draft is made of: names, keywords, numbers, marks and whitespace. Nothing is called here that is not a part of the lexing loop, so the
 // compiler knows in each of its ways what was found there.
 ghost use Rattle.std.specs.Prelude.{true, cond, eqb, ◌≡◌, ◌+◌, ◌<◌, length, get_or};
-ghost use Rattle.lexer.specs.Chars.{among, decimalDigits, nameStarts};
-ghost use Rattle.lexer.specs.Bytes.{byteClass, inClasses, ClassTable};
+ghost use Rattle.lexer.specs.Chars.{among, decimal_digits, name_starts};
+ghost use Rattle.lexer.specs.Bytes.{byte_class, in_classes, ClassTable};
 ghost use Rattle.lexer.specs.Bytes as byte;
 ghost use Rattle.lexer.specs.Places.{IfAny};
 
@@ -13,7 +13,7 @@ use text::peek;
 // A name behind which neither `!` nor `::` stands.
 fn plain_name(classes: &[u8; 256], s: &[u8], i: usize) -> Option<Step>
     requires class_table { ClassTable classes.now }
-    requires i_in_bounds { (i < length s.now) × (among nameStarts (get_or s.now i 0) ≡ true) × (inClasses byte.Underscore byte.Letter (get_or s.now i 0) ≡ true) }
+    requires i_in_bounds { (i < length s.now) × (among name_starts (get_or s.now i 0) ≡ true) × (in_classes byte.Underscore byte.Letter (get_or s.now i 0) ≡ true) }
     ensures { IfAny s.now i result }
 {
     let e = rest_end(classes, s, i, byte::UNDERSCORE, byte::LETTER);
@@ -32,7 +32,7 @@ fn plain_name(classes: &[u8; 256], s: &[u8], i: usize) -> Option<Step>
 // A number that does not begin with 0.
 fn plain_number(classes: &[u8; 256], s: &[u8], i: usize) -> Option<Step>
     requires class_table { ClassTable classes.now }
-    requires i_in_bounds { (i < length s.now) × (among decimalDigits (get_or s.now i 0) ≡ true) }
+    requires i_in_bounds { (i < length s.now) × (among decimal_digits (get_or s.now i 0) ≡ true) }
     ensures { IfAny s.now i result }
 {
     if s[i] == b'0' {
@@ -64,7 +64,7 @@ fn one_or_two(s: &[u8], i: usize, one: u32, next: u8, two: u32) -> Step
 
 // A mark other than `->`; c is the class of the byte at i.
 fn plain_mark(s: &[u8], i: usize, c: u8) -> Option<Step>
-    requires { (i < length s.now) × (c ≡ byteClass (get_or s.now i 0)) × (byte.Letter < c) × (c < byte.Space) }
+    requires { (i < length s.now) × (c ≡ byte_class (get_or s.now i 0)) × (byte.Letter < c) × (c < byte.Space) }
     ensures { IfAny s.now i result }
 {
     if c >= byte::LPAREN {

@@ -9,7 +9,7 @@ ghost use Rattle.lexer.specs.Class.{class_of};
 ghost use Rattle.lexer.specs.ClassLaw.{ClassLaw};
 ghost use Rattle.lexer.specs.Texts.{OneToken};
 ghost use Rattle.lexer.specs.Lexemes.{lexemes};
-ghost use Rattle.lexer.specs.Limits.{draftLimits, meant, lexedOf, bufferOf, tokensOf, tokenWords};
+ghost use Rattle.lexer.specs.Limits.{draft_limits, meant, lexed_of, buffer_of, tokens_of, token_words};
 
 use words::{Found, Table};
 
@@ -51,16 +51,16 @@ pub enum Lexed {
 
 // Writes the tokens of the draft, `TOKEN_WORDS` words each, and zeros behind them; on a refusal every word is 0.
 pub fn lex(draft: &[u8], out: &mut [u32]) -> Lexed
-    ensures result_value { meant result ≡ lexedOf draftLimits draft.now (length out.old) }
-    ensures out_after { out.new ≡ bufferOf draftLimits draft.now (length out.old) }
+    ensures result_value { meant result ≡ lexed_of draft_limits draft.now (length out.old) }
+    ensures out_after { out.new ≡ buffer_of draft_limits draft.now (length out.old) }
 {
     limits::lex_within(draft, out, DRAFT_BYTES, DRAFT_TOKENS)
 }
 
 // As `lex`, for a caller that needs no zeros: the words behind the tokens stay; on a refusal the words may be anything.
 pub fn lex_front(draft: &[u8], out: &mut [u32]) -> Lexed
-    ensures result_value { meant result ≡ lexedOf draftLimits draft.now (length out.old) }
-    ensures held { Held (meant result) (tokenWords (tokensOf (lexemes draft.now))) out.old out.new }
+    ensures result_value { meant result ≡ lexed_of draft_limits draft.now (length out.old) }
+    ensures held { Held (meant result) (token_words (tokens_of (lexemes draft.now))) out.old out.new }
 {
     limits::lex_front_within(draft, out, DRAFT_BYTES, DRAFT_TOKENS)
 }

@@ -3,10 +3,10 @@ ghost use Rattle.std.specs.Prelude.{cond, ◌≡◌, ◌+◌, ◌*◌, ◌-◌, 
 ghost use Rattle.text.specs.Answers.{accepted, refused};
 ghost use Rattle.text.specs.Front.{Held};
 ghost use Rattle.text.specs.Refusals as refusal;
-ghost use Rattle.text.specs.Widths.{tokWide};
+ghost use Rattle.text.specs.Widths.{tok_wide};
 ghost use Rattle.lexer.specs.Lexemes.{lexemes};
-ghost use Rattle.lexer.specs.Limits.{limitsOf, meant, judgedIn, lexedOf, bufferOf, tokensOf, tokenWords};
-ghost use Rattle.lexer.specs.Nesting.{isPast};
+ghost use Rattle.lexer.specs.Limits.{limits_of, meant, judged_in, lexed_of, buffer_of, tokens_of, token_words};
+ghost use Rattle.lexer.specs.Nesting.{is_past};
 
 use crate::chars::class_table;
 use crate::depth::Nest;
@@ -28,7 +28,7 @@ fn first_over(n: usize, room: usize, start: usize, over: usize) -> usize
 
 // Too many tokens, then too deep; else the n tokens.
 fn count(room: usize, n: usize, over: usize, nest: Nest) -> Lexed
-    ensures { meant result ≡ cond (ltb room n) (refused refusal.TooMany over) (cond (isPast nest) (refused refusal.TooDeep nest.place) (accepted n 0)) }
+    ensures { meant result ≡ cond (ltb room n) (refused refusal.TooMany over) (cond (is_past nest) (refused refusal.TooDeep nest.place) (accepted n 0)) }
 {
     if room < n {
         return Lexed::Refused {
@@ -49,9 +49,9 @@ fn count(room: usize, n: usize, over: usize, nest: Nest) -> Lexed
 // Lexes the whole draft, in one pass: the refusals of the bytes, then too many tokens, then too deep. Tokens past the room are counted and not written.
 #[inline(never)]
 fn fill(draft: &[u8], out: &mut [u32], room: usize) -> Lexed
-    requires { (length draft.now < 2 ^ 32) × (tokWide * room ≤ length out.old) }
-    ensures result_value { meant result ≡ judgedIn room (lexemes draft.now) }
-    ensures held { Held (meant result) (tokenWords (tokensOf (lexemes draft.now))) out.old out.new }
+    requires { (length draft.now < 2 ^ 32) × (tok_wide * room ≤ length out.old) }
+    ensures result_value { meant result ≡ judged_in room (lexemes draft.now) }
+    ensures held { Held (meant result) (token_words (tokens_of (lexemes draft.now))) out.old out.new }
 {
     let classes = class_table();
     let mut at: usize = 0;
@@ -85,8 +85,8 @@ fn fill(draft: &[u8], out: &mut [u32], room: usize) -> Lexed
 // Writes the tokens of a draft of so many bytes and tokens at most, and leaves what is behind them.
 pub(crate) fn lex_front_within(draft: &[u8], out: &mut [u32], bytes: usize, tokens: usize) -> Lexed
     requires { bytes < 2 ^ 32 }
-    ensures result_value { meant result ≡ lexedOf (limitsOf bytes tokens) draft.now (length out.old) }
-    ensures held { Held (meant result) (tokenWords (tokensOf (lexemes draft.now))) out.old out.new }
+    ensures result_value { meant result ≡ lexed_of (limits_of bytes tokens) draft.now (length out.old) }
+    ensures held { Held (meant result) (token_words (tokens_of (lexemes draft.now))) out.old out.new }
 {
     if draft.len() > bytes {
         return Lexed::Refused {
@@ -101,8 +101,8 @@ pub(crate) fn lex_front_within(draft: &[u8], out: &mut [u32], bytes: usize, toke
 // The same with zeros behind the tokens; on a refusal every word is 0.
 pub(crate) fn lex_within(draft: &[u8], out: &mut [u32], bytes: usize, tokens: usize) -> Lexed
     requires { bytes < 2 ^ 32 }
-    ensures result_value { meant result ≡ lexedOf (limitsOf bytes tokens) draft.now (length out.old) }
-    ensures out_after { out.new ≡ bufferOf (limitsOf bytes tokens) draft.now (length out.old) }
+    ensures result_value { meant result ≡ lexed_of (limits_of bytes tokens) draft.now (length out.old) }
+    ensures out_after { out.new ≡ buffer_of (limits_of bytes tokens) draft.now (length out.old) }
 {
     let r = lex_front_within(draft, out, bytes, tokens);
     let Lexed::Tokens(n) = r else {

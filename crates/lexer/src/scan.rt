@@ -2,12 +2,12 @@
 ghost use Rattle.std.specs.Prelude.{true, ◌≡◌, ◌+◌, ◌≤◌, ◌<◌, length, get_or, drop};
 ghost use Rattle.std.proofs.Math.Option.{none};
 ghost use Rattle.words.specs.Words.{KEYWORDS};
-ghost use Rattle.lexer.specs.Chars.{among, decimalDigits, nameStarts};
+ghost use Rattle.lexer.specs.Chars.{among, decimal_digits, name_starts};
 ghost use Rattle.lexer.specs.Lexemes.{macro, qualified};
-ghost use Rattle.lexer.specs.Bytes.{byteClass, ClassTable};
+ghost use Rattle.lexer.specs.Bytes.{byte_class, ClassTable};
 ghost use Rattle.lexer.specs.Bytes as byte;
-ghost use Rattle.lexer.specs.Step.{numbers, numbersAt, lexemeAt, step_of};
-ghost use Rattle.lexer.specs.Places.{Named, Based, keywordAt, decimalAt};
+ghost use Rattle.lexer.specs.Step.{numbers, numbers_at, lexeme_at, step_of};
+ghost use Rattle.lexer.specs.Places.{Named, Based, keyword_at, decimal_at};
 
 use crate::chars::{byte_class, class_table, run_end};
 use crate::{Step, byte, classes as class, frequent, trivia};
@@ -16,7 +16,7 @@ use words::{Found, Table};
 
 fn starts_name(classes: &[u8; 256], b: u8) -> bool
     requires { ClassTable classes.now }
-    ensures { result ≡ among nameStarts b }
+    ensures { result ≡ among name_starts b }
 {
     let c = byte_class(classes, b);
     if c == byte::UNDERSCORE {
@@ -31,7 +31,7 @@ fn starts_name(classes: &[u8; 256], b: u8) -> bool
 // Keyword number k. Their kinds are PUB to SIMC in the order of the words; the last is refused, and the two words behind it are the booleans.
 fn keyword(k: usize, i: usize, e: usize) -> Step
     requires { k < length KEYWORDS }
-    ensures { result ≡ keywordAt k i e }
+    ensures { result ≡ keyword_at k i e }
 {
     let kind = class::PUB + k as u32;
     if kind == class::SIMC {
@@ -52,7 +52,7 @@ fn keyword(k: usize, i: usize, e: usize) -> Step
 // The name from i up to e, where it is neither qualified nor a macro.
 pub(crate) fn word(s: &[u8], i: usize, e: usize) -> Step
     requires { Named s.now i e × (qualified (drop i s.now) ≡ none) × (macro (drop i s.now) ≡ none) }
-    ensures { result ≡ lexemeAt s.now i }
+    ensures { result ≡ lexeme_at s.now i }
 {
     match words::which(Table::Keywords, &s[i..e]) {
         Found::Word(k) => keyword(k, i, e),
@@ -66,7 +66,7 @@ pub(crate) fn word(s: &[u8], i: usize, e: usize) -> Step
 // The name from i up to e, behind which `!` stands.
 fn macro_word(s: &[u8], i: usize, e: usize) -> Step
     requires { Named s.now i e × (get_or s.now e 0 ≡ 33) }
-    ensures { result ≡ lexemeAt s.now i }
+    ensures { result ≡ lexeme_at s.now i }
 {
     match words::word(Table::Macros, s, i, e + 1) {
         Found::Word(_) => Step::Token {
@@ -80,8 +80,8 @@ fn macro_word(s: &[u8], i: usize, e: usize) -> Step
 // The name from i up to e, behind which `::` and a name stand.
 fn module_word(classes: &[u8; 256], s: &[u8], i: usize, e: usize) -> Step
     requires class_table { ClassTable classes.now }
-    requires named { Named s.now i e × (get_or s.now e 0 ≡ 58) × (get_or s.now (e + 1) 0 ≡ 58) × (among nameStarts (get_or s.now (e + 2) 0) ≡ true) }
-    ensures { result ≡ lexemeAt s.now i }
+    requires named { Named s.now i e × (get_or s.now e 0 ≡ 58) × (get_or s.now (e + 1) 0 ≡ 58) × (among name_starts (get_or s.now (e + 2) 0) ≡ true) }
+    ensures { result ≡ lexeme_at s.now i }
 {
     match words::word(Table::ModuleReserved, s, i, e) {
         Found::Word(k) => Step::Token {
@@ -96,7 +96,7 @@ fn module_word(classes: &[u8; 256], s: &[u8], i: usize, e: usize) -> Step
 fn colon_word(classes: &[u8; 256], s: &[u8], i: usize, e: usize) -> Step
     requires class_table { ClassTable classes.now }
     requires named { Named s.now i e × (get_or s.now e 0 ≡ 58) }
-    ensures { result ≡ lexemeAt s.now i }
+    ensures { result ≡ lexeme_at s.now i }
 {
     if peek(s, e + 1) != b':' {
         return word(s, i, e);
@@ -110,8 +110,8 @@ fn colon_word(classes: &[u8; 256], s: &[u8], i: usize, e: usize) -> Step
 // What stands at the start of a name.
 fn name(classes: &[u8; 256], s: &[u8], i: usize) -> Step
     requires class_table { ClassTable classes.now }
-    requires i_in_bounds { (i < length s.now) × (among nameStarts (get_or s.now i 0) ≡ true) }
-    ensures { result ≡ lexemeAt s.now i }
+    requires i_in_bounds { (i < length s.now) × (among name_starts (get_or s.now i 0) ≡ true) }
+    ensures { result ≡ lexeme_at s.now i }
 {
     let e = run_end(classes, s, i, byte::UNDERSCORE, byte::LETTER);
     let b = peek(s, e);
@@ -127,7 +127,7 @@ fn name(classes: &[u8; 256], s: &[u8], i: usize) -> Step
 fn decimal(classes: &[u8; 256], s: &[u8], i: usize) -> Step
     requires class_table { ClassTable classes.now }
     requires i_in_bounds { i ≤ length s.now }
-    ensures { result ≡ decimalAt s.now i }
+    ensures { result ≡ decimal_at s.now i }
 {
     let e = run_end(classes, s, i, byte::UNDERSCORE, byte::DIGIT);
     Step::Token {
@@ -140,7 +140,7 @@ fn decimal(classes: &[u8; 256], s: &[u8], i: usize) -> Step
 fn based(classes: &[u8; 256], s: &[u8], i: usize, kind: u32, most: u8) -> Step
     requires class_table { ClassTable classes.now }
     requires based { Based s.now i kind most }
-    ensures { result ≡ lexemeAt s.now i }
+    ensures { result ≡ lexeme_at s.now i }
 {
     let c = byte_class(classes, peek(s, i + 2));
     if c == byte::UNDERSCORE {
@@ -158,8 +158,8 @@ fn based(classes: &[u8; 256], s: &[u8], i: usize, kind: u32, most: u8) -> Step
 // What stands at a digit.
 fn number(classes: &[u8; 256], s: &[u8], i: usize) -> Step
     requires class_table { ClassTable classes.now }
-    requires i_in_bounds { (i < length s.now) × (among decimalDigits (get_or s.now i 0) ≡ true) }
-    ensures { result ≡ lexemeAt s.now i }
+    requires i_in_bounds { (i < length s.now) × (among decimal_digits (get_or s.now i 0) ≡ true) }
+    ensures { result ≡ lexeme_at s.now i }
 {
     let b = s[i];
     if b != b'0' {
@@ -177,8 +177,8 @@ fn number(classes: &[u8; 256], s: &[u8], i: usize) -> Step
 
 // What stands at a mark, or at a byte that starts no lexeme; c is its class.
 fn mark(s: &[u8], i: usize, c: u8) -> Step
-    requires { (i < length s.now) × (c ≡ byteClass (get_or s.now i 0)) × (byte.Minus ≤ c) × (c ≤ byte.Other) }
-    ensures { result ≡ lexemeAt s.now i }
+    requires { (i < length s.now) × (c ≡ byte_class (get_or s.now i 0)) × (byte.Minus ≤ c) × (c ≤ byte.Other) }
+    ensures { result ≡ lexeme_at s.now i }
 {
     let next = peek(s, i + 1);
     if c == byte::MINUS {
@@ -232,8 +232,8 @@ fn mark(s: &[u8], i: usize, c: u8) -> Step
 // Whitespace, or a byte over 127; c is the class of the byte at i.
 fn blank(classes: &[u8; 256], s: &[u8], i: usize, c: u8) -> Step
     requires class_table { ClassTable classes.now }
-    requires i_in_bounds { (i < length s.now) × (c ≡ byteClass (get_or s.now i 0)) × (byte.Space ≤ c) }
-    ensures { result ≡ lexemeAt s.now i }
+    requires i_in_bounds { (i < length s.now) × (c ≡ byte_class (get_or s.now i 0)) × (byte.Space ≤ c) }
+    ensures { result ≡ lexeme_at s.now i }
 {
     if c > byte::LINE_END {
         return Step::Refused {
@@ -248,8 +248,8 @@ fn blank(classes: &[u8; 256], s: &[u8], i: usize, c: u8) -> Step
 // What stands at a letter, a digit or `_`; c is its class.
 fn name_or_number(classes: &[u8; 256], s: &[u8], i: usize, c: u8) -> Step
     requires class_table { ClassTable classes.now }
-    requires i_in_bounds { (i < length s.now) × (c ≡ byteClass (get_or s.now i 0)) × (c ≤ byte.Letter) }
-    ensures { result ≡ lexemeAt s.now i }
+    requires i_in_bounds { (i < length s.now) × (c ≡ byte_class (get_or s.now i 0)) × (c ≤ byte.Letter) }
+    ensures { result ≡ lexeme_at s.now i }
 {
     if c == byte::UNDERSCORE {
         return name(classes, s, i);
@@ -265,7 +265,7 @@ fn name_or_number(classes: &[u8; 256], s: &[u8], i: usize, c: u8) -> Step
 fn whatever(classes: &[u8; 256], s: &[u8], i: usize) -> Step
     requires class_table { ClassTable classes.now }
     requires i_in_bounds { i < length s.now }
-    ensures { result ≡ lexemeAt s.now i }
+    ensures { result ≡ lexeme_at s.now i }
 {
     let c = byte_class(classes, s[i]);
     if c <= byte::LETTER {
@@ -284,7 +284,7 @@ fn whatever(classes: &[u8; 256], s: &[u8], i: usize) -> Step
 fn rare(classes: &[u8; 256], s: &[u8], i: usize) -> Step
     requires class_table { ClassTable classes.now }
     requires i_in_bounds { i < length s.now }
-    ensures { result ≡ lexemeAt s.now i }
+    ensures { result ≡ lexeme_at s.now i }
 {
     whatever(classes, s, i)
 }
@@ -306,7 +306,7 @@ pub(crate) fn step_with(classes: &[u8; 256], draft: &[u8], at: usize) -> Step
 // The lexing step: what stands at a place of the draft.
 pub fn step(draft: &[u8], at: usize) -> Step
     ensures answer { result ≡ step_of draft.now at }
-    ensures numbers { numbers result ≡ numbersAt draft.now at }
+    ensures numbers { numbers result ≡ numbers_at draft.now at }
 {
     let classes = class_table();
     step_with(&classes, draft, at)

@@ -1,8 +1,8 @@
 // Comments: where one ends, and whether its bytes are well-formed UTF-8, both found in one pass over it.
 ghost use Rattle.std.specs.Prelude.{◌≡◌, ◌+◌, ◌≤◌, ◌<◌, length, get_or, drop};
 ghost use Rattle.lexer.specs.Lexemes.{closing};
-ghost use Rattle.lexer.specs.Step.{lexemeAt};
-ghost use Rattle.lexer.specs.Trivia.{plainInLine, plainInBlock, edge_of, brokenOf};
+ghost use Rattle.lexer.specs.Step.{lexeme_at};
+ghost use Rattle.lexer.specs.Trivia.{plain_in_line, plain_in_block, edge_of, broken_of};
 
 use crate::Step;
 use text::{peek, refusal};
@@ -17,7 +17,7 @@ pub(crate) enum Edge {
 
 // Whether a byte in a line comment is a sequence of its own and does not end the line. Almost every byte is so, and each loop asks this first.
 fn plain_in_line(b: u8) -> bool
-    ensures { result ≡ plainInLine b }
+    ensures { result ≡ plain_in_line b }
 {
     if b > b'\r' {
         return b <= utf8::LAST_ASCII;
@@ -30,7 +30,7 @@ fn plain_in_line(b: u8) -> bool
 
 // The same in a block comment, where it may be of no mark.
 fn plain_in_block(b: u8) -> bool
-    ensures { result ≡ plainInBlock b }
+    ensures { result ≡ plain_in_block b }
 {
     if b > b'/' {
         return b <= utf8::LAST_ASCII;
@@ -45,7 +45,7 @@ fn plain_in_block(b: u8) -> bool
 #[inline(never)]
 fn line(s: &[u8], i: usize) -> Step
     requires { (i + 1 < length s.now) × (get_or s.now i 0 ≡ 47) × (get_or s.now (i + 1) 0 ≡ 47) }
-    ensures { result ≡ lexemeAt s.now i }
+    ensures { result ≡ lexeme_at s.now i }
 {
     let mut j = i + 2;
     while j < s.len() {
@@ -94,7 +94,7 @@ fn edge_at(s: &[u8], j: usize) -> Edge
 // last byte alone closes nothing.
 fn broken(s: &[u8], i: usize, k: usize, inner: usize) -> Step
     requires { (k < length s.now) × (inner ≤ k) }
-    ensures { result ≡ brokenOf (closing (drop k s.now) inner 0) i k }
+    ensures { result ≡ broken_of (closing (drop k s.now) inner 0) i k }
 {
     let last = s.len() - 1;
     let mut j = k;
@@ -129,7 +129,7 @@ fn broken(s: &[u8], i: usize, k: usize, inner: usize) -> Step
 // The block comment at i. The last byte of the draft alone closes nothing, so the loop leaves it out and always has two bytes.
 fn block(s: &[u8], i: usize) -> Step
     requires { (i + 1 < length s.now) × (get_or s.now i 0 ≡ 47) × (get_or s.now (i + 1) 0 ≡ 42) }
-    ensures { result ≡ lexemeAt s.now i }
+    ensures { result ≡ lexeme_at s.now i }
 {
     let last = s.len() - 1;
     let mut j = i + 2;
@@ -174,7 +174,7 @@ fn block(s: &[u8], i: usize) -> Step
 // What stands at a `/`.
 pub(crate) fn slash(s: &[u8], i: usize) -> Step
     requires { (i < length s.now) × (get_or s.now i 0 ≡ 47) }
-    ensures { result ≡ lexemeAt s.now i }
+    ensures { result ≡ lexeme_at s.now i }
 {
     let b = peek(s, i + 1);
     if b == b'/' {

@@ -7,15 +7,15 @@ use native.Mathlib.Omega.{arith}
 use native.Mathlib.Numerals.{add-one}
 use lib.ListN.{get_or, set}
 use lib.Seq.{sets}
-use Rattle.text.specs.Ascii.{ascii, asciiFrom}
+use Rattle.text.specs.Ascii.{ascii, ascii_from}
 use Rattle.text.specs.Sets.{sets-next}
 use Rattle.text.specs.Table.{table_at}
-use Rattle.lines.specs.Hex.{upperHex, hex, hex-length, power, last_digits}
+use Rattle.lines.specs.Hex.{upper_hex, hex, hex-length, power, last_digits}
 use Rattle.lines.specs.declared.pairs.TheConstants.{PAIRS}
 
 -- The table's rule, computed over all of its entries: two to a number, its two digits.
 pairs-held : (k : ℕ) → k < 2 * power 2 → get_or PAIRS k 0 ≡ get_or (hex 2 (k / 2)) (k % 2) 0
-unfolding hex upperHex ascii asciiFrom
+unfolding hex upper_hex ascii ascii_from
 pairs-held = table_at (λ k. get_or (hex 2 (k / 2)) (k % 2) 0) PAIRS (2 * power 2) refl tt
 
 module _ (v : ℕ) where
@@ -35,6 +35,6 @@ module _ (v : ℕ) where
   pair-more n o at {p} e f h =
       let q : v / 16 / 16 ≡ v / power 2 = omega arith in
       let front = hex n (v / power 2) in
-      let d = get_or upperHex (v / 16 % 16) 0 in
+      let d = get_or upper_hex (v / 16 % 16) 0 in
       sets-next o front (hex 2 v) at p e f (omega (arith, hex-length n (v / power 2), h))
-      ∙ ap (sets o at) (sym (append_assoc front (d ∷ []) (get_or upperHex (v % 16) 0 ∷ [])) ∙ λ i. hex n (sym q i) ++ (d ∷ []) ++ (get_or upperHex (v % 16) 0 ∷ []))
+      ∙ ap (sets o at) (sym (append_assoc front (d ∷ []) (get_or upper_hex (v % 16) 0 ∷ [])) ∙ λ i. hex n (sym q i) ++ (d ∷ []) ++ (get_or upper_hex (v % 16) 0 ∷ []))

@@ -6,19 +6,19 @@ use Rattle.std.proofs.Math.Nat.{div-add-mod}
 use Rattle.text.specs.Ascii.{ascii}
 
 -- The digits, as bytes.
-unfoldable pub upperHex : List ℕ
-upperHex = ascii "0123456789ABCDEF"
+unfoldable pub upper_hex : List ℕ
+upper_hex = ascii "0123456789ABCDEF"
 
 -- A number in so many upper-case hexadecimal digits.
 unfoldable pub hex : ℕ → ℕ → List ℕ
 hex zero v = []
-hex (suc n) v = hex n (v / 16) ++ (get_or upperHex (v % 16) 0 ∷ [])
+hex (suc n) v = hex n (v / 16) ++ (get_or upper_hex (v % 16) 0 ∷ [])
 
 -- So many digits are so many bytes.
 pub hex-length : (n v : ℕ) → length (hex n v) ≡ n
 unfolding hex
 hex-length zero v = refl
-hex-length (suc n) v = let h = hex-length n (v / 16) in omega (arith, length-append (hex n (v / 16)) (get_or upperHex (v % 16) 0 ∷ []))
+hex-length (suc n) v = let h = hex-length n (v / 16) in omega (arith, length-append (hex n (v / 16)) (get_or upper_hex (v % 16) 0 ∷ []))
 
 -- How many numbers so many digits tell apart.
 abbrev pub power : ℕ → ℕ
@@ -33,7 +33,7 @@ above (suc n) q r =
     let a = mul_assoc 16 (power n) q in
     let d : (16 * power n * q + r) / 16 ≡ power n * q + r / 16 = omega (arith, a) in
     let m : (16 * power n * q + r) % 16 ≡ r % 16 = omega (arith, a) in
-    (λ i. hex n (d i) ++ (get_or upperHex (m i) 0 ∷ [])) ∙ ap (λ (l : List ℕ). l ++ (get_or upperHex (r % 16) 0 ∷ [])) (above n q (r / 16))
+    (λ i. hex n (d i) ++ (get_or upper_hex (m i) 0 ∷ [])) ∙ ap (λ (l : List ℕ). l ++ (get_or upper_hex (r % 16) 0 ∷ [])) (above n q (r / 16))
 
 -- a number is shown as what it is beyond a multiple of that many.
 pub last_digits : (n v : ℕ) → hex n (v % power n) ≡ hex n v

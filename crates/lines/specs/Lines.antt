@@ -2,45 +2,45 @@
 -- Assumes nothing.
 use Rattle.std.specs.Prelude.{List, [], ◌∷◌, ◌++◌, ◌≡◌, refl, ℕ, ◌+◌, ◌*◌, length}
 use Rattle.std.proofs.Common.{sym, ap, ap₂, ◌∙◌, add_comm, mul-zero, mul-suc, length-append}
-use Rattle.text.specs.Widths.{recWide}
+use Rattle.text.specs.Widths.{rec_wide}
 use Rattle.own.specs.Tree.{Rec}
-use Rattle.up.specs.Ways.{waysUp, rows}
+use Rattle.up.specs.Ways.{ways_up, rows}
 use Rattle.up.specs.Laws.{sevens-many}
 use Rattle.lines.specs.Form.{line_of, wide, line-wide}
 
 -- "kind (2 upper-case hexadecimal digits), start, end (4 each), low, high (8 each), size (4)"
-abbrev pub kindDigits : ℕ
-kindDigits = 2
+abbrev pub kind_digits : ℕ
+kind_digits = 2
 
-abbrev pub placeDigits : ℕ
-placeDigits = 4
+abbrev pub place_digits : ℕ
+place_digits = 4
 
-abbrev pub halfDigits : ℕ
-halfDigits = 8
+abbrev pub half_digits : ℕ
+half_digits = 8
 
 -- The form of a line before order 7: kind, start, end, low, high, size.
-abbrev pub sixWidths : List ℕ
-sixWidths = kindDigits ∷ placeDigits ∷ placeDigits ∷ halfDigits ∷ halfDigits ∷ placeDigits ∷ []
+abbrev pub six_widths : List ℕ
+six_widths = kind_digits ∷ place_digits ∷ place_digits ∷ half_digits ∷ half_digits ∷ place_digits ∷ []
 
 -- "Each listing line ends with it in four more digits after a space" (document 02, order 7): a field for each word of a record, the way up as the last.
 abbrev pub widths : List ℕ
-widths = sixWidths ++ (placeDigits ∷ [])
+widths = six_widths ++ (place_digits ∷ [])
 
-pub fields-counted : length widths ≡ recWide
+pub fields-counted : length widths ≡ rec_wide
 fields-counted = refl
 
 -- How many bytes a line has, in either form.
-abbrev pub lineBytes : ℕ
-lineBytes = wide widths
+abbrev pub line_bytes : ℕ
+line_bytes = wide widths
 
-abbrev pub sixBytes : ℕ
-sixBytes = wide sixWidths
+abbrev pub six_bytes : ℕ
+six_bytes = wide six_widths
 
 -- "36 times the lines", and now "41 bytes in all": the widths come to the papers' figures.
-pub six-bytes : sixBytes ≡ 36
+pub six-bytes : six_bytes ≡ 36
 six-bytes = refl
 
-pub line-bytes : lineBytes ≡ 41
+pub line-bytes : line_bytes ≡ 41
 line-bytes = refl
 
 -- A line for each list of numbers, in any form;
@@ -63,5 +63,5 @@ lines-wide ws (v ∷ vs) =
     ∙ sym (mul-suc (wide ws) (length vs))
 
 -- and in that of the listing.
-pub lines-length : (rs : List Rec) → length (lines rs) ≡ lineBytes * length rs
-lines-length rs = lines-wide widths (rows rs) ∙ ap (λ (n : ℕ). lineBytes * n) (sevens-many (waysUp rs) rs)
+pub lines-length : (rs : List Rec) → length (lines rs) ≡ line_bytes * length rs
+lines-length rs = lines-wide widths (rows rs) ∙ ap (λ (n : ℕ). line_bytes * n) (sevens-many (ways_up rs) rs)

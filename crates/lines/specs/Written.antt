@@ -2,8 +2,8 @@
 -- zero, only when the lines do not fit." A line has 41 bytes now (document 02, order 7).
 -- Assumes nothing.
 use Rattle.std.specs.Prelude.{cond, List, ◌++◌, ℕ, ◌-◌, ◌/◌, min, ltb, length, replicate}
-use Rattle.text.specs.Widths.{recWide}
-use Rattle.up.specs.Ways.{rowsIn}
+use Rattle.text.specs.Widths.{rec_wide}
+use Rattle.up.specs.Ways.{rows_in}
 use Rattle.lines.specs.Lines.{widths, lines_of}
 
 -- A text in a buffer of so many bytes: as many bytes as it has, or 0 if it does not fit;
@@ -16,8 +16,8 @@ padded text size = cond (ltb size (length text)) (replicate size 0) (text ++ rep
 
 -- How many records are listed: as many as are asked for, or all that the words hold, if those are fewer.
 abbrev pub held : List ℕ → ℕ → ℕ
-held words n = min n (length words / recWide)
+held words n = min n (length words / rec_wide)
 
 -- The lines of the first n records of a tree buffer.
-unfoldable pub linesIn : List ℕ → ℕ → List ℕ
-linesIn words n = lines_of widths (rowsIn (held words n) words)
+unfoldable pub lines_in : List ℕ → ℕ → List ℕ
+lines_in words n = lines_of widths (rows_in (held words n) words)

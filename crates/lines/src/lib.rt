@@ -2,7 +2,7 @@
 #![tactic(auto)]
 
 ghost use Rattle.std.specs.Prelude.{◌≡◌, min, length};
-ghost use Rattle.lines.specs.Written.{used, padded, linesIn};
+ghost use Rattle.lines.specs.Written.{used, padded, lines_in};
 
 mod digits;
 mod pairs;
@@ -51,8 +51,8 @@ fn fewer(a: usize, b: usize) -> usize
 // Lists the first records of a tree buffer, or all that it holds if those are fewer: their lines, and zeros behind them; 0 and zeros alone if the
 // lines do not fit. What is behind the lines is cleared once, after them, so that no byte is written twice.
 pub fn list(tree: &[u32], records: usize, out: &mut [u8]) -> usize
-    ensures used { result ≡ used (linesIn tree.now records) (length out.old) }
-    ensures bytes { out.new ≡ padded (linesIn tree.now records) (length out.old) }
+    ensures used { result ≡ used (lines_in tree.now records) (length out.old) }
+    ensures bytes { out.new ≡ padded (lines_in tree.now records) (length out.old) }
 {
     let n = fewer(records, tree.len() / text::RECORD_WORDS);
     if n > out.len() / LINE_BYTES {

@@ -1,12 +1,12 @@
 // A record as a line, and records as lines.
 ghost use Rattle.std.specs.Prelude.{◌≡◌, ◌+◌, ◌*◌, ◌≤◌, [], ◌∷◌, ◌++◌, length, drop};
 ghost use Rattle.std.proofs.lemmas.List.Edits.{sets};
-ghost use Rattle.text.specs.Widths.{recWide};
-ghost use Rattle.up.specs.Ways.{rowsIn};
+ghost use Rattle.text.specs.Widths.{rec_wide};
+ghost use Rattle.up.specs.Ways.{rows_in};
 ghost use Rattle.lines.specs.Hex.{hex};
 ghost use Rattle.lines.specs.Form as form;
 ghost use Rattle.lines.specs.Form.{space, line_of};
-ghost use Rattle.lines.specs.Lines.{kindDigits, placeDigits, halfDigits, widths, lineBytes, lines_of};
+ghost use Rattle.lines.specs.Lines.{kind_digits, place_digits, half_digits, widths, line_bytes, lines_of};
 
 use crate::digits;
 
@@ -20,9 +20,9 @@ pub fn after(left: usize) -> u8
 // Writes a kind and a space, and returns where the next field begins.
 #[inline(always)]
 fn kind(out: &mut [u8], at: usize, v: u32) -> usize
-    requires { at + kindDigits + 1 ≤ length out.old }
-    ensures end { result ≡ at + kindDigits + 1 }
-    ensures bytes { out.new ≡ sets out.old at (hex kindDigits v ++ (space ∷ [])) }
+    requires { at + kind_digits + 1 ≤ length out.old }
+    ensures end { result ≡ at + kind_digits + 1 }
+    ensures bytes { out.new ≡ sets out.old at (hex kind_digits v ++ (space ∷ [])) }
 {
     let end = digits::two(out, at, v);
     out[end] = b' ';
@@ -32,9 +32,9 @@ fn kind(out: &mut [u8], at: usize, v: u32) -> usize
 // Writes a place, a size or a way up and the byte after it, and returns where the next field begins.
 #[inline(always)]
 fn place(out: &mut [u8], at: usize, v: u32, after: u8) -> usize
-    requires { at + placeDigits + 1 ≤ length out.old }
-    ensures end { result ≡ at + placeDigits + 1 }
-    ensures bytes { out.new ≡ sets out.old at (hex placeDigits v ++ (after ∷ [])) }
+    requires { at + place_digits + 1 ≤ length out.old }
+    ensures end { result ≡ at + place_digits + 1 }
+    ensures bytes { out.new ≡ sets out.old at (hex place_digits v ++ (after ∷ [])) }
 {
     let end = digits::four(out, at, v);
     out[end] = after;
@@ -44,9 +44,9 @@ fn place(out: &mut [u8], at: usize, v: u32, after: u8) -> usize
 // Writes half a 64-bit number and a space, and returns where the next field begins.
 #[inline(always)]
 fn half(out: &mut [u8], at: usize, v: u32) -> usize
-    requires { at + halfDigits + 1 ≤ length out.old }
-    ensures end { result ≡ at + halfDigits + 1 }
-    ensures bytes { out.new ≡ sets out.old at (hex halfDigits v ++ (space ∷ [])) }
+    requires { at + half_digits + 1 ≤ length out.old }
+    ensures end { result ≡ at + half_digits + 1 }
+    ensures bytes { out.new ≡ sets out.old at (hex half_digits v ++ (space ∷ [])) }
 {
     let end = digits::eight(out, at, v);
     out[end] = b' ';
@@ -57,9 +57,9 @@ fn half(out: &mut [u8], at: usize, v: u32) -> usize
 // variables say where the fields begin.
 #[inline(always)]
 fn line(out: &mut [u8], at: usize, words: &[u32]) -> usize
-    requires line_in_bounds { at + lineBytes ≤ length out.old }
-    requires words_in_bounds { recWide ≤ length words.now }
-    ensures end { result ≡ at + lineBytes }
+    requires line_in_bounds { at + line_bytes ≤ length out.old }
+    requires words_in_bounds { rec_wide ≤ length words.now }
+    ensures end { result ≡ at + line_bytes }
     ensures bytes { out.new ≡ sets out.old at (line_of widths words.now) }
 {
     let start = kind(out, at, words[0]);
@@ -73,10 +73,10 @@ fn line(out: &mut [u8], at: usize, words: &[u32]) -> usize
 
 // Writes the lines of the first records of a tree buffer, and returns where they end.
 pub(crate) fn lines(out: &mut [u8], tree: &[u32], records: usize) -> usize
-    requires lines_in_bounds { lineBytes * records ≤ length out.old }
-    requires records_in_bounds { recWide * records ≤ length tree.now }
-    ensures end { result ≡ lineBytes * records }
-    ensures bytes { out.new ≡ sets out.old 0 (lines_of widths (rowsIn records tree.now)) }
+    requires lines_in_bounds { line_bytes * records ≤ length out.old }
+    requires records_in_bounds { rec_wide * records ≤ length tree.now }
+    ensures end { result ≡ line_bytes * records }
+    ensures bytes { out.new ≡ sets out.old 0 (lines_of widths (rows_in records tree.now)) }
 {
     let mut p = 0;
     let mut i = 0;

@@ -3,7 +3,7 @@
 #![tactic(auto)]
 
 ghost use Rattle.std.specs.Prelude.{◌≡◌, ◌+◌, length};
-ghost use Rattle.lexer.specs.Limits.{draftLimits};
+ghost use Rattle.lexer.specs.Limits.{draft_limits};
 ghost use Rattle.reader.specs.Fits.{enough};
 ghost use Rattle.listing.specs.Within.{Within};
 
@@ -20,7 +20,7 @@ enum Input {
 
 // One byte more than a draft may have: more than that need not be kept, since the length alone refuses it.
 fn draft_buffer() -> [u8; lexer::DRAFT_BYTES + 1]
-    ensures { draftLimits.bytes + 1 ≡ length result }
+    ensures { draft_limits.bytes + 1 ≡ length result }
 {
     [0; lexer::DRAFT_BYTES + 1]
 }

@@ -13,15 +13,15 @@ use Rattle.text.specs.Table.{is_true, is_false, pair}
 use Rattle.own.specs.Tree.{Rec}
 use Rattle.own.specs.Flat.{blank, children}
 use Rattle.own.specs.Kinds as kind
-use Rattle.kinds.specs.Shape.{halfRange}
+use Rattle.kinds.specs.Shape.{half_range}
 use Rattle.kinds.specs.Fields.{halves}
 use Rattle.load.specs.Function.{Right, is_top, Whole}
 use Rattle.load.specs.FunctionTest.{placed, placed-exactly, is_whole, whole-exactly}
-use Rattle.load.specs.children.Run.{ended}
-use Rattle.load.specs.children.Begin.{agrees, asked_of, start}
-use Rattle.load.specs.check.Stands.{stands, stands-exactly, stands-each}
-use Rattle.load.specs.check.Judge.{judge, before, verdict}
-use Rattle.load.specs.check.Verdict.{right-found, found_right}
+use Rattle.load.specs.Children.Run.{ended}
+use Rattle.load.specs.Children.Begin.{agrees, asked_of, start}
+use Rattle.load.specs.Checks.Stands.{stands, stands-exactly, stands-each}
+use Rattle.load.specs.Checks.Judge.{judge, before, verdict}
+use Rattle.load.specs.Checks.Verdict.{right-found, found_right}
 use Rattle.load.specs.declared.walk.Seen.{Seen}
 use Rattle.load.specs.declared.walk.Walked.{Walked}
 use Rattle.load.specs.declared.walk.Walked.TheVariants.{Done}
@@ -76,11 +76,11 @@ module _ (rs : List Rec) (j : ℕ) (r : Rec) (its : r ≡ get_or rs j blank) whe
   pub stands-place : {b : Bool} → b ≡ placed r → b ≡ false → false ≡ stands rs j
   stands-place e f = refuted (λ t. subst T (sym e ∙ f) ((placed-exactly r).1 (standing t).1.place))
 
-  small : r.low < halfRange → r.high < halfRange → T (halves r.low r.high)
+  small : r.low < half_range → r.high < half_range → T (halves r.low r.high)
   unfolding halves
-  small a b = pair (ltb r.low halfRange) (ltb r.high halfRange) (subst T (sym (lt-ltb r.low halfRange a)) tt) (subst T (sym (lt-ltb r.high halfRange b)) tt)
+  small a b = pair (ltb r.low half_range) (ltb r.high half_range) (subst T (sym (lt-ltb r.low half_range a)) tt) (subst T (sym (lt-ltb r.high half_range b)) tt)
 
-  pub stands-is : r.low < halfRange → r.high < halfRange → 0 < r.size → j + r.size ≤ length rs → T (placed r) → {q : ℕ} → q ≡ start r.kind r.low r.high
+  pub stands-is : r.low < half_range → r.high < half_range → 0 < r.size → j + r.size ≤ length rs → T (placed r) → {q : ℕ} → q ≡ start r.kind r.low r.high
       → {w : Walked} → w ≡ judge r (before r q) (children rs j) → {b : Bool} → b ≡ verdict r w → b ≡ stands rs j
   stands-is lo hi some room place {q} qs {w} ws {b} bs =
       let v = bs ∙ ap (verdict r) (ws ∙ ap (λ (x : ℕ). judge r (before r x) (children rs j)) qs) in

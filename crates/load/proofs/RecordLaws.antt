@@ -3,12 +3,12 @@
 use Rattle.std.specs.Prelude.{List, ◌≡◌, ℕ, ◌+◌, ◌≤◌, length, take, drop}
 use Rattle.std.proofs.Common.{ap, ◌∙◌, arith}
 use Rattle.std.proofs.lemmas.List.Edits.{sets, sets-eq}
-use Rattle.load.specs.listing.LineForm.{sixFields}
-use Rattle.load.specs.listing.Read.{values_of, recOf}
-use Rattle.load.specs.listing.RecordLaws.{record-by-six, six-long}
+use Rattle.load.specs.Listing.LineForm.{six_fields}
+use Rattle.load.specs.Listing.Read.{values_of, rec_of}
+use Rattle.load.specs.Listing.RecordLaws.{record-by-six, six-long}
 
-pub record-read : (ws bs o : List ℕ) {words : List ℕ} → sixFields ≤ length ws → length o ≡ sixFields → words ≡ sets o 0 (values_of (take sixFields ws) bs)
-    → recOf words ≡ recOf (values_of ws bs)
+pub record-read : (ws bs o : List ℕ) {words : List ℕ} → six_fields ≤ length ws → length o ≡ six_fields → words ≡ sets o 0 (values_of (take six_fields ws) bs)
+    → rec_of words ≡ rec_of (values_of ws bs)
 record-read ws bs o full room e =
-    let vs = values_of (take sixFields ws) bs in
-    ap recOf (e ∙ sets-eq vs o 0 (omega (arith, six-long ws bs full))) ∙ record-by-six ws bs (drop (0 + length vs) o) full
+    let vs = values_of (take six_fields ws) bs in
+    ap rec_of (e ∙ sets-eq vs o 0 (omega (arith, six-long ws bs full))) ∙ record-by-six ws bs (drop (0 + length vs) o) full

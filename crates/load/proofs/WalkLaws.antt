@@ -10,39 +10,39 @@ use lib.Dec.{T, eqb, ltb, leb, ltb→lt}
 use lib.ListN.{length, get_or}
 use Rattle.text.specs.Table.{every, at}
 use Rattle.own.specs.Tree.{Rec}
-use Rattle.kinds.specs.Shape.{halfRange}
-use Rattle.load.specs.children.Table.{stateCount, steps}
-use Rattle.load.specs.children.Cue as cue
-use Rattle.load.specs.children.Cue.{cues, cue}
-use Rattle.load.specs.children.Automaton.{columns, entry}
-use Rattle.load.specs.children.Run.{next, cue-below}
-use Rattle.load.specs.check.Judge.{sits, one, past}
+use Rattle.kinds.specs.Shape.{half_range}
+use Rattle.load.specs.Children.Table.{state_count, steps}
+use Rattle.load.specs.Children.Cue as cue
+use Rattle.load.specs.Children.Cue.{cues, cue}
+use Rattle.load.specs.Children.Automaton.{columns, entry}
+use Rattle.load.specs.Children.Run.{next, cue-below}
+use Rattle.load.specs.Checks.Judge.{sits, one, past}
 use Rattle.load.specs.declared.walk.Seen.{Seen}
 
 -- every entry of the table is a state, or says whether a record may end
-entries_below : T (every (λ i q. ltb q stateCount) 0 steps)
+entries_below : T (every (λ i q. ltb q state_count) 0 steps)
 unfolding steps
 entries_below = tt
 
-steps-long : length steps ≡ columns * stateCount
+steps-long : length steps ≡ columns * state_count
 unfolding steps
 steps-long = refl
 
-pub in-steps : (q c : ℕ) → q < stateCount → c ≤ cues → columns * q + c < columns * stateCount
+pub in-steps : (q c : ℕ) → q < state_count → c ≤ cues → columns * q + c < columns * state_count
 in-steps q c h k = omega arith
 
-pub entry-below : (q c : ℕ) → q < stateCount → c < cues → entry q c < stateCount
+pub entry-below : (q c : ℕ) → q < state_count → c < cues → entry q c < state_count
 unfolding entry
 entry-below q c h k =
     let i = in-steps q c h (omega arith) in
-    ltb→lt (get_or steps (columns * q + c) 0) stateCount (at (λ i x. ltb x stateCount) steps 0 entries_below (columns * q + c) (omega (arith, steps-long)))
+    ltb→lt (get_or steps (columns * q + c) 0) state_count (at (λ i x. ltb x state_count) steps 0 entries_below (columns * q + c) (omega (arith, steps-long)))
 
-pub entry-is : (ss : List ℕ) (q c : ℕ) {r : ℕ} → ss ≡ steps → q < stateCount → c ≤ cues → r ≡ get_or ss (columns * q + c) 0 → (r ≡ entry q c) × (r < stateCount)
+pub entry-is : (ss : List ℕ) (q c : ℕ) {r : ℕ} → ss ≡ steps → q < state_count → c ≤ cues → r ≡ get_or ss (columns * q + c) 0 → (r ≡ entry q c) × (r < state_count)
 unfolding entry
 entry-is ss q c {r} held h k e =
     let p : r ≡ get_or steps (columns * q + c) 0 = e ∙ ap (λ (l : List ℕ). get_or l (columns * q + c) 0) held in
     let i = in-steps q c h k in
-    let b = ltb→lt (get_or steps (columns * q + c) 0) stateCount (at (λ i x. ltb x stateCount) steps 0 entries_below (columns * q + c) (omega (arith, steps-long))) in
+    let b = ltb→lt (get_or steps (columns * q + c) 0) state_count (at (λ i x. ltb x state_count) steps 0 entries_below (columns * q + c) (omega (arith, steps-long))) in
     (p, omega arith)
 
 -- One, where the cue is this one.
@@ -98,5 +98,5 @@ past_is s c e a n p q i =
     }
 
 -- One more of a sort stays small where a record is left.
-pub sum-small : (a left : ℕ) {size n : ℕ} (c this : ℕ) → a + left < halfRange → 0 < size → size ≤ left → n ≡ one c this → a + n < halfRange
+pub sum-small : (a left : ℕ) {size n : ℕ} (c this : ℕ) → a + left < half_range → 0 < size → size ≤ left → n ≡ one c this → a + n < half_range
 sum-small a left c this h p q e = let k = one-small c this in omega arith

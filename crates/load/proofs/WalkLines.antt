@@ -10,15 +10,15 @@ use lib.ListN.{length, get_or, drop}
 use Rattle.lines.specs.Form.{wide}
 use Rattle.own.specs.Tree.{Rec}
 use Rattle.own.specs.Flat.{blank}
-use Rattle.kinds.specs.Shape.{halfRange}
-use Rattle.load.specs.listing.Read.{values_of, recordsIn, recOf}
-use Rattle.load.specs.listing.LineForm.{LineForm, Listed}
-use Rattle.load.specs.listing.RecordLaws.{records-long, record-at}
-use Rattle.load.specs.children.Table.{stateCount}
-use Rattle.load.specs.children.Cue.{cue}
-use Rattle.load.specs.children.Run.{next, cue-below}
-use Rattle.load.specs.check.Judge.{asRec, sits, past}
-use Rattle.load.specs.check.Small.{sat}
+use Rattle.kinds.specs.Shape.{half_range}
+use Rattle.load.specs.Listing.Read.{values_of, records_in, rec_of}
+use Rattle.load.specs.Listing.LineForm.{LineForm, Listed}
+use Rattle.load.specs.Listing.RecordLaws.{records-long, record-at}
+use Rattle.load.specs.Children.Table.{state_count}
+use Rattle.load.specs.Children.Cue.{cue}
+use Rattle.load.specs.Children.Run.{next, cue-below}
+use Rattle.load.specs.Checks.Judge.{as_rec, sits, past}
+use Rattle.load.specs.Checks.Small.{sat}
 use Rattle.load.specs.declared.record.Record.{Record}
 use Rattle.load.specs.declared.walk.Seen.{Seen}
 use Rattle.load.specs.declared.walk.Walked.{Walked}
@@ -30,7 +30,7 @@ mul-distrib-left a i = let e : i + 1 ≡ suc i = omega arith in ap (λ (k : ℕ)
 
 module _ (ws text : List ℕ) {step : ℕ} (f : LineForm ws step) where
   -- a line of the records is one of the listing
-  pub line-in : (i : ℕ) → i < length (recordsIn ws text) → step * i + wide ws ≤ length text
+  pub line-in : (i : ℕ) → i < length (records_in ws text) → step * i + wide ws ≤ length text
   line-in i h =
       let n = length text / wide ws in
       let e = records-long ws text in
@@ -40,38 +40,38 @@ module _ (ws text : List ℕ) {step : ℕ} (f : LineForm ws step) where
       omega (arith, s, m, t, div-add-mod (length text) (wide ws))
 
   -- and the record that is read from it is that of the list
-  pub read_is : (i : ℕ) → i < length (recordsIn ws text) → {c : Record} → asRec c ≡ recOf (values_of ws (drop (step * i) text)) → asRec c ≡ get_or (recordsIn ws text) i blank
+  pub read_is : (i : ℕ) → i < length (records_in ws text) → {c : Record} → as_rec c ≡ rec_of (values_of ws (drop (step * i) text)) → as_rec c ≡ get_or (records_in ws text) i blank
   read_is i h e =
       let n = records-long ws text in
-      e ∙ ap (λ (k : ℕ). recOf (values_of ws (drop k text))) (ap (λ (k : ℕ). k * i) f.bytes) ∙ sym (record-at ws text i (omega arith))
+      e ∙ ap (λ (k : ℕ). rec_of (values_of ws (drop k text))) (ap (λ (k : ℕ). k * i) f.bytes) ∙ sym (record-at ws text i (omega arith))
 
   -- there are no more records than bytes
-  pub in-listing : (j n : ℕ) → j + n ≤ length (recordsIn ws text) → j + n ≤ length text
+  pub in-listing : (j n : ℕ) → j + n ≤ length (records_in ws text) → j + n ≤ length text
   in-listing j n h =
       omega (arith, records-long ws text, div-le_self (length text) (wide ws))
 
-module _ (ws text : List ℕ) {step : ℕ} (f : LineForm ws step) {r : Rec} {whole : Walked} {i : ℕ} {s : Seen} (w : Walking (recordsIn ws text) r whole i s) where
+module _ (ws text : List ℕ) {step : ℕ} (f : LineForm ws step) {r : Rec} {whole : Walked} {i : ℕ} {s : Seen} (w : Walking (records_in ws text) r whole i s) where
   -- the next child stands in a line of the listing,
   pub line_at : 0 < s.left → step * i + wide ws ≤ length text
   line_at h = let m = w.room in line-in ws text f i (omega arith)
 
   -- and is the record that is read from it;
-  pub child-is : 0 < s.left → {c : Record} → asRec c ≡ recOf (values_of ws (drop (step * i) text)) → asRec c ≡ get_or (recordsIn ws text) i blank
+  pub child-is : 0 < s.left → {c : Record} → as_rec c ≡ rec_of (values_of ws (drop (step * i) text)) → as_rec c ≡ get_or (records_in ws text) i blank
   child-is h e = let m = w.room in read_is ws text f i (omega arith) e
 
   -- what has been seen, one child more
-  pub walking_on : 0 < s.left → (c : Rec) → c ≡ get_or (recordsIn ws text) i blank → T (sits s.left r c) → {x : Seen} → x ≡ past s c → x.state < stateCount
-      → Walking (recordsIn ws text) r whole (i + c.size) x
+  pub walking_on : 0 < s.left → (c : Rec) → c ≡ get_or (records_in ws text) i blank → T (sits s.left r c) → {x : Seen} → x ≡ past s c → x.state < state_count
+      → Walking (records_in ws text) r whole (i + c.size) x
   walking_on h c its t {x} e q =
-      subst (Walking (recordsIn ws text) r whole (i + c.size)) (sym e)
-      (walking-more w h c its t (subst (λ (y : Seen). y.state < stateCount) e q))
+      subst (Walking (records_in ws text) r whole (i + c.size)) (sym e)
+      (walking-more w h c its t (subst (λ (y : Seen). y.state < state_count) e q))
 
 -- A child that sits counts itself, and no more than is left.
 pub child-small : (left : ℕ) (r c : Rec) → T (sits left r c) → (0 < c.size) × (c.size ≤ left)
 child-small left r c t = let x = sat left r c t in (x.some, x.fit)
 
 -- The line behind it has a number.
-pub child-room : {rs : List Rec} {r : Rec} {whole : Walked} {i : ℕ} {s : Seen} → Walking rs r whole i s → (c : Rec) → T (sits s.left r c) → i + c.size < halfRange * halfRange
+pub child-room : {rs : List Rec} {r : Rec} {whole : Walked} {i : ℕ} {s : Seen} → Walking rs r whole i s → (c : Rec) → T (sits s.left r c) → i + c.size < half_range * half_range
 child-room {r = r} {s = s} w c t = let x = sat s.left r c t in omega (arith, x.fit, w.fits)
 
 -- Past it less is left.
@@ -83,7 +83,7 @@ past-less s r c t e =
     omega (arith, l, y.some, y.fit)
 
 -- The state past a child is one of the table's.
-pub past-state : (s : Seen) (c : Rec) → s.state < stateCount → {x : Seen} → x ≡ past s c → x.state < stateCount
+pub past-state : (s : Seen) (c : Rec) → s.state < state_count → {x : Seen} → x ≡ past s c → x.state < state_count
 unfolding past next
 past-state s c h e =
     let l = ap (λ (x : Seen). x.state) e in
@@ -92,13 +92,13 @@ past-state s c h e =
 
 -- The same of a listing with so many records.
 module _ {ws text : List ℕ} {step n : ℕ} (l : Listed ws step text n) (j : ℕ) (h : j < n) where
-  among : j < length (recordsIn ws text)
+  among : j < length (records_in ws text)
   among = let e = l.many in omega arith
 
   pub its-line : step * j + wide ws ≤ length text
   its-line = line-in ws text l.form j among
 
-  pub its-record : {c : Record} → asRec c ≡ recOf (values_of ws (drop (step * j) text)) → asRec c ≡ get_or (recordsIn ws text) j blank
+  pub its-record : {c : Record} → as_rec c ≡ rec_of (values_of ws (drop (step * j) text)) → as_rec c ≡ get_or (records_in ws text) j blank
   its-record e = read_is ws text l.form j among e
 
 -- The first line.
@@ -106,5 +106,5 @@ module _ {ws text : List ℕ} {step n : ℕ} (l : Listed ws step text n) (h : (n
   pub first-line : 0 + wide ws ≤ length text
   first-line = let t = its-line l 0 (omega arith) in omega (arith, t, mul-zero step)
 
-  pub first-record : {c : Record} → asRec c ≡ recOf (values_of ws (drop 0 text)) → asRec c ≡ get_or (recordsIn ws text) 0 blank
-  first-record e = its-record l 0 (omega arith) (e ∙ ap (λ (k : ℕ). recOf (values_of ws (drop k text))) (sym (mul-zero step)))
+  pub first-record : {c : Record} → as_rec c ≡ rec_of (values_of ws (drop 0 text)) → as_rec c ≡ get_or (records_in ws text) 0 blank
+  first-record e = its-record l 0 (omega arith) (e ∙ ap (λ (k : ℕ). rec_of (values_of ws (drop k text))) (sym (mul-zero step)))

@@ -12,13 +12,13 @@ use lib.Seq.{drop-cons}
 use Rattle.text.specs.Table.{is_true}
 use Rattle.own.specs.Tree.{Rec}
 use Rattle.own.specs.Flat.{blank, row, children}
-use Rattle.kinds.specs.Shape.{halfRange}
-use Rattle.load.specs.children.Table.{stateCount}
-use Rattle.load.specs.children.Cue as cue
-use Rattle.load.specs.children.Cue.{cue}
-use Rattle.load.specs.check.Judge.{sits, past, judge, before}
-use Rattle.load.specs.check.Small.{Small, sat}
-use Rattle.load.specs.check.Parts.{left, left-next, all_left}
+use Rattle.kinds.specs.Shape.{half_range}
+use Rattle.load.specs.Children.Table.{state_count}
+use Rattle.load.specs.Children.Cue as cue
+use Rattle.load.specs.Children.Cue.{cue}
+use Rattle.load.specs.Checks.Judge.{sits, past, judge, before}
+use Rattle.load.specs.Checks.Small.{Small, sat}
+use Rattle.load.specs.Checks.Parts.{left, left-next, all_left}
 use Rattle.load.specs.declared.walk.Seen.{Seen}
 use Rattle.load.proofs.WalkLaws.{one-small}
 use Rattle.load.specs.declared.walk.Walked.{Walked}
@@ -27,10 +27,10 @@ use Rattle.load.specs.declared.walk.Walked.TheVariants.{Bad, Done}
 pub record Walking (rs : List Rec) (r : Rec) (whole : Walked) (i : ℕ) (s : Seen) : Type 0 where
   pub small : Small s
   pub room : i + s.left ≤ length rs
-  pub fits : i + s.left < halfRange * halfRange
+  pub fits : i + s.left < half_range * half_range
   pub rest : judge r s (left rs i s.left) ≡ whole
 
-pub walking_start : (rs : List Rec) (r : Rec) (j q : ℕ) → q < stateCount → r ≡ get_or rs j blank → 0 < r.size → r.size ≤ halfRange → j + r.size ≤ length rs → j + r.size < halfRange * halfRange
+pub walking_start : (rs : List Rec) (r : Rec) (j q : ℕ) → q < state_count → r ≡ get_or rs j blank → 0 < r.size → r.size ≤ half_range → j + r.size ≤ length rs → j + r.size < half_range * half_range
     → Walking rs r (judge r (before r q) (children rs j)) (j + 1) (before r q)
 walking_start rs r j q h e s m k b =
     let at : 0 < (get_or rs j blank).size = subst (λ (x : Rec). 0 < x.size) e s in
@@ -53,7 +53,7 @@ module _ {rs : List Rec} {r : Rec} {whole : Walked} {i : ℕ} {s : Seen} (w : Wa
         ap (judge r s) (left-next rs i s.left some w.room a b ∙ ap (λ (y : Rec). y ∷ left rs (i + y.size) (s.left - y.size)) (sym its))
         ∙ ap (λ (b : Bool). cond b (judge r (past s c) (left rs (i + c.size) (s.left - c.size))) Bad) (is_true (sits s.left r c) t)
 
-    pub walking-more : T (sits s.left r c) → (past s c).state < stateCount → Walking rs r whole (i + c.size) (past s c)
+    pub walking-more : T (sits s.left r c) → (past s c).state < state_count → Walking rs r whole (i + c.size) (past s c)
     unfolding past
     walking-more t q =
         let x = sat s.left r c t in

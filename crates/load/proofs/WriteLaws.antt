@@ -6,14 +6,14 @@ use Rattle.std.proofs.Math.Nat.{mul-le-mul_left}
 use Rattle.std.proofs.lemmas.List.{map-append}
 use Rattle.std.proofs.Math.Seq.{length-sets}
 use Rattle.std.proofs.lemmas.List.Edits.{sets, sets-eq}
-use Rattle.text.specs.Widths.{recWide}
+use Rattle.text.specs.Widths.{rec_wide}
 use Rattle.own.specs.Tree.{Rec}
 use Rattle.own.specs.Words.{recs}
 use Rattle.lines.specs.Form.{wide}
-use Rattle.load.specs.listing.LineForm.{sixFields, LineForm}
-use Rattle.load.specs.listing.Read.{number_of, values_of, rowsFrom, recOf}
-use Rattle.load.specs.listing.LineLaws.{wide-front}
-use Rattle.load.specs.listing.RecordLaws.{record-by-six, six-long}
+use Rattle.load.specs.Listing.LineForm.{six_fields, LineForm}
+use Rattle.load.specs.Listing.Read.{number_of, values_of, rows_from, rec_of}
+use Rattle.load.specs.Listing.LineLaws.{wide-front}
+use Rattle.load.specs.Listing.RecordLaws.{record-by-six, six-long}
 use Rattle.load.proofs.LineLaws.{next-width}
 
 -- What the loop of `values` keeps: the fields that are left, from p on, would complete the numbers of the line.
@@ -48,7 +48,7 @@ module _ {o ws text : List ℕ} {at w : ℕ} {l : List ℕ} {p k : ℕ} (x : Fil
   filling-end h = ap (λ (d : List ℕ). sets l (w + k) (values_of d (drop p text))) (sym (drop_of_length-le ws h)) ∙ x.left
 
 -- The first records of a buffer are those of its first words, and those behind them.
-recs-split : (i k m : ℕ) (a b : List ℕ) → m ≡ i + k → length a ≡ recWide * i → recs m (a ++ b) ≡ recs i a ++ recs k b
+recs-split : (i k m : ℕ) (a b : List ℕ) → m ≡ i + k → length a ≡ rec_wide * i → recs m (a ++ b) ≡ recs i a ++ recs k b
 recs-split zero k m [] b e h = let z : m ≡ k = omega arith in ap (λ (n : ℕ). recs n b) z
 recs-split zero k m (c ∷ a) b e h = absurd (omega arith)
 recs-split (suc i) k zero a b e h = absurd (omega arith)
@@ -62,30 +62,30 @@ recs-split (suc i) k (suc m) (c₁ ∷ c₂ ∷ c₃ ∷ c₄ ∷ c₅ ∷ c₆ 
 recs-split (suc i) k (suc m) (c₁ ∷ c₂ ∷ c₃ ∷ c₄ ∷ c₅ ∷ c₆ ∷ c₇ ∷ a) b e h =
     ap (λ (l : List Rec). record { kind = c₁; start = c₂; stop = c₃; low = c₄; high = c₅; size = c₆ } ∷ l) (recs-split i k m a b (omega arith) (omega arith))
 
-recs-front : (i : ℕ) (l : List ℕ) → recWide * i ≤ length l → recs i (take (recWide * i) l) ≡ recs i l
+recs-front : (i : ℕ) (l : List ℕ) → rec_wide * i ≤ length l → recs i (take (rec_wide * i) l) ≡ recs i l
 recs-front i l h =
-    let a = take (recWide * i) l in
+    let a = take (rec_wide * i) l in
     let z : i ≡ i + 0 = omega arith in
-    sym (append-nil (recs i a)) ∙ sym (recs-split i 0 i a (drop (recWide * i) l) z (length-take-le (recWide * i) l h)) ∙ ap (recs i) (take-append-drop (recWide * i) l)
+    sym (append-nil (recs i a)) ∙ sym (recs-split i 0 i a (drop (rec_wide * i) l) z (length-take-le (rec_wide * i) l h)) ∙ ap (recs i) (take-append-drop (rec_wide * i) l)
 
 -- The lines behind the first i, one more of them.
-rows-last : (ws : List ℕ) (i : ℕ) (bs : List ℕ) → rowsFrom ws (suc i) bs ≡ rowsFrom ws i bs ++ (values_of ws (drop (wide ws * i) bs) ∷ [])
-unfolding rowsFrom
+rows-last : (ws : List ℕ) (i : ℕ) (bs : List ℕ) → rows_from ws (suc i) bs ≡ rows_from ws i bs ++ (values_of ws (drop (wide ws * i) bs) ∷ [])
+unfolding rows_from
 rows-last ws zero bs = ap (λ (k : ℕ). values_of ws (drop k bs) ∷ []) (sym (mul-zero (wide ws)))
 rows-last ws (suc i) bs =
     let e : wide ws + wide ws * i ≡ wide ws * suc i = omega (arith, mul-suc (wide ws) i) in
     ap (λ (l : List (List ℕ)). values_of ws bs ∷ l)
     (rows-last ws i (drop (wide ws) bs)
-    ∙ ap (λ (l : List ℕ). rowsFrom ws i (drop (wide ws) bs) ++ (values_of ws l ∷ [])) (drop-drop (wide ws * i) (wide ws) bs ∙ ap (λ (k : ℕ). drop k bs) e))
+    ∙ ap (λ (l : List ℕ). rows_from ws i (drop (wide ws) bs) ++ (values_of ws l ∷ [])) (drop-drop (wide ws * i) (wide ws) bs ∙ ap (λ (k : ℕ). drop k bs) e))
 
 -- What the loop of `records` keeps: the first i records are those of the first i lines.
 pub record Writing (ws text : List ℕ) (n : ℕ) (o l : List ℕ) (i : ℕ) : Type 0 where
   pub within : i ≤ n
   pub long : length l ≡ length o
-  pub so_far : recs i l ≡ map recOf (rowsFrom ws i text)
+  pub so_far : recs i l ≡ map rec_of (rows_from ws i text)
 
 pub writing-start : (ws text : List ℕ) (n : ℕ) (o : List ℕ) → Writing ws text n o o 0
-unfolding rowsFrom
+unfolding rows_from
 writing-start ws text n o = record { within = omega arith; long = refl; so_far = refl }
 
 -- The next line is inside the text, and its record inside the words.
@@ -93,35 +93,35 @@ pub fits-in : (a i n r : ℕ) → i < n → a * n ≤ r → a * i + a ≤ r
 fits-in a i n r h k = let m : a * suc i ≤ a * n = mul-le-mul_left a (omega arith) in omega (arith, mul-suc a i)
 
 module _ {ws text : List ℕ} {n : ℕ} {o l : List ℕ} {i : ℕ} (x : Writing ws text n o l i) where
-  pub line-fits : {step : ℕ} → LineForm ws step → i < n → step * n ≤ length text → step * i + wide (take sixFields ws) ≤ length text
+  pub line-fits : {step : ℕ} → LineForm ws step → i < n → step * n ≤ length text → step * i + wide (take six_fields ws) ≤ length text
   line-fits {step} f h k =
       let b = f.bytes in
-      omega (arith, fits-in step i n (length text) h k, wide-front sixFields ws)
+      omega (arith, fits-in step i n (length text) h k, wide-front six_fields ws)
 
-  pub record_fits : i < n → recWide * n ≤ length o → recWide * i + recWide ≤ length l
+  pub record_fits : i < n → rec_wide * n ≤ length o → rec_wide * i + rec_wide ≤ length l
   record_fits h k = omega (arith, x.long)
 
-  pub writing-more : {l₁ : List ℕ} {step : ℕ} → LineForm ws step → i < n → recWide * n ≤ length o
-      → l₁ ≡ sets l (recWide * i) (values_of (take sixFields ws) (drop (step * i) text)) → Writing ws text n o l₁ (i + 1)
+  pub writing-more : {l₁ : List ℕ} {step : ℕ} → LineForm ws step → i < n → rec_wide * n ≤ length o
+      → l₁ ≡ sets l (rec_wide * i) (values_of (take six_fields ws) (drop (step * i) text)) → Writing ws text n o l₁ (i + 1)
   writing-more {l₁} {step} f h k d =
       let bs = drop (step * i) text in
-      let vs = values_of (take sixFields ws) bs in
+      let vs = values_of (take six_fields ws) bs in
       let long = six-long ws bs f.full in
       let room = record_fits h k in
-      let z = drop (recWide * i + length vs) l in
-      let a = take (recWide * i) l in
+      let z = drop (rec_wide * i + length vs) l in
+      let a = take (rec_wide * i) l in
       let e : bs ≡ drop (wide ws * i) text = ap (λ (w : ℕ). drop (w * i) text) f.bytes in
       let s : suc i ≡ i + 1 = omega arith in
       record {
         within = omega arith;
-        long = ap length d ∙ length-sets l (recWide * i) vs ∙ x.long;
-        so_far = ap (recs (i + 1)) (d ∙ sets-eq vs l (recWide * i) (omega (arith, long)) ∙ append_assoc a vs z)
-            ∙ recs-split i 1 (i + 1) a (vs ++ z) refl (length-take-le (recWide * i) l (omega arith))
+        long = ap length d ∙ length-sets l (rec_wide * i) vs ∙ x.long;
+        so_far = ap (recs (i + 1)) (d ∙ sets-eq vs l (rec_wide * i) (omega (arith, long)) ∙ append_assoc a vs z)
+            ∙ recs-split i 1 (i + 1) a (vs ++ z) refl (length-take-le (rec_wide * i) l (omega arith))
             ∙ (λ j. recs-front i l (omega arith) j ++ (record-by-six ws bs z f.full j ∷ []))
-            ∙ (λ j. x.so_far j ++ (recOf (values_of ws (e j)) ∷ []))
-            ∙ sym (map-append recOf (rowsFrom ws i text) (values_of ws (drop (wide ws * i) text) ∷ []))
-            ∙ ap (map recOf) (sym (rows-last ws i text) ∙ ap (λ (m : ℕ). rowsFrom ws m text) s);
+            ∙ (λ j. x.so_far j ++ (rec_of (values_of ws (e j)) ∷ []))
+            ∙ sym (map-append rec_of (rows_from ws i text) (values_of ws (drop (wide ws * i) text) ∷ []))
+            ∙ ap (map rec_of) (sym (rows-last ws i text) ∙ ap (λ (m : ℕ). rows_from ws m text) s);
       }
 
-  pub writing-end : n ≤ i → recs n l ≡ map recOf (rowsFrom ws n text)
-  writing-end h = let w = x.within in let e : i ≡ n = omega arith in subst (λ (m : ℕ). recs m l ≡ map recOf (rowsFrom ws m text)) e x.so_far
+  pub writing-end : n ≤ i → recs n l ≡ map rec_of (rows_from ws n text)
+  writing-end h = let w = x.within in let e : i ≡ n = omega arith in subst (λ (m : ℕ). recs m l ≡ map rec_of (rows_from ws m text)) e x.so_far

@@ -13,23 +13,23 @@ abbrev pub bare : Rec → Sort
 bare r = child r.kind r.low r.high 0
 
 -- A part of a rule: "a name is any kind 2".
-unfoldable pub barePart : Part → Part
-barePart (of ks) = of ks
-barePart (name cs) = of (kind.Name ∷ [])
-barePart (arm n) = arm n
-barePart bound = bound
-barePart size = size
+unfoldable pub bare_part : Part → Part
+bare_part (of ks) = of ks
+bare_part (name cs) = of (kind.Name ∷ [])
+bare_part (arm n) = arm n
+bare_part bound = bound
+bare_part size = size
 
 -- A shape without its marks.
-unfoldable pub bareShape : Shape → Shape
-bareShape nothing = nothing
-bareShape never = never
-bareShape (mark cs) = nothing
-bareShape (part p) = part (barePart p)
-bareShape (a ▸ b) = bareShape a ▸ bareShape b
-bareShape (a ¦ b) = bareShape a ¦ bareShape b
-bareShape (many a) = many (bareShape a)
+unfoldable pub bare_shape : Shape → Shape
+bare_shape nothing = nothing
+bare_shape never = never
+bare_shape (mark cs) = nothing
+bare_shape (part p) = part (bare_part p)
+bare_shape (a ▸ b) = bare_shape a ▸ bare_shape b
+bare_shape (a ¦ b) = bare_shape a ¦ bare_shape b
+bare_shape (many a) = many (bare_shape a)
 
 -- A form of the kinds table without its marks.
-abbrev pub bareForm : Form → Form
-bareForm f = form f.kind f.fields (bareShape f.shape)
+abbrev pub bare_form : Form → Form
+bare_form f = form f.kind f.fields (bare_shape f.shape)

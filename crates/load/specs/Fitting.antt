@@ -9,8 +9,8 @@ use Rattle.text.specs.Table.{first-of, second-of}
 use Rattle.text.specs.Lists.{has, keep, span, count, Some, here, there}
 use Rattle.text.specs.Lists as lists
 use Rattle.text.specs.ListLaws.{all-has, all-some, from_some, some-keep}
-use Rattle.num.specs.Bound.{isBound}
-use Rattle.own.specs.Tree.{Node, roots, end, Rec, recordOf, tokens, all, records}
+use Rattle.num.specs.Bound.{is_bound}
+use Rattle.own.specs.Tree.{Node, roots, end, Rec, record_of, tokens, all, records}
 use Rattle.own.specs.Flat.{blank, children}
 use Rattle.own.specs.Law.{Sort, word, child}
 use Rattle.own.specs.File.{program, filed}
@@ -20,19 +20,19 @@ use Rattle.own.specs.Owners.{no_node, kept}
 use Rattle.own.specs.Kinds as kind
 use Rattle.lines.specs.Hex.{power}
 use Rattle.up.specs.Ways.{six, rows}
-use Rattle.lines.specs.Lines.{kindDigits, placeDigits, sixWidths, widths}
+use Rattle.lines.specs.Lines.{kind_digits, place_digits, six_widths, widths}
 use Rattle.kinds.specs.Families as family
-use Rattle.kinds.specs.Shape.{halfRange, number}
+use Rattle.kinds.specs.Shape.{half_range, number}
 use Rattle.kinds.specs.Fields as field
 use Rattle.kinds.specs.Fields.{Fields, counted, halves, holds}
-use Rattle.kinds.specs.Rules.{Form, forms, allForms}
-use Rattle.kinds.specs.Decide.{formsFor}
+use Rattle.kinds.specs.Rules.{Form, forms, all_forms}
+use Rattle.kinds.specs.Decide.{forms_for}
 use Rattle.kinds.specs.Ownership as kinds
 use Rattle.load.specs.Bare.{bare}
 use Rattle.load.specs.Function.{Fits, sizes, Right}
-use Rattle.load.specs.check.Parts.{Counts}
-use Rattle.load.specs.check.Stands.{Stands}
-use Rattle.load.specs.listing.InForm.{Fit, Fitting}
+use Rattle.load.specs.Checks.Parts.{Counts}
+use Rattle.load.specs.Checks.Stands.{Stands}
+use Rattle.load.specs.Listing.InForm.{Fit, Fitting}
 use Rattle.load.specs.FormLaws.{rows-fit}
 use Rattle.load.specs.Handed.{stands}
 
@@ -43,16 +43,16 @@ small field.wide = true
 small field.bounded = true
 small field.names = true
 small field.pairs = true
-small (field.low n) = ltb n halfRange
-small (field.parameters n) = ltb n halfRange
-small (field.among ns) = lists.all (λ n. ltb n halfRange) ns
+small (field.low n) = ltb n half_range
+small (field.parameters n) = ltb n half_range
+small (field.among ns) = lists.all (λ n. ltb n half_range) ns
 
 -- Every form of the kinds table has such fields, and a kind of two digits: by one computation.
-abbrev smallForm : Form → Bool
-smallForm f = ltb f.kind (power kindDigits) && small f.fields
+abbrev small_form : Form → Bool
+small_form f = ltb f.kind (power kind_digits) && small f.fields
 
-all_small : T (lists.all smallForm allForms)
-unfolding lists.all allForms forms span count
+all_small : T (lists.all small_form all_forms)
+unfolding lists.all all_forms forms span count
 all_small = tt
 
 counted-few : (ks : List ℕ) (w : List Sort) → counted ks w ≤ length w
@@ -66,32 +66,32 @@ counted-few ks (child k l h c ∷ w) = go (has ks k) (counted-few ks w)
     go false i = omega arith
 
 -- Low and high of a record of few pieces.
-module _ (l h : ℕ) (w : List Sort) (few : length w < halfRange) where
-  equal : (a b : ℕ) → a < halfRange → b < halfRange → T (eqb l a && eqb h b) → (l < halfRange) × (h < halfRange)
+module _ (l h : ℕ) (w : List Sort) (few : length w < half_range) where
+  equal : (a b : ℕ) → a < half_range → b < half_range → T (eqb l a && eqb h b) → (l < half_range) × (h < half_range)
   equal a b x y t =
       let p = eqb→eq l a (first-of (eqb l a) (eqb h b) t) in
       let q = eqb→eq h b (second-of (eqb l a) (eqb h b) t) in
       (omega arith, omega arith)
 
-  counts : (ks : List ℕ) → counted ks w < halfRange
+  counts : (ks : List ℕ) → counted ks w < half_range
   counts ks = omega (arith, counted-few ks w)
 
-  both_halves : T (halves l h) → (l < halfRange) × (h < halfRange)
+  both_halves : T (halves l h) → (l < half_range) × (h < half_range)
   unfolding halves
   both_halves t =
-      (ltb→lt l halfRange (first-of (ltb l halfRange) (ltb h halfRange) t), ltb→lt h halfRange (second-of (ltb l halfRange) (ltb h halfRange) t))
+      (ltb→lt l half_range (first-of (ltb l half_range) (ltb h half_range) t), ltb→lt h half_range (second-of (ltb l half_range) (ltb h half_range) t))
 
-  holds-small : (f : Fields) → T (small f) → T (holds f l h w) → (l < halfRange) × (h < halfRange)
+  holds-small : (f : Fields) → T (small f) → T (holds f l h w) → (l < half_range) × (h < half_range)
   unfolding holds
   holds-small field.plain s t = equal 0 0 (omega arith) (omega arith) t
   holds-small field.wide s t = both_halves t
-  holds-small field.bounded s t = both_halves (first-of (halves l h) (isBound (number l h)) t)
+  holds-small field.bounded s t = both_halves (first-of (halves l h) (is_bound (number l h)) t)
   holds-small field.names s t = equal (counted (kind.Name ∷ []) w) 0 (counts (kind.Name ∷ [])) (omega arith) t
   holds-small field.pairs s t = equal (counted (kind.Name ∷ []) w) (counted family.patterns w) (counts (kind.Name ∷ [])) (counts family.patterns) t
-  holds-small (field.low n) s t = equal n 0 (ltb→lt n halfRange s) (omega arith) t
-  holds-small (field.parameters n) s t = equal n (counted (kind.Parameter ∷ []) w) (ltb→lt n halfRange s) (counts (kind.Parameter ∷ [])) t
+  holds-small (field.low n) s t = equal n 0 (ltb→lt n half_range s) (omega arith) t
+  holds-small (field.parameters n) s t = equal n (counted (kind.Parameter ∷ []) w) (ltb→lt n half_range s) (counts (kind.Parameter ∷ [])) t
   holds-small (field.among ns) s t =
-      let p = ltb→lt l halfRange (all-has (λ n. ltb n halfRange) ns l s (first-of (has ns l) (eqb h 0) t)) in
+      let p = ltb→lt l half_range (all-has (λ n. ltb n half_range) ns l s (first-of (has ns l) (eqb h 0) t)) in
       let q = eqb→eq h 0 (second-of (has ns l) (eqb h 0) t) in
       (p, omega arith)
 
@@ -101,43 +101,43 @@ children-few nil = omega arith
 children-few (p & h) = let k = children-few h in omega arith
 
 -- A right record of few children.
-right-small : (r : Rec) (cs : List Rec) → Right r cs → All Counts cs → r.size ≤ halfRange → (r.kind < power kindDigits) × (r.low < halfRange) × (r.high < halfRange)
-unfolding formsFor
+right-small : (r : Rec) (cs : List Rec) → Right r cs → All Counts cs → r.size ≤ half_range → (r.kind < power kind_digits) × (r.low < half_range) × (r.high < half_range)
+unfolding forms_for
 right-small r cs o some few =
-    from_some one (all-some smallForm all_small (some-keep (λ f. eqb f.kind r.kind) allForms o.formed))
+    from_some one (all-some small_form all_small (some-keep (λ f. eqb f.kind r.kind) all_forms o.formed))
   where
-    one : (f : Form) → T (smallForm f) × (T (eqb f.kind r.kind) × Fits r.low r.high cs f)
-        → (r.kind < power kindDigits) × (r.low < halfRange) × (r.high < halfRange)
+    one : (f : Form) → T (small_form f) × (T (eqb f.kind r.kind) × Fits r.low r.high cs f)
+        → (r.kind < power kind_digits) × (r.low < half_range) × (r.high < half_range)
     one f (s, (e, h)) =
-        let a = ltb f.kind (power kindDigits) in
-        let less : length (map bare cs) < halfRange = omega (arith, length-map cs bare, children-few some, o.adds) in
-        let k = ltb→lt f.kind (power kindDigits) (first-of a (small f.fields) s) in
+        let a = ltb f.kind (power kind_digits) in
+        let less : length (map bare cs) < half_range = omega (arith, length-map cs bare, children-few some, o.adds) in
+        let k = ltb→lt f.kind (power kind_digits) (first-of a (small f.fields) s) in
         let q = holds-small r.low r.high (map bare cs) less f.fields (second-of a (small f.fields) s) h.fields in
         (omega (arith, eqb→eq f.kind r.kind e), q.0, q.1)
 
 -- A place that fits.
 abbrev Early : Rec → Type 0
-Early r = (r.start < power placeDigits) × (r.stop < power placeDigits)
+Early r = (r.start < power place_digits) × (r.stop < power place_digits)
 
 -- The first six numbers of a record that stands in a list fit, if its place and the list do.
-record-fits : (rs : List Rec) (j : ℕ) → Stands rs j → Early (get_or rs j blank) → length rs < power placeDigits → Fit sixWidths (six (get_or rs j blank))
+record-fits : (rs : List Rec) (j : ℕ) → Stands rs j → Early (get_or rs j blank) → length rs < power place_digits → Fit six_widths (six (get_or rs j blank))
 record-fits rs j s (b, e) few =
     let r = get_or rs j blank in
     let m = s.room in
     let (k, l, i) = right-small r (children rs j) s.right s.some (omega arith) in
     (k, (b, (e, (l, (i, (omega arith, tt))))))
 
-module _ (ns : List Node) (ok : kinds.Right ns) (e : end 0 (tokens ns) < power placeDigits) (few : length (tokens ns) < power placeDigits) where
-  records-few : length (records ns) < power placeDigits
+module _ (ns : List Node) (ok : kinds.Right ns) (e : end 0 (tokens ns) < power place_digits) (few : length (tokens ns) < power place_digits) where
+  records-few : length (records ns) < power place_digits
   records-few = omega (arith, (kinds.law-3 ns ok).few)
 
-  sixes-fit : All (λ r. Fit sixWidths (six r)) (records ns)
+  sixes-fit : All (λ r. Fit six_widths (six r)) (records ns)
   sixes-fit = all_from (records ns) blank each
     where
-      each : (j : ℕ) → j < length (records ns) → Fit sixWidths (six (get_or (records ns) j blank))
+      each : (j : ℕ) → j < length (records ns) → Fit six_widths (six (get_or (records ns) j blank))
       each j lt =
           let fine = kinds.fine ns ok in
-          let in_all : j < length (all ns) = omega (arith, length-map (all ns) recordOf) in
+          let in_all : j < length (all ns) = omega (arith, length-map (all ns) record_of) in
           let b = all-at j no_node in_all (all-concat (bounded (roots ns) 0 ok.ordered fine.marked)) in
           let early : Early (get_or (records ns) j blank) = subst Early (sym ((kept ns fine).stands j lt)) (omega (arith, b.some, b.high), omega (arith, b.high)) in
           record-fits (records ns) j (stands ns ok j lt) early records-few
@@ -147,9 +147,9 @@ module _ (ns : List Node) (ok : kinds.Right ns) (e : end 0 (tokens ns) < power p
   fitting = rows-fit (records ns) sixes-fit records-few
 
 -- The records of a file of right trees fit, where its end does and there are fewer tokens.
-pub file-fitting : (ns : List Node) (len : ℕ) → kinds.Right ns → end 0 (tokens ns) ≤ len → len < power placeDigits → suc (length (tokens ns)) < power placeDigits
+pub file-fitting : (ns : List Node) (len : ℕ) → kinds.Right ns → end 0 (tokens ns) ≤ len → len < power place_digits → suc (length (tokens ns)) < power place_digits
     → Fitting widths (rows (filed len (records ns)))
 file-fitting ns len ok within e few =
     let m = (kinds.law-3 ns ok).few in
-    let top : Fit sixWidths (six (program len (records ns))) = (omega arith, (omega arith, (e, (omega arith, (omega arith, (omega (arith, m), tt)))))) in
+    let top : Fit six_widths (six (program len (records ns))) = (omega arith, (omega arith, (e, (omega arith, (omega arith, (omega (arith, m), tt)))))) in
     rows-fit (filed len (records ns)) (top & sixes-fit ns ok (omega arith) (omega arith)) (omega (arith, m))

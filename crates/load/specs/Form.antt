@@ -4,8 +4,8 @@
 use Rattle.std.specs.Prelude.{cond, List, map, ℕ}
 use Rattle.own.specs.Tree.{Rec}
 use Rattle.up.specs.Ways.{six, rows}
-use Rattle.lines.specs.Lines.{sixWidths, widths}
-use Rattle.load.specs.listing.Read.{inForm}
+use Rattle.lines.specs.Lines.{six_widths, widths}
+use Rattle.load.specs.Listing.Read.{in_form}
 
 -- Lines of 36 bytes, and lines of 41, which end with the way up.
 pub data Form : Type 0 where
@@ -13,15 +13,15 @@ pub data Form : Type 0 where
   newer : Form
 
 -- The fields of a line of the form, by their digits,
-abbrev pub widthsOf : Form → List ℕ
-widthsOf older = sixWidths
-widthsOf newer = widths
+abbrev pub widths_of : Form → List ℕ
+widths_of older = six_widths
+widths_of newer = widths
 
 -- and the numbers of the lines of records in it, a line each.
-abbrev pub rowsOf : Form → List Rec → List (List ℕ)
-rowsOf older rs = map six rs
-rowsOf newer rs = rows rs
+abbrev pub rows_of : Form → List Rec → List (List ℕ)
+rows_of older rs = map six rs
+rows_of newer rs = rows rs
 
 -- The form of a listing is that of its first line; what begins with none is held against the newer.
-abbrev pub formOf : List ℕ → Form
-formOf text = cond (inForm sixWidths text) older newer
+abbrev pub form_of : List ℕ → Form
+form_of text = cond (in_form six_widths text) older newer

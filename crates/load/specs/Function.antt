@@ -8,14 +8,14 @@ use Rattle.own.specs.Flat.{blank, children}
 use Rattle.own.specs.Lists.{All}
 use Rattle.own.specs.Kinds as kind
 use Rattle.kinds.specs.Rules.{Form}
-use Rattle.kinds.specs.Decide.{formsFor}
+use Rattle.kinds.specs.Decide.{forms_for}
 use Rattle.kinds.specs.Spelled.{Written}
-use Rattle.load.specs.Bare.{bare, bareForm}
+use Rattle.load.specs.Bare.{bare, bare_form}
 
 -- The children are those of this form of the kinds table, with this low and high: "children in the table's order, fields and arms that its rules and
 -- refusals 9 to 14 allow".
 abbrev pub Fits : ℕ → ℕ → List Rec → Form → Type 0
-Fits low high cs f = Written low high (map bare cs) (bareForm f)
+Fits low high cs f = Written low high (map bare cs) (bare_form f)
 
 -- A child as a node with nothing beneath.
 abbrev pub alone : Rec → Node
@@ -34,7 +34,7 @@ pub record Inside (r c : Rec) : Type 0 where
 -- A record with its children:
 pub record Right (r : Rec) (cs : List Rec) : Type 0 where
   -- of one of the forms of its kind;
-  pub formed : Some (Fits r.low r.high cs) (formsFor r.kind)
+  pub formed : Some (Fits r.low r.high cs) (forms_for r.kind)
   -- "built-in arms as exchanged": no longer the other way round;
   pub exchanged : r.kind ≡ kind.Match → T (not (reversed (map alone cs)))
   -- "sizes that add up";

@@ -11,12 +11,12 @@ use Rattle.own.specs.Kinds as kind
 use Rattle.kinds.specs.Derive.{spells, spells-sound, spells-complete}
 use Rattle.kinds.specs.Fields.{holds}
 use Rattle.kinds.specs.Rules.{Form}
-use Rattle.kinds.specs.Decide.{formsFor}
-use Rattle.load.specs.Bare.{bare, bareShape}
+use Rattle.kinds.specs.Decide.{forms_for}
+use Rattle.load.specs.Bare.{bare, bare_shape}
 use Rattle.load.specs.Function.{Fits, alone, sizes, Inside, Right, is_top, Whole}
 
 unfoldable pub fits : ℕ → ℕ → List Rec → Form → Bool
-fits low high cs f = holds f.fields low high (map bare cs) && spells (bareShape f.shape) (map bare cs)
+fits low high cs f = holds f.fields low high (map bare cs) && spells (bare_shape f.shape) (map bare cs)
 
 unfoldable pub inside : Rec → Rec → Bool
 inside r c = leb r.start c.start && leb c.stop r.stop
@@ -27,7 +27,7 @@ placed r = eqb r.kind kind.Program || ltb r.start r.stop
 
 unfoldable pub right : Rec → List Rec → Bool
 right r cs =
-    some (fits r.low r.high cs) (formsFor r.kind)
+    some (fits r.low r.high cs) (forms_for r.kind)
     && ((not (eqb r.kind kind.Match) || not (reversed (map alone cs))) && (eqb r.size (suc (sizes cs)) && (placed r && all (inside r) cs)))
 
 unfoldable pub is_whole : List Rec → Bool
@@ -37,9 +37,9 @@ fits-exactly : (low high : ℕ) (cs : List Rec) (f : Form) → T (fits low high 
 unfolding fits
 fits-exactly low high cs f =
     let a = holds f.fields low high (map bare cs) in
-    let b = spells (bareShape f.shape) (map bare cs) in (
-      λ t. record { fields = first-of a b t; shape = spells-sound (bareShape f.shape) (map bare cs) (second-of a b t) },
-      λ h. pair a b h.fields (spells-complete (bareShape f.shape) (map bare cs) h.shape),
+    let b = spells (bare_shape f.shape) (map bare cs) in (
+      λ t. record { fields = first-of a b t; shape = spells-sound (bare_shape f.shape) (map bare cs) (second-of a b t) },
+      λ h. pair a b h.fields (spells-complete (bare_shape f.shape) (map bare cs) h.shape),
     )
 
 inside-exactly : (r c : Rec) → T (inside r c) ↔ Inside r c
@@ -61,13 +61,13 @@ placed-exactly r = but (eqb r.kind kind.Program) (ltb r.start r.stop) (equal r.k
 pub right-exactly : (r : Rec) (cs : List Rec) → T (right r cs) ↔ Right r cs
 unfolding right
 right-exactly r cs =
-    let t₁ = some (fits r.low r.high cs) (formsFor r.kind) in
+    let t₁ = some (fits r.low r.high cs) (forms_for r.kind) in
     let t₂ = not (eqb r.kind kind.Match) || not (reversed (map alone cs)) in
     let t₃ = eqb r.size (suc (sizes cs)) in
     let t₄ = placed r in
     let t₅ = all (inside r) cs in
     let e =
-    both t₁ (t₂ && (t₃ && (t₄ && t₅))) (some-exactly (fits r.low r.high cs) (fits-exactly r.low r.high cs) (formsFor r.kind))
+    both t₁ (t₂ && (t₃ && (t₄ && t₅))) (some-exactly (fits r.low r.high cs) (fits-exactly r.low r.high cs) (forms_for r.kind))
     (both t₂ (t₃ && (t₄ && t₅)) (unless (eqb r.kind kind.Match) (not (reversed (map alone cs))) (equal r.kind kind.Match) (itself (not (reversed (map alone cs)))))
     (both t₃ (t₄ && t₅) (equal r.size (suc (sizes cs))) (both t₄ t₅ (placed-exactly r) (all-exactly (inside r) (inside-exactly r) cs)))) in (
       λ t. let (f, (x, (a, (p, i)))) = e.0 t in record { formed = f; exchanged = x; adds = a; place = p; inside = i },

@@ -4,21 +4,21 @@
 use Rattle.std.specs.Prelude.{List, [], ◌∷◌, ◌++◌, map, ◌≡◌, refl, ℕ, suc, take, drop}
 use Prim.Native.String.{String}
 use Rattle.text.specs.Answers.{Answer, accepted, refused}
-use Rattle.text.specs.Ascii.{ascii, asciiFrom}
+use Rattle.text.specs.Ascii.{ascii, ascii_from}
 use Rattle.text.specs.Lists.{has, all, some, count, span}
 use Rattle.text.specs.Same.{same}
 use Rattle.own.specs.Tree.{partner, canonical}
 use Rattle.lines.specs.Form.{LF}
-use Rattle.lines.specs.Hex.{upperHex}
-use Rattle.num.specs.Bound.{isBound}
+use Rattle.lines.specs.Hex.{upper_hex}
+use Rattle.num.specs.Bound.{is_bound}
 use Rattle.kinds.specs.Derive as derive
 use Rattle.kinds.specs.Shape as shape
 use Rattle.kinds.specs.Fields.{counted, halves, holds}
-use Rattle.kinds.specs.Rules.{forms, allForms}
-use Rattle.kinds.specs.Decide.{formsFor}
-use Rattle.load.specs.Bare.{barePart, bareShape}
+use Rattle.kinds.specs.Rules.{forms, all_forms}
+use Rattle.kinds.specs.Decide.{forms_for}
+use Rattle.load.specs.Bare.{bare_part, bare_shape}
 use Rattle.load.specs.FunctionTest.{fits, inside, placed, right, is_whole}
-use Rattle.load.specs.listing.Read.{place_in, digitOf, areDigits, number_of, inForm, values_of, badFrom, badLine, rowsFrom, linesRead}
+use Rattle.load.specs.Listing.Read.{place_in, digit_of, are_digits, number_of, in_form, values_of, bad_from, bad_line, rows_from, lines_read}
 use Rattle.load.specs.Load.{ways_right, load_as, load_of}
 
 -- A listing, a buffer of so many words, and the answer.
@@ -99,14 +99,14 @@ file =
     ∷ []
 
 -- How many records back the parent of each begins: of the example, and of the file.
-abbrev paperUps : List String
-paperUps = " 0000" ∷ " 0001" ∷ " 0002" ∷ " 0001" ∷ " 0001" ∷ " 0002" ∷ " 0001" ∷ " 0004" ∷ " 0001" ∷ []
+abbrev paper_ups : List String
+paper_ups = " 0000" ∷ " 0001" ∷ " 0002" ∷ " 0001" ∷ " 0001" ∷ " 0002" ∷ " 0001" ∷ " 0004" ∷ " 0001" ∷ []
 
-abbrev fileUps : List String
-fileUps = " 0000" ∷ " 0001" ∷ " 0001" ∷ " 0002" ∷ " 0004" ∷ " 0001" ∷ " 0002" ∷ []
+abbrev file_ups : List String
+file_ups = " 0000" ∷ " 0001" ∷ " 0001" ∷ " 0002" ∷ " 0004" ∷ " 0001" ∷ " 0002" ∷ []
 
-abbrev typeItem : List String
-typeItem = take 3 (drop 1 file)
+abbrev type_item : List String
+type_item = take 3 (drop 1 file)
 
 abbrev known : List Case
 known =
@@ -114,25 +114,25 @@ known =
     ∷ whole folded 63 (accepted 0 7)
     -- a file, its items in either order, and files without any
     ∷ whole file 49 (accepted 0 7)
-    ∷ whole (take 1 file ++ (drop 4 file ++ typeItem)) 63 (accepted 0 7)
+    ∷ whole (take 1 file ++ (drop 4 file ++ type_item)) 63 (accepted 0 7)
     ∷ whole ("29 0000 0000 00000000 00000000 0001" ∷ []) 7 (accepted 0 1)
     ∷ whole ("29 0000 4000 00000000 00000000 0001" ∷ []) 63 (accepted 0 1)
     -- lines of 41 bytes
-    ∷ higher paper paperUps 63 (accepted 0 9)
-    ∷ higher file fileUps 49 (accepted 0 7)
+    ∷ higher paper paper_ups 63 (accepted 0 9)
+    ∷ higher file file_ups 49 (accepted 0 7)
     -- 16: a line of another form than the first, in either order; a way up that is cut, or has a small letter
-    ∷ mixed (take 1 file) fileUps (drop 1 file) (refused 16 2)
-    ∷ mixed (take 4 file) fileUps (drop 4 file) (refused 16 5)
-    ∷ record { text = ended (take 4 file) "" ++ climbing (drop 4 file) (drop 4 fileUps); room = 63; result = refused 16 5 }
-    ∷ higher file (put 6 " 002" fileUps) 63 (refused 16 7)
-    ∷ higher file (put 6 " 000a" fileUps) 63 (refused 16 7)
+    ∷ mixed (take 1 file) file_ups (drop 1 file) (refused 16 2)
+    ∷ mixed (take 4 file) file_ups (drop 4 file) (refused 16 5)
+    ∷ record { text = ended (take 4 file) "" ++ climbing (drop 4 file) (drop 4 file_ups); room = 63; result = refused 16 5 }
+    ∷ higher file (put 6 " 002" file_ups) 63 (refused 16 7)
+    ∷ higher file (put 6 " 000a" file_ups) 63 (refused 16 7)
     -- 17: a wrong parent word: the parent's parent, a brother, and again; a top with 1, also where there is no room
-    ∷ higher paper (put 7 " 0005" paperUps) 63 (refused 17 0)
-    ∷ higher file (put 4 " 0003" fileUps) 63 (refused 17 0)
-    ∷ higher file (put 6 " 0001" fileUps) 63 (refused 17 0)
-    ∷ higher file (put 0 " 0001" fileUps) 63 (refused 17 0)
-    ∷ higher file (put 0 " 0001" fileUps) 48 (refused 17 0)
-    ∷ higher file fileUps 48 (refused 18 0)
+    ∷ higher paper (put 7 " 0005" paper_ups) 63 (refused 17 0)
+    ∷ higher file (put 4 " 0003" file_ups) 63 (refused 17 0)
+    ∷ higher file (put 6 " 0001" file_ups) 63 (refused 17 0)
+    ∷ higher file (put 0 " 0001" file_ups) 63 (refused 17 0)
+    ∷ higher file (put 0 " 0001" file_ups) 48 (refused 17 0)
+    ∷ higher file file_ups 48 (refused 18 0)
     -- 16: a small letter; a line that is cut, or has no LF; a byte over
     ∷ whole (put 4 "1d 000D 000E 00000000 00000000 0001" paper) 63 (refused 16 5)
     ∷ behind (take 8 paper) "18 0015 0016 00000000 000" (refused 16 9)
@@ -155,9 +155,9 @@ known =
     -- a program that starts later, empty or not; a type item as the top; a program in a program, a type item in a function, a name in a program;
     ∷ whole ("29 0001 0001 00000000 00000000 0001" ∷ []) 63 (refused 17 0)
     ∷ whole ("29 0001 0012 00000000 00000000 0004" ∷ drop 4 file) 63 (refused 17 0)
-    ∷ whole typeItem 63 (refused 17 0)
+    ∷ whole type_item 63 (refused 17 0)
     ∷ whole ("29 0000 0012 00000000 00000000 0008" ∷ file) 63 (refused 17 0)
-    ∷ whole ("01 0000 0012 00000000 00000000 0006" ∷ "02 000D 000E 00000000 00000000 0001" ∷ (typeItem ++ drop 6 file)) 63 (refused 17 0)
+    ∷ whole ("01 0000 0012 00000000 00000000 0006" ∷ "02 000D 000E 00000000 00000000 0001" ∷ (type_item ++ drop 6 file)) 63 (refused 17 0)
     ∷ whole ("29 0000 0012 00000000 00000000 0002" ∷ "02 000D 000E 00000000 00000000 0001" ∷ []) 63 (refused 17 0)
     -- a program with a low, one that ends before its items, a type item without bytes
     ∷ whole (put 0 "29 0000 0012 00000001 00000000 0007" file) 63 (refused 17 0)
@@ -172,7 +172,7 @@ known =
 
 -- The definitions agree with the papers.
 pub known-agree : map (λ k. load_of k.text k.room) known ≡ map (λ k. k.result) known
-unfolding ascii asciiFrom has all some count span partner canonical upperHex isBound derive.blank derive.dead derive.then derive.either derive.isMark
-    derive.isPart derive.after derive.spells shape.number shape.fits counted halves holds forms allForms formsFor barePart bareShape fits inside placed right
-    is_whole place_in digitOf areDigits number_of inForm values_of badFrom badLine rowsFrom linesRead same ways_right load_as
+unfolding ascii ascii_from has all some count span partner canonical upper_hex is_bound derive.blank derive.dead derive.then derive.either derive.is_mark
+    derive.is_part derive.after derive.spells shape.number shape.fits counted halves holds forms all_forms forms_for bare_part bare_shape fits inside placed right
+    is_whole place_in digit_of are_digits number_of in_form values_of bad_from bad_line rows_from lines_read same ways_right load_as
 known-agree = refl

@@ -1,12 +1,12 @@
 pub mod Bare
 pub mod Function
 pub mod FunctionTest
-pub mod children
-pub mod check
+pub mod Children
+pub mod Checks
 pub mod Tops
 pub mod HandedForms
 pub mod Handed
-pub mod listing
+pub mod Listing
 pub mod Fitting
 pub mod Form
 pub mod Load

@@ -17,6 +17,6 @@ abbrev pub returned : Loaded → Values
 returned r = values (meant r)
 
 -- The form of lines.
-abbrev pub asForm : Form → spec.Form
-asForm Older = spec.older
-asForm Newer = spec.newer
+abbrev pub as_form : Form → spec.Form
+as_form Older = spec.older
+as_form Newer = spec.newer

@@ -13,11 +13,11 @@ use Rattle.own.specs.Law.{Sort}
 use Rattle.own.specs.Lists.{All, ◌&◌}
 use Rattle.own.specs.Kinds as kind
 use Rattle.kinds.specs.Families as family
-use Rattle.kinds.specs.Rules.{Form, forms, allForms}
-use Rattle.kinds.specs.Decide.{kindsOf, gather, kindsIn, formsFor, spells-listed}
-use Rattle.load.specs.Bare.{bare, barePart, bareShape}
+use Rattle.kinds.specs.Rules.{Form, forms, all_forms}
+use Rattle.kinds.specs.Decide.{kinds_of, gather, kinds_in, forms_for, spells-listed}
+use Rattle.load.specs.Bare.{bare, bare_part, bare_shape}
 use Rattle.load.specs.Function.{Fits, Right, Whole}
-use Rattle.load.specs.check.Parts.{Among, Held, each-held}
+use Rattle.load.specs.Checks.Parts.{Among, Held, each-held}
 
 -- What a record of a kind may have below it: no program, and an item only where it is a program itself.
 abbrev below : ℕ → ℕ → Bool
@@ -36,10 +36,10 @@ is_below parent kid t =
 
 -- No form has other children,
 abbrev keeps : Form → Bool
-keeps f = all (below f.kind) (kindsIn (bareShape f.shape))
+keeps f = all (below f.kind) (kinds_in (bare_shape f.shape))
 
-forms-keep : T (all keeps allForms)
-unfolding all has count span allForms forms bareShape barePart gather kindsOf
+forms-keep : T (all keeps all_forms)
+unfolding all has count span all_forms forms bare_shape bare_part gather kinds_of
 forms-keep = tt
 
 pick : {P : Sort → Type 0} {c : Rec} (cs : List Rec) → All P (map bare cs) → Among c cs → P (bare c)
@@ -49,13 +49,13 @@ pick (x ∷ cs) (p & h) (there s) = pick cs h s
 
 -- and so no right record.
 child-below : (r c : Rec) (cs : List Rec) → Right r cs → Among c cs → Below r.kind c.kind
-unfolding formsFor
-child-below r c cs o a = from_some one (all-some keeps forms-keep (some-keep (λ f. eqb f.kind r.kind) allForms o.formed))
+unfolding forms_for
+child-below r c cs o a = from_some one (all-some keeps forms-keep (some-keep (λ f. eqb f.kind r.kind) all_forms o.formed))
   where
     one : (f : Form) → T (keeps f) × (T (eqb f.kind r.kind) × Fits r.low r.high cs f) → Below r.kind c.kind
     one f (t, (e, h)) =
         subst (λ (k : ℕ). Below k c.kind) (eqb→eq f.kind r.kind e)
-        (is_below f.kind c.kind (all-has (below f.kind) (kindsIn (bareShape f.shape)) c.kind t (pick cs (spells-listed h.shape) a)))
+        (is_below f.kind c.kind (all-has (below f.kind) (kinds_in (bare_shape f.shape)) c.kind t (pick cs (spells-listed h.shape) a)))
 
 module _ (rs : List Rec) (w : Whole rs) where
   abbrev kind_at : ℕ → ℕ

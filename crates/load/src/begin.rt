@@ -1,8 +1,8 @@
 // The state that the children of a record begin in, by its kind, low and high; and what low and high say of how many children there are.
 ghost use Rattle.std.specs.Prelude.{◌≡◌, ◌<◌};
 ghost use Rattle.text.specs.Lists.{has};
-ghost use Rattle.load.specs.children.Begin as spec;
-ghost use Rattle.load.specs.children.Table as table;
+ghost use Rattle.load.specs.Children.Begin as spec;
+ghost use Rattle.load.specs.Children.Table as table;
 
 use crate::cue;
 use crate::table::{HEAD_ENTRIES, HEADS};
@@ -107,7 +107,7 @@ fn asked(heads: &[u8; HEAD_ENTRIES], kind: u32) -> u8
 pub(crate) fn start(heads: &[u8; HEAD_ENTRIES], kind: u32, low: u32, high: u32) -> usize
     requires { heads.now ≡ table.heads }
     ensures is { result ≡ spec.start kind low high }
-    ensures below { result < table.stateCount }
+    ensures below { result < table.state_count }
 {
     if kind > kind::LAST {
         return DEAD;

@@ -2,14 +2,14 @@
 ghost use Rattle.std.specs.Prelude.{◌≡◌, ◌<◌};
 ghost use Rattle.load.specs.Function as function;
 ghost use Rattle.load.specs.FunctionTest as test;
-ghost use Rattle.load.specs.listing.Read.{recordsIn};
-ghost use Rattle.load.specs.listing.DigitLaws.{DigitTable};
-ghost use Rattle.load.specs.listing.LineForm.{Listed};
-ghost use Rattle.load.specs.children.Table as table;
-ghost use Rattle.load.specs.check.Judge as spec;
-ghost use Rattle.load.specs.check.Judge.{asRec};
-ghost use Rattle.load.specs.check.Small.{Below};
-ghost use Rattle.load.specs.check.Stands as standing;
+ghost use Rattle.load.specs.Listing.Read.{records_in};
+ghost use Rattle.load.specs.Listing.DigitLaws.{DigitTable};
+ghost use Rattle.load.specs.Listing.LineForm.{Listed};
+ghost use Rattle.load.specs.Children.Table as table;
+ghost use Rattle.load.specs.Checks.Judge as spec;
+ghost use Rattle.load.specs.Checks.Judge.{as_rec};
+ghost use Rattle.load.specs.Checks.Small.{Below};
+ghost use Rattle.load.specs.Checks.Stands as standing;
 
 use crate::digits::BYTE_VALUES;
 use crate::record::Record;
@@ -28,7 +28,7 @@ fn verdict(
     requires heads_value { heads.now ≡ table.heads }
     requires steps_value { steps.now ≡ table.steps }
     requires below { Below walked }
-    ensures { result ≡ spec.verdict (asRec r) walked }
+    ensures { result ≡ spec.verdict (as_rec r) walked }
 {
     let Walked::Done(seen) = walked else {
         return false;
@@ -49,7 +49,7 @@ fn verdict(
 
 // Whether a record starts before it ends; a program may be empty.
 fn placed(r: Record) -> bool
-    ensures { result ≡ test.placed (asRec r) }
+    ensures { result ≡ test.placed (as_rec r) }
 {
     if r.kind == kind::PROGRAM {
         return true;
@@ -73,7 +73,7 @@ fn stands(
     requires heads_value { heads.now ≡ table.heads }
     requires steps_value { steps.now ≡ table.steps }
     requires j_lt_n { j < n }
-    ensures { result ≡ standing.stands (recordsIn widths.now text.now) j }
+    ensures { result ≡ standing.stands (records_in widths.now text.now) j }
 {
     let r = record::record_at(digits, widths, text, step * j);
     if r.size == 0 {
@@ -92,7 +92,7 @@ fn stands(
 
 // Whether a record may be the top of a listing: a function, or a program that starts at 0.
 fn is_top(r: Record) -> bool
-    ensures { result ≡ function.is_top (asRec r) }
+    ensures { result ≡ function.is_top (as_rec r) }
 {
     if r.kind == kind::FUNCTION {
         return true;
@@ -110,7 +110,7 @@ pub(crate) fn is_whole(
 ) -> bool
     requires digit_table { DigitTable digits.now }
     requires listed { Listed widths.now step text.now n }
-    ensures { result ≡ test.is_whole (recordsIn widths.now text.now) }
+    ensures { result ≡ test.is_whole (records_in widths.now text.now) }
 {
     if n == 0 {
         return false;

@@ -1,7 +1,7 @@
 // The cue of a child: children that no rule tells apart have the same. Crate `kinds` says which category a kind is of.
 ghost use Rattle.std.specs.Prelude.{◌≡◌, ◌<◌};
 ghost use Rattle.kinds.specs.Shape.{number};
-ghost use Rattle.load.specs.children.Cue as spec;
+ghost use Rattle.load.specs.Children.Cue as spec;
 
 use kinds::part;
 use own::arm;
@@ -55,7 +55,7 @@ pub(crate) fn number(low: u32, high: u32) -> u64
 
 // The cue of a built-in arm.
 fn arm_cue(low: u32) -> usize
-    ensures { result ≡ spec.armCue low }
+    ensures { result ≡ spec.arm_cue low }
 {
     if low == 0 {
         return ARM;
@@ -68,7 +68,7 @@ fn arm_cue(low: u32) -> usize
 
 // The cue of a number.
 fn number_cue(n: u64) -> usize
-    ensures { result ≡ spec.numberCue n }
+    ensures { result ≡ spec.number_cue n }
 {
     if num::is_bound(num::Value::Number(n)) {
         return BOUND;

@@ -2,10 +2,10 @@
 ghost use Rattle.std.specs.Prelude.{◌≡◌};
 ghost use Rattle.lines.specs.Form.{wide};
 ghost use Rattle.lines.specs.Lines as lines_spec;
-ghost use Rattle.load.specs.Form.{widthsOf, formOf};
-ghost use Rattle.load.specs.Meant.{asForm};
-ghost use Rattle.load.specs.listing.DigitLaws.{DigitTable};
-ghost use Rattle.load.specs.listing.Read.{badLine};
+ghost use Rattle.load.specs.Form.{widths_of, form_of};
+ghost use Rattle.load.specs.Meant.{as_form};
+ghost use Rattle.load.specs.Listing.DigitLaws.{DigitTable};
+ghost use Rattle.load.specs.Listing.Read.{bad_line};
 
 use crate::digits::BYTE_VALUES;
 use crate::line;
@@ -22,7 +22,7 @@ pub(crate) enum Form {
 pub(crate) fn form_of(digits: &[u8; BYTE_VALUES], widths: &[usize], listing: &[u8]) -> Form
     requires digit_table { DigitTable digits.now }
     requires widths_value { widths.now ≡ lines_spec.widths }
-    ensures { asForm result ≡ formOf listing.now }
+    ensures { as_form result ≡ form_of listing.now }
 {
     if listing.len() < SIX_BYTES {
         return Form::Newer;
@@ -42,7 +42,7 @@ pub(crate) fn bad_line(
 ) -> usize
     requires digit_table { DigitTable digits.now }
     requires widths_value { widths.now ≡ lines_spec.widths }
-    ensures { result ≡ badLine (widthsOf (asForm form)) listing.now }
+    ensures { result ≡ bad_line (widths_of (as_form form)) listing.now }
 {
     match form {
         Form::Older => line::bad_line(digits, &widths[..SIX_FIELDS], SIX_BYTES, listing),
@@ -53,7 +53,7 @@ pub(crate) fn bad_line(
 // The fields of a line of the form,
 pub(crate) fn fields(form: Form, widths: &[usize]) -> &[usize]
     requires widths_value { widths.now ≡ lines_spec.widths }
-    ensures { result.now ≡ widthsOf (asForm form) }
+    ensures { result.now ≡ widths_of (as_form form) }
 {
     match form {
         Form::Older => &widths[..SIX_FIELDS],
@@ -63,7 +63,7 @@ pub(crate) fn fields(form: Form, widths: &[usize]) -> &[usize]
 
 // and how many bytes it has.
 pub(crate) fn bytes(form: Form) -> usize
-    ensures { result ≡ wide (widthsOf (asForm form)) }
+    ensures { result ≡ wide (widths_of (as_form form)) }
 {
     match form {
         Form::Older => SIX_BYTES,

@@ -5,12 +5,12 @@ ghost use Rattle.std.specs.Prelude.{◌≡◌, ◌/◌, length};
 ghost use Rattle.text.specs.Answers.{values};
 ghost use Rattle.lines.specs.Form.{wide};
 ghost use Rattle.lines.specs.Lines as lines_spec;
-ghost use Rattle.load.specs.Form.{widthsOf};
+ghost use Rattle.load.specs.Form.{widths_of};
 ghost use Rattle.load.specs.Load.{is_right, load_as, load_of, words_of};
-ghost use Rattle.load.specs.Meant.{meant, returned, asForm};
+ghost use Rattle.load.specs.Meant.{meant, returned, as_form};
 ghost use Rattle.load.specs.Promised.{Loads};
-ghost use Rattle.load.specs.listing.DigitLaws.{DigitTable};
-ghost use Rattle.load.specs.listing.Read.{linesRead};
+ghost use Rattle.load.specs.Listing.DigitLaws.{DigitTable};
+ghost use Rattle.load.specs.Listing.Read.{lines_read};
 
 use crate::digits::BYTE_VALUES;
 use crate::form::Form;
@@ -44,9 +44,9 @@ fn is_right(
     n: usize,
 ) -> bool
     requires digit_table { DigitTable digits.now }
-    requires widths_value { widths.now ≡ widthsOf (asForm form) }
+    requires widths_value { widths.now ≡ widths_of (as_form form) }
     requires n_value { n ≡ length listing.now / wide widths.now }
-    ensures { result ≡ is_right (asForm form) (linesRead widths.now listing.now) }
+    ensures { result ≡ is_right (as_form form) (lines_read widths.now listing.now) }
 {
     if !check::is_whole(digits, widths, form::bytes(form), listing, n) {
         return false;
@@ -67,7 +67,7 @@ fn answer(
 ) -> Loaded
     requires digit_table { DigitTable digits.now }
     requires widths_value { widths.now ≡ lines_spec.widths }
-    ensures { meant result ≡ load_as (asForm form) listing.now room }
+    ensures { meant result ≡ load_as (as_form form) listing.now room }
 {
     let bad = form::bad_line(digits, form, widths, listing);
     if bad > 0 {

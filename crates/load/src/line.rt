@@ -2,9 +2,9 @@
 ghost use Rattle.std.specs.Prelude.{◌≡◌, ◌+◌, ◌≤◌, ◌<◌, length, drop};
 ghost use Rattle.std.proofs.lemmas.List.Edits.{sets};
 ghost use Rattle.lines.specs.Form as form;
-ghost use Rattle.lines.specs.Lines.{halfDigits};
-ghost use Rattle.load.specs.listing.Read.{digitOf, areDigits, number_of, inForm, values_of, badLine};
-ghost use Rattle.load.specs.listing.DigitLaws.{DigitTable, Short};
+ghost use Rattle.lines.specs.Lines.{half_digits};
+ghost use Rattle.load.specs.Listing.Read.{digit_of, are_digits, number_of, in_form, values_of, bad_line};
+ghost use Rattle.load.specs.Listing.DigitLaws.{DigitTable, Short};
 
 use crate::digits::{BYTE_VALUES, DIGITS};
 
@@ -24,7 +24,7 @@ pub(crate) fn digit_table() -> [u8; BYTE_VALUES]
 // The value of an upper-case hexadecimal digit; 16 for any other byte.
 fn digit(digits: &[u8; BYTE_VALUES], b: u8) -> u32
     requires { DigitTable digits.now }
-    ensures { result ≡ digitOf b }
+    ensures { result ≡ digit_of b }
 {
     digits[b as usize] as u32
 }
@@ -32,7 +32,7 @@ fn digit(digits: &[u8; BYTE_VALUES], b: u8) -> u32
 // The number that n digits from `at` on are.
 pub(crate) fn number(digits: &[u8; BYTE_VALUES], text: &[u8], at: usize, n: usize) -> u32
     requires digit_table { DigitTable digits.now }
-    requires n_le_half_digits { n ≤ halfDigits }
+    requires n_le_half_digits { n ≤ half_digits }
     requires n_in_bounds { at + n ≤ length text.now }
     ensures { result ≡ number_of n (drop at text.now) }
 {
@@ -49,7 +49,7 @@ pub(crate) fn number(digits: &[u8; BYTE_VALUES], text: &[u8], at: usize, n: usiz
 fn are_digits(digits: &[u8; BYTE_VALUES], text: &[u8], at: usize, n: usize) -> bool
     requires digit_table { DigitTable digits.now }
     requires n_in_bounds { at + n ≤ length text.now }
-    ensures { result ≡ areDigits n (drop at text.now) }
+    ensures { result ≡ are_digits n (drop at text.now) }
 {
     let mut i = 0;
     while i < n {
@@ -66,7 +66,7 @@ fn are_digits(digits: &[u8; BYTE_VALUES], text: &[u8], at: usize, n: usize) -> b
 pub(crate) fn in_form(digits: &[u8; BYTE_VALUES], widths: &[usize], text: &[u8], at: usize) -> bool
     requires digit_table { DigitTable digits.now }
     requires widths_in_bounds { at + form.wide widths.now ≤ length text.now }
-    ensures { result ≡ inForm widths.now (drop at text.now) }
+    ensures { result ≡ in_form widths.now (drop at text.now) }
 {
     let mut p = at;
     let mut k = 0;
@@ -95,7 +95,7 @@ pub(crate) fn bad_line(
     requires digit_table { DigitTable digits.now }
     requires step_value { step ≡ form.wide widths.now }
     requires step_nonzero { 0 < step }
-    ensures { result ≡ badLine widths.now text.now }
+    ensures { result ≡ bad_line widths.now text.now }
 {
     let mut i = 0;
     let mut p = 0;

@@ -1,10 +1,10 @@
 // A record, as its line has it.
 ghost use Rattle.std.specs.Prelude.{◌≡◌, ◌+◌, ◌≤◌, length, drop};
 ghost use Rattle.lines.specs.Form as form;
-ghost use Rattle.load.specs.listing.Read.{values_of, recOf};
-ghost use Rattle.load.specs.listing.LineForm.{sixFields};
-ghost use Rattle.load.specs.listing.DigitLaws.{DigitTable, Short};
-ghost use Rattle.load.specs.check.Judge.{asRec};
+ghost use Rattle.load.specs.Listing.Read.{values_of, rec_of};
+ghost use Rattle.load.specs.Listing.LineForm.{six_fields};
+ghost use Rattle.load.specs.Listing.DigitLaws.{DigitTable, Short};
+ghost use Rattle.load.specs.Checks.Judge.{as_rec};
 
 use crate::digits::BYTE_VALUES;
 use crate::line;
@@ -30,9 +30,9 @@ pub(crate) fn record_at(
 ) -> Record
     requires digit_table { DigitTable digits.now }
     requires short { Short widths.now }
-    requires full { sixFields ≤ length widths.now }
+    requires full { six_fields ≤ length widths.now }
     requires widths_in_bounds { at + form.wide widths.now ≤ length text.now }
-    ensures { asRec result ≡ recOf (values_of widths.now (drop at text.now)) }
+    ensures { as_rec result ≡ rec_of (values_of widths.now (drop at text.now)) }
 {
     let mut words = [0u32; lines::SIX_FIELDS];
     let six = &widths[..lines::SIX_FIELDS];

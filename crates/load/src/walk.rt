@@ -1,16 +1,16 @@
 // The walk over a record's children: each stands inside its place, together they are all that is beneath it, and an automaton takes them in their order.
 ghost use Rattle.std.specs.Prelude.{◌≡◌, true, ◌+◌, ◌*◌, ◌<◌, ◌≤◌, length, get_or};
 ghost use Rattle.own.specs.Flat.{blank, children};
-ghost use Rattle.load.specs.listing.Read.{recordsIn};
-ghost use Rattle.load.specs.listing.DigitLaws.{DigitTable};
-ghost use Rattle.load.specs.listing.LineForm.{LineForm};
-ghost use Rattle.load.specs.children.Table as table;
-ghost use Rattle.load.specs.children.Cue.{cues};
-ghost use Rattle.load.specs.children.Automaton.{entry};
-ghost use Rattle.load.specs.children.Run as run;
-ghost use Rattle.load.specs.check.Judge as spec;
-ghost use Rattle.load.specs.check.Judge.{asRec};
-ghost use Rattle.load.specs.check.Small.{Small, Below};
+ghost use Rattle.load.specs.Listing.Read.{records_in};
+ghost use Rattle.load.specs.Listing.DigitLaws.{DigitTable};
+ghost use Rattle.load.specs.Listing.LineForm.{LineForm};
+ghost use Rattle.load.specs.Children.Table as table;
+ghost use Rattle.load.specs.Children.Cue.{cues};
+ghost use Rattle.load.specs.Children.Automaton.{entry};
+ghost use Rattle.load.specs.Children.Run as run;
+ghost use Rattle.load.specs.Checks.Judge as spec;
+ghost use Rattle.load.specs.Checks.Judge.{as_rec};
+ghost use Rattle.load.specs.Checks.Small.{Small, Below};
 
 use crate::digits::BYTE_VALUES;
 use crate::record::Record;
@@ -51,10 +51,10 @@ pub(crate) fn wide(x: u8) -> usize
 // The entry of a state: by cue the state after a child, and behind the cues 1 where a record may end.
 fn entry(steps: &[u8; STATES * COLUMNS], state: usize, cue: usize) -> usize
     requires steps_value { steps.now ≡ table.steps }
-    requires state_lt_state_count { state < table.stateCount }
+    requires state_lt_state_count { state < table.state_count }
     requires cue_le_cues { cue ≤ cues }
     ensures is { result ≡ entry state cue }
-    ensures below { result < table.stateCount }
+    ensures below { result < table.state_count }
 {
     wide(steps[COLUMNS * state + cue])
 }
@@ -62,7 +62,7 @@ fn entry(steps: &[u8; STATES * COLUMNS], state: usize, cue: usize) -> usize
 // Whether a record may end in this state.
 pub(crate) fn ends(steps: &[u8; STATES * COLUMNS], state: usize) -> bool
     requires steps_value { steps.now ≡ table.steps }
-    requires state_lt_state_count { state < table.stateCount }
+    requires state_lt_state_count { state < table.state_count }
     ensures { result ≡ run.ended state }
 {
     entry(steps, state, cue::CUES) == 1
@@ -77,7 +77,7 @@ fn one(cue: usize, this: usize) -> usize
 
 // Whether a child stands among the records that are left, inside the place of its parent.
 fn sits(left: usize, parent: Record, child: Record) -> bool
-    ensures { result ≡ spec.sits left (asRec parent) (asRec child) }
+    ensures { result ≡ spec.sits left (as_rec parent) (as_rec child) }
 {
     if child.size == 0 {
         return false;
@@ -97,7 +97,7 @@ fn past(steps: &[u8; STATES * COLUMNS], seen: Seen, child: Record) -> Seen
     requires small { Small seen }
     requires size_nonzero { 0 < child.size }
     requires size_le_left { child.size ≤ seen.left }
-    ensures { result ≡ spec.past seen (asRec child) }
+    ensures { result ≡ spec.past seen (as_rec child) }
 {
     let its = cue::cue(child.kind, child.low, child.high);
     Seen {
@@ -123,11 +123,11 @@ pub(crate) fn walk(
     requires digit_table { DigitTable digits.now }
     requires line_form { LineForm widths.now step }
     requires steps_value { steps.now ≡ table.steps }
-    requires state_lt_state_count { state < table.stateCount }
-    requires parent_value { asRec parent ≡ get_or (recordsIn widths.now text.now) j blank }
+    requires state_lt_state_count { state < table.state_count }
+    requires parent_value { as_rec parent ≡ get_or (records_in widths.now text.now) j blank }
     requires size_nonzero { 0 < parent.size }
-    requires size_in_bounds { j + parent.size ≤ length (recordsIn widths.now text.now) }
-    ensures is { result ≡ spec.judge (asRec parent) (spec.before (asRec parent) state) (children (recordsIn widths.now text.now) j) }
+    requires size_in_bounds { j + parent.size ≤ length (records_in widths.now text.now) }
+    ensures is { result ≡ spec.judge (as_rec parent) (spec.before (as_rec parent) state) (children (records_in widths.now text.now) j) }
     ensures below { Below result }
 {
     let mut i = j + 1;

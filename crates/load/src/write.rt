@@ -1,10 +1,10 @@
 // The numbers of lines, written as the words of records.
 ghost use Rattle.std.specs.Prelude.{map, ◌≡◌, ◌*◌, ◌≤◌, length};
-ghost use Rattle.text.specs.Widths.{recWide};
+ghost use Rattle.text.specs.Widths.{rec_wide};
 ghost use Rattle.own.specs.Words.{recs};
-ghost use Rattle.load.specs.listing.LineForm.{LineForm};
-ghost use Rattle.load.specs.listing.Read.{rowsFrom, recOf};
-ghost use Rattle.load.specs.listing.DigitLaws.{DigitTable};
+ghost use Rattle.load.specs.Listing.LineForm.{LineForm};
+ghost use Rattle.load.specs.Listing.Read.{rows_from, rec_of};
+ghost use Rattle.load.specs.Listing.DigitLaws.{DigitTable};
 
 use crate::digits::BYTE_VALUES;
 use crate::line;
@@ -21,8 +21,8 @@ pub(crate) fn records(
     requires digit_table { DigitTable digits.now }
     requires line_form { LineForm widths.now step }
     requires n_in_bounds { step * n ≤ length text.now }
-    requires n_in_bounds_2 { recWide * n ≤ length tree.old }
-    ensures { recs n tree.new ≡ map recOf (rowsFrom widths.now n text.now) }
+    requires n_in_bounds_2 { rec_wide * n ≤ length tree.old }
+    ensures { recs n tree.new ≡ map rec_of (rows_from widths.now n text.now) }
 {
     let six = &widths[..lines::SIX_FIELDS];
     let mut i = 0;

@@ -5,7 +5,7 @@
 #![tactic(auto)]
 
 ghost use Rattle.std.specs.Prelude.{◌≡◌, ◌+◌, ◌*◌, ◌≤◌, ◌<◌, length};
-ghost use Rattle.lines.specs.Lines.{sixBytes, lineBytes};
+ghost use Rattle.lines.specs.Lines.{six_bytes, line_bytes};
 
 use lines::{LINE_BYTES, SIX_BYTES};
 use load::Loaded;
@@ -89,7 +89,7 @@ fn write_zeros(all: bool) {
 
 // Whether n lines of 36 bytes are those of 41 without the way up and the space before it.
 fn wider(listing: &[u8], out: &[u8], n: usize) -> bool
-    requires { (sixBytes * n ≤ length listing.now) × (lineBytes * n ≤ length out.now) }
+    requires { (six_bytes * n ≤ length listing.now) × (line_bytes * n ≤ length out.now) }
 {
     let mut i = 0;
     while i < n {

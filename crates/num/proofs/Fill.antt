@@ -8,7 +8,7 @@ use native.Mathlib.Omega.{arith}
 use borrow.Author.Tests.{le-leb, lt-leb}
 use lib.ListN.{length, get_or, set, take, drop, replicate, length-append, length-set, length-replicate, take-append-drop}
 use lib.Seq.{length-take-le, take-suc-set, drop-set-lt, drop-drop, append_snoc}
-use Rattle.num.specs.Digits.{plain, answer_of, bufferOf}
+use Rattle.num.specs.Digits.{plain, answer_of, buffer_of}
 use Rattle.num.specs.declared.DigitText.TheVariants.{Written, Short}
 use Rattle.num.proofs.Runs.{passed, kept, over}
 
@@ -30,8 +30,8 @@ module _ (run : List ℕ) where
     count : length (take n out) ≡ n
     count = length-take-le n out (omega (arith, a.long))
 
-    pub ends : length run ≤ i → (Written n ≡ answer_of (plain run) m) × (out ≡ bufferOf (plain run) m)
-    unfolding answer_of bufferOf
+    pub ends : length run ≤ i → (Written n ≡ answer_of (plain run) m) × (out ≡ buffer_of (plain run) m)
+    unfolding answer_of buffer_of
     ends h =
         let f : take n out ≡ plain run = rw (over run i h, append-nil) at a.front in
         let k : length (plain run) ≡ n = sym (ap length f) ∙ count in
@@ -59,8 +59,8 @@ module _ (run : List ℕ) where
               back = drop-set-lt (n + 1) out n (get_or run i 0) (omega arith) ∙ sym (drop-drop 1 n out) ∙ ap (drop 1) (a.back ∙ ap (λ j. replicate j 0) k);
             }
 
-        pub overflows : n ≡ m → (Short ≡ answer_of (plain run) m) × (replicate m 0 ≡ bufferOf (plain run) m)
-        unfolding answer_of bufferOf
+        pub overflows : n ≡ m → (Short ≡ answer_of (plain run) m) × (replicate m 0 ≡ buffer_of (plain run) m)
+        unfolding answer_of buffer_of
         overflows l =
             let k = sym (ap length next) ∙ length-append (take n out) (get_or run i 0 ∷ plain (drop (i + 1) run)) in
             let t = lt-leb (length (plain run)) m (omega (arith, k, count)) in

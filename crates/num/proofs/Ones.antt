@@ -10,7 +10,7 @@ use lib.Count.{ones, ones_in, ones_step, ones_cat}
 use lib.Dec.{eqb}
 use lib.Pow.{pow_pos}
 use Rattle.text.specs.Same.{differ}
-use Rattle.num.specs.Bound.{isBound}
+use Rattle.num.specs.Bound.{is_bound}
 use Rattle.num.specs.BoundLaws.{power-of, power-passes}
 
 none-set : (k n : ℕ) → n < 2 ^ k → ones n ≡ 0 → n ≡ 0
@@ -65,11 +65,11 @@ alike true false f g = differ (f refl)
 alike false true f g = differ (g refl)
 alike false false f g = refl
 
-pub one_bit : (n : ℕ) → n < 2 ^ 64 → 2 ≤ n → eqb (ones n) 1 ≡ isBound n
+pub one_bit : (n : ℕ) → n < 2 ^ 64 → 2 ≤ n → eqb (ones n) 1 ≡ is_bound n
 one_bit n h l =
     alike _ _
     (λ e. let r = one_set 64 n h (eqb-true _ _ e) in power-passes n r.0 (positive n r.0 l r.2) (omega arith) r.2)
     (λ e. let r = power-of n e in eq-eqb _ _ (ap ones r.3 ∙ power-ones r.0))
 
-pub below_two : (n : ℕ) → n < 2 → false ≡ isBound n
+pub below_two : (n : ℕ) → n < 2 → false ≡ is_bound n
 below_two n h = alike _ _ (λ e. differ e) (λ e. let r = power-of n e in absurd (omega (arith, power-two r.0 r.1)))

@@ -9,7 +9,7 @@ use borrow.Author.Tests.{le-leb, lt-leb, leb-true, leb-false}
 use lib.Dec.{leb}
 use lib.ListN.{length, get_or, drop}
 use Rattle.num.specs.Digits.{plain}
-use Rattle.num.specs.Value.{decimalFrom, decimalOf, largest, fitted, number_of}
+use Rattle.num.specs.Value.{decimal_from, decimal_of, largest, fitted, number_of}
 use Rattle.num.specs.declared.Value.TheVariants.{Number, TooLarge}
 use Rattle.num.proofs.Runs.{passed, kept, over}
 
@@ -40,8 +40,8 @@ module _ (n : ℕ) where
       go false q e = leb-false _ _ q
 
 -- more digits never make less
-grows : (v : ℕ) (l : List ℕ) → v ≤ decimalFrom v l
-unfolding decimalFrom
+grows : (v : ℕ) (l : List ℕ) → v ≤ decimal_from v l
+unfolding decimal_from
 grows v [] = omega arith
 grows v (b ∷ r) = omega (arith, grows (v * 10 + (b - 48)) r)
 
@@ -49,7 +49,7 @@ grows v (b ∷ r) = omega (arith, grows (v * 10 + (b - 48)) r)
 pub record Reading (run : List ℕ) (v i : ℕ) : Type 0 where
   pub within : i ≤ length run
   pub held : v ≤ largest
-  pub whole : decimalFrom v (plain (drop i run)) ≡ decimalFrom 0 (plain run)
+  pub whole : decimal_from v (plain (drop i run)) ≡ decimal_from 0 (plain run)
 
 module _ (run : List ℕ) where
   pub starts : Reading run 0 0
@@ -57,9 +57,9 @@ module _ (run : List ℕ) where
 
   module _ (v i : ℕ) (a : Reading run v i) where
     pub ends : length run ≤ i → Number v ≡ number_of run
-    unfolding number_of decimalOf decimalFrom
+    unfolding number_of decimal_of decimal_from
     ends h =
-        let e : v ≡ decimalFrom 0 (plain run) = rw (over run i h) at a.whole in
+        let e : v ≡ decimal_from 0 (plain run) = rw (over run i h) at a.whole in
         fits v a.held ∙ ap fitted e
 
     module _ (h : i < length run) where
@@ -67,17 +67,17 @@ module _ (run : List ℕ) where
       passes e = record { within = omega arith; held = a.held; whole = rw (passed run i h e) at a.whole }
 
       module _ (e : get_or run i 0 ≡ 95 → ⊥) (d : ℕ) (q : d ≡ get_or run i 0 - 48) where
-        step : decimalFrom (v * 10 + d) (plain (drop (i + 1) run)) ≡ decimalFrom 0 (plain run)
-        unfolding decimalFrom
+        step : decimal_from (v * 10 + d) (plain (drop (i + 1) run)) ≡ decimal_from 0 (plain run)
+        unfolding decimal_from
         step = rw q (rw (kept run i h e) at a.whole)
 
         pub pushes : (r : ℕ) → fitted (v * 10 + d) ≡ Number r → Reading run r (i + 1)
         pushes r f =
             let g = fitted-number (v * 10 + d) r f in
-            record { within = omega arith; held = omega arith; whole = ap (λ x. decimalFrom x (plain (drop (i + 1) run))) g.0 ∙ step }
+            record { within = omega arith; held = omega arith; whole = ap (λ x. decimal_from x (plain (drop (i + 1) run))) g.0 ∙ step }
 
         pub stops : fitted (v * 10 + d) ≡ TooLarge → TooLarge ≡ number_of run
-        unfolding number_of decimalOf
+        unfolding number_of decimal_of
         stops f =
             let g : largest < v * 10 + d = fitted-too-large (v * 10 + d) f in
-            too_large (decimalFrom 0 (plain run)) (omega (arith, grows (v * 10 + d) (plain (drop (i + 1) run)), step))
+            too_large (decimal_from 0 (plain run)) (omega (arith, grows (v * 10 + d) (plain (drop (i + 1) run)), step))

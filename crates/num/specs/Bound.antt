@@ -7,23 +7,23 @@ use Rattle.num.specs.declared.Value.{Value}
 use Rattle.num.specs.declared.Value.TheVariants.{Number, TooLarge}
 
 -- A bound is "a power of two from 2 to 9,223,372,036,854,775,808", which is 2 to the 63.
-unfoldable pub isBound : ℕ → Bool
-isBound n = some (λ k. eqb n (2 ^ k)) (span 1 63)
+unfoldable pub is_bound : ℕ → Bool
+is_bound n = some (λ k. eqb n (2 ^ k)) (span 1 63)
 
 -- A number that is too large is no bound.
-unfoldable pub boundOk : Value → Bool
-boundOk (Number n) = isBound n
-boundOk TooLarge = false
+unfoldable pub bound_ok : Value → Bool
+bound_ok (Number n) = is_bound n
+bound_ok TooLarge = false
 
 -- A size is good if it is not 0 and not too large.
-unfoldable pub sizeOk : Value → Bool
-sizeOk (Number n) = not (eqb n 0)
-sizeOk TooLarge = false
+unfoldable pub size_ok : Value → Bool
+size_ok (Number n) = not (eqb n 0)
+size_ok TooLarge = false
 
 -- A length is good if it is not too large: 0 is one.
-unfoldable pub lengthOk : Value → Bool
-lengthOk (Number n) = true
-lengthOk TooLarge = false
+unfoldable pub length_ok : Value → Bool
+length_ok (Number n) = true
+length_ok TooLarge = false
 
 -- What the tests say: 2 to the k for some k from 1 to 63
 abbrev pub Bound : Value → Type 0

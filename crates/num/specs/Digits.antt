@@ -16,17 +16,17 @@ unfoldable pub based : List ℕ → Bool
 based p = same (take 2 p) (ascii "0x") || same (take 2 p) (ascii "0b")
 
 -- Of a hexadecimal or a binary token what follows those two bytes; of any other all of it.
-unfoldable pub afterBase : List ℕ → List ℕ
-afterBase p = cond (based p) (drop 2 p) p
+unfoldable pub after_base : List ℕ → List ℕ
+after_base p = cond (based p) (drop 2 p) p
 
 -- The digit text of a token.
-unfoldable pub digitsOf : List ℕ → List ℕ
-digitsOf p = plain (afterBase p)
+unfoldable pub digits_of : List ℕ → List ℕ
+digits_of p = plain (after_base p)
 
 -- The answer for the digits d and a buffer of n bytes: how many there are, or that they do not fit.
 unfoldable pub answer_of : List ℕ → ℕ → DigitText
 answer_of d n = cond (leb (length d) n) (Written (length d)) Short
 
 -- The n bytes of that buffer: the digits, then zeros; all zeros if the digits do not fit.
-unfoldable pub bufferOf : List ℕ → ℕ → List ℕ
-bufferOf d n = cond (leb (length d) n) (d ++ replicate (n - length d) 0) (replicate n 0)
+unfoldable pub buffer_of : List ℕ → ℕ → List ℕ
+buffer_of d n = cond (leb (length d) n) (d ++ replicate (n - length d) 0) (replicate n 0)

@@ -6,13 +6,13 @@ use Rattle.num.specs.declared.Value.{Value}
 use Rattle.num.specs.declared.Value.TheVariants.{Number, TooLarge}
 
 -- The number that the digits make after those of v. The digit of a byte is the byte less 48, 0 if it is below, also where it is no digit.
-unfoldable pub decimalFrom : ℕ → List ℕ → ℕ
-decimalFrom v [] = v
-decimalFrom v (b ∷ r) = decimalFrom (v * 10 + (b - 48)) r
+unfoldable pub decimal_from : ℕ → List ℕ → ℕ
+decimal_from v [] = v
+decimal_from v (b ∷ r) = decimal_from (v * 10 + (b - 48)) r
 
 -- The number of a decimal run, of any size: of its digits with `_` dropped. A run of no digits makes 0.
-unfoldable pub decimalOf : List ℕ → ℕ
-decimalOf p = decimalFrom 0 (plain p)
+unfoldable pub decimal_of : List ℕ → ℕ
+decimal_of p = decimal_from 0 (plain p)
 
 -- The largest 64-bit number.
 abbrev pub largest : ℕ
@@ -24,4 +24,4 @@ fitted n = cond (leb n largest) (Number n) TooLarge
 
 -- The number of a decimal run, or that it is too large.
 unfoldable pub number_of : List ℕ → Value
-number_of p = fitted (decimalOf p)
+number_of p = fitted (decimal_of p)

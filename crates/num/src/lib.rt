@@ -3,9 +3,9 @@
 
 ghost use Rattle.std.specs.Prelude.{◌≡◌, ◌+◌, ◌-◌, ◌*◌, length};
 ghost use Rattle.text.specs.Part.{part_of};
-ghost use Rattle.num.specs.Digits.{plain, afterBase, digitsOf, answer_of, bufferOf};
+ghost use Rattle.num.specs.Digits.{plain, after_base, digits_of, answer_of, buffer_of};
 ghost use Rattle.num.specs.Value.{fitted, number_of};
-ghost use Rattle.num.specs.Bound.{boundOk, sizeOk, lengthOk};
+ghost use Rattle.num.specs.Bound.{bound_ok, size_ok, length_ok};
 
 // The number of a decimal run, or that it is over the largest u64.
 #[derive(Clone, Copy)]
@@ -79,7 +79,7 @@ pub fn number(draft: &[u8], start: usize, end: usize) -> Value
 // The bytes of a run without `_`, then zeros.
 fn write_plain(run: &[u8], out: &mut [u8]) -> DigitText
     ensures answer { result ≡ answer_of (plain run.now) (length out.old) }
-    ensures buffer { out.new ≡ bufferOf (plain run.now) (length out.old) }
+    ensures buffer { out.new ≡ buffer_of (plain run.now) (length out.old) }
 {
     text::clear_bytes(out);
     let mut i: usize = 0;
@@ -102,7 +102,7 @@ fn write_plain(run: &[u8], out: &mut [u8]) -> DigitText
 
 // The part of a token after its `0x` or `0b`; all of it if it has neither.
 fn after_base(token: &[u8]) -> &[u8]
-    ensures { result.now ≡ afterBase token.now }
+    ensures { result.now ≡ after_base token.now }
 {
     if token.len() < 2 {
         return token;
@@ -122,15 +122,15 @@ fn after_base(token: &[u8]) -> &[u8]
 
 // The digit text of the token from start to end into out, with zeros after it; all zeros if it does not fit.
 pub fn digits(draft: &[u8], start: usize, end: usize, out: &mut [u8]) -> DigitText
-    ensures answer { result ≡ answer_of (digitsOf (part_of draft.now start end)) (length out.old) }
-    ensures buffer { out.new ≡ bufferOf (digitsOf (part_of draft.now start end)) (length out.old) }
+    ensures answer { result ≡ answer_of (digits_of (part_of draft.now start end)) (length out.old) }
+    ensures buffer { out.new ≡ buffer_of (digits_of (part_of draft.now start end)) (length out.old) }
 {
     write_plain(after_base(text::part(draft, start, end)), out)
 }
 
 // A good bound has one bit set, and that is not the lowest.
 pub fn is_bound(v: Value) -> bool
-    ensures { result ≡ boundOk v }
+    ensures { result ≡ bound_ok v }
 {
     let Value::Number(n) = v else {
         return false;
@@ -143,7 +143,7 @@ pub fn is_bound(v: Value) -> bool
 
 // A good size is a number other than 0.
 pub fn is_size(v: Value) -> bool
-    ensures { result ≡ sizeOk v }
+    ensures { result ≡ size_ok v }
 {
     match v {
         Value::Number(n) => n != 0,
@@ -153,7 +153,7 @@ pub fn is_size(v: Value) -> bool
 
 // A good length is any number that is not too large, 0 too.
 pub fn is_length(v: Value) -> bool
-    ensures { result ≡ lengthOk v }
+    ensures { result ≡ length_ok v }
 {
     let Value::Number(_) = v else {
         return false;

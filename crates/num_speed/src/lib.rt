@@ -5,7 +5,7 @@
 ghost use Rattle.std.specs.Prelude.{◌≡◌, length};
 ghost use Rattle.text.specs.Part.{part_of};
 ghost use Rattle.num.specs.Value.{number_of};
-ghost use Rattle.num.specs.Digits.{digitsOf, answer_of, bufferOf};
+ghost use Rattle.num.specs.Digits.{digits_of, answer_of, buffer_of};
 ghost use Rattle.num_speed.specs.Said as spec;
 ghost use Rattle.num_speed.specs.Said.{said_of, count_of};
 
@@ -20,7 +20,7 @@ fn flag(b: bool) -> u64
 
 // The number; 0 if it is too large.
 fn number_or_zero(v: Value) -> u64
-    ensures { result ≡ spec.numberOrZero v }
+    ensures { result ≡ spec.number_or_zero v }
 {
     match v {
         Value::Number(n) => n,
@@ -45,8 +45,8 @@ pub extern "C" fn num_speed_number(draft: &[u8], start: usize, end: usize, said:
 // The digit text of the token from start to end into out, with zeros after it, and how many digits it has; all zeros, and 0, if it does not fit.
 #[unsafe(no_mangle)]
 pub extern "C" fn num_speed_digits(draft: &[u8], start: usize, end: usize, out: &mut [u8]) -> usize
-    ensures count { result ≡ count_of (answer_of (digitsOf (part_of draft.now start end)) (length out.old)) }
-    ensures buffer { out.new ≡ bufferOf (digitsOf (part_of draft.now start end)) (length out.old) }
+    ensures count { result ≡ count_of (answer_of (digits_of (part_of draft.now start end)) (length out.old)) }
+    ensures buffer { out.new ≡ buffer_of (digits_of (part_of draft.now start end)) (length out.old) }
 {
     let written = num::digits(draft, start, end, out);
     match written {

@@ -3,9 +3,9 @@
 use Rattle.std.specs.Prelude.{◌≡◌, refl, Bool, ◌&&◌, not, List, [], ◌∷◌, map, ℕ, suc, ◌+◌, ◌-◌, ◌≤◌, T, length, get_or}
 use Rattle.std.proofs.Common.{sym, ap, ◌∙◌, subst, append-nil, arith, take_all}
 use Rattle.text.specs.Lists.{some, keep}
-use Rattle.own.specs.Tree.{Tok, Node, roots, marks, kids, Each, end, Rec, recordOf, tokens, records, Fine}
+use Rattle.own.specs.Tree.{Tok, Node, roots, marks, kids, Each, end, Rec, record_of, tokens, records, Fine}
 use Rattle.own.specs.Flat.{holds, blank, row, children, owns, owned, merge}
-use Rattle.own.specs.Law.{Sort, sortOf, made, Rule, Ordered, sorts, Keeps}
+use Rattle.own.specs.Law.{Sort, sort_of, made, Rule, Ordered, sorts, Keeps}
 use Rattle.own.specs.Lists.{All, all_map, keep_all, keep-ext, keep-and}
 use Rattle.own.specs.Places.{order-all, holds-in, own-marks}
 use Rattle.own.specs.Shape.{kids-roots, tops}
@@ -36,10 +36,10 @@ module _ (R : Rule) (P : List Sort → Type 0) (ns : List Node) (fine : Fine ns)
   rs = filed len (records ns)
 
   -- The children of the first record are those of the trees themselves.
-  pub its-children : children rs 0 ≡ map recordOf (kids (roots ns))
+  pub its-children : children rs 0 ≡ map record_of (kids (roots ns))
   its-children =
       ap (row (1 + length (records ns))) (take_all (1 + length (records ns) - 1) (records ns) (omega arith)) ∙ tops ns (1 + length (records ns)) (omega arith)
-      ∙ ap (map recordOf) (sym (kids-roots ns))
+      ∙ ap (map record_of) (sym (kids-roots ns))
 
   no-marks : (ms : List Node) → marks (roots ms) ≡ []
   no-marks [] = refl
@@ -50,7 +50,7 @@ module _ (R : Rule) (P : List Sort → Type 0) (ns : List Node) (fine : Fine ns)
 
   owns_none : owned (tokens ns) rs 0 ≡ []
   owns_none =
-      let no-kid : Tok → Bool = λ t. not (some (λ c. holds c t) (map recordOf (kids (roots ns)))) in
+      let no-kid : Tok → Bool = λ t. not (some (λ c. holds c t) (map record_of (kids (roots ns)))) in
       keep-ext (owns rs 0) (λ t. holds top t && no-kid t) (λ t. ap (λ cs. holds top t && not (some (λ c. holds c t) cs)) its-children) (tokens ns)
       ∙ keep-and (holds top) no-kid (tokens ns)
       ∙ ap (keep no-kid) (keep_all (holds top) all_held)
@@ -59,8 +59,8 @@ module _ (R : Rule) (P : List Sort → Type 0) (ns : List Node) (fine : Fine ns)
 
   is_made : made (tokens ns) rs 0 ≡ sorts (roots ns)
   is_made =
-      ap (map (sortOf (tokens ns)))
-      (ap (λ cs. merge cs (owned (tokens ns) rs 0)) its-children ∙ ap (merge (map recordOf (kids (roots ns)))) (owns_none ∙ sym (no-marks ns))
+      ap (map (sort_of (tokens ns)))
+      (ap (λ cs. merge cs (owned (tokens ns) rs 0)) its-children ∙ ap (merge (map record_of (kids (roots ns)))) (owns_none ∙ sym (no-marks ns))
       ∙ merge-kids (roots ns) 0 fine.ordered fine.marked)
       ∙ sorts-pieces (tokens ns) fine.ordered (roots ns) [] [] (sym (append-nil (tokens ns))) fine.marked
 
@@ -76,7 +76,7 @@ module _ (R : Rule) (P : List Sort → Type 0) (ns : List Node) (fine : Fine ns)
         nothing = owns_none;
         spelled = subst P (sym is_made) items;
         ordered = subst (Ordered 0 len) (sym its-children)
-            (ends-later 0 (end 0 (tokens ns)) len (map recordOf (kids (roots ns))) inside (ordered-kids (roots ns) 0 fine.ordered fine.marked));
+            (ends-later 0 (end 0 (tokens ns)) len (map record_of (kids (roots ns))) inside (ordered-kids (roots ns) 0 fine.ordered fine.marked));
         few = let h = (ownership R ns fine keeps).few in omega arith;
         others = ownership R ns fine keeps;
       }

@@ -12,8 +12,8 @@ abbrev pub width : Rec → ℕ
 width r = r.stop - r.start
 
 -- The token and the record past the end of a list.
-abbrev pub no-token : Tok
-no-token = record { class = 0; start = 0; stop = 0 }
+abbrev pub blank_tok : Tok
+blank_tok = record { class = 0; start = 0; stop = 0 }
 
 abbrev pub blank : Rec
 blank = record { kind = 0; start = 0; stop = 0; low = 0; high = 0; size = 0 }
@@ -25,12 +25,12 @@ row (suc f) [] = []
 row (suc f) (r ∷ rs) = r ∷ row f (drop (r.size - 1) rs)
 
 -- The children of the first record, and of the record j, through the sizes.
-abbrev pub headChildren : List Rec → List Rec
-headChildren [] = []
-headChildren (r ∷ rs) = row r.size (take (r.size - 1) rs)
+abbrev pub head_children : List Rec → List Rec
+head_children [] = []
+head_children (r ∷ rs) = row r.size (take (r.size - 1) rs)
 
 abbrev pub children : List Rec → ℕ → List Rec
-children rs j = headChildren (drop j rs)
+children rs j = head_children (drop j rs)
 
 -- "A record owns what its place holds and no child's does": whether the record j owns the token.
 abbrev pub owns : List Rec → ℕ → Tok → Bool

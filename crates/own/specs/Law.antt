@@ -3,7 +3,7 @@
 -- Assumes nothing.
 use Rattle.std.specs.Prelude.{cond, List, [], ◌∷◌, map, ◌≢◌, ◌⊎◌, ◌≡◌, ℕ, ◌<◌, ◌≤◌, T, eqb, length, get_or}
 use Rattle.own.specs.Tree.{Tok, Items, none, mark, sub, Node, yield, partner, Rec}
-use Rattle.own.specs.Flat.{blank, no-token, children, owned, total, Piece, tok, part, merge, Owner}
+use Rattle.own.specs.Flat.{blank, blank_tok, children, owned, total, Piece, tok, part, merge, Owner}
 use Rattle.own.specs.Kinds as kind
 
 -- A piece as a rule sees it: a token by its class; a child by its kind, low and high and the class of the token that it begins with.
@@ -16,27 +16,27 @@ abbrev pub class_at : List Tok → ℕ → ℕ
 class_at [] at = 0
 class_at (t ∷ ts) at = cond (eqb t.start at) t.class (class_at ts at)
 
-abbrev pub sortOf : List Tok → Piece → Sort
-sortOf ts (tok t) = word t.class
-sortOf ts (part r) = child r.kind r.low r.high (class_at ts r.start)
+abbrev pub sort_of : List Tok → Piece → Sort
+sort_of ts (tok t) = word t.class
+sort_of ts (part r) = child r.kind r.low r.high (class_at ts r.start)
 
 -- What the record j owns, with its children in order of place, as a rule sees it.
 abbrev pub made : List Tok → List Rec → ℕ → List Sort
-made ts rs j = map (sortOf ts) (merge (children rs j) (owned ts rs j))
+made ts rs j = map (sort_of ts) (merge (children rs j) (owned ts rs j))
 
 -- A rule: of a kind, low and high, what is spelled.
 abbrev pub Rule : Type 1
 Rule = ℕ → ℕ → ℕ → List Sort → Type 0
 
-abbrev pub firstClass : List Tok → ℕ
-firstClass [] = 0
-firstClass (t ∷ ts) = t.class
+abbrev pub first_class : List Tok → ℕ
+first_class [] = 0
+first_class (t ∷ ts) = t.class
 
 -- What a node is made of, as a rule sees it.
 abbrev pub sorts : Items → List Sort
 sorts none = []
 sorts (mark t r) = word t.class ∷ sorts r
-sorts (sub k l h js r) = child k l h (firstClass (yield js)) ∷ sorts r
+sorts (sub k l h js r) = child k l h (first_class (yield js)) ∷ sorts r
 
 -- A node keeps the rule of its kind, low and high.
 abbrev pub Keeps : Rule → Node → Type 0
@@ -52,16 +52,16 @@ pub record Canonical (lo hi : ℕ) (cs : List Rec) : Type 0 where
   pub matched : Rec
   pub first : Rec
   pub second : Rec
-  pub they-are : cs ≡ matched ∷ first ∷ second ∷ []
-  pub first-arm : first.kind ≡ kind.BuiltinArm
-  pub second-arm : second.kind ≡ kind.BuiltinArm
+  pub they_are : cs ≡ matched ∷ first ∷ second ∷ []
+  pub first_arm : first.kind ≡ kind.BuiltinArm
+  pub second_arm : second.kind ≡ kind.BuiltinArm
   pub partners : T (partner first.low second.low)
   pub places : Ordered lo hi (matched ∷ first ∷ second ∷ []) ⊎ Ordered lo hi (matched ∷ second ∷ first ∷ [])
 
 -- Law 3, of the rule R, the tokens ts and the records rs.
 pub record Ownership (R : Rule) (ts : List Tok) (rs : List Rec) : Type 0 where
   -- (a) Each token has exactly one owner, which holds it; every other record that holds it is longer.
-  pub owner : (i : ℕ) → i < length ts → Owner rs (get_or ts i no-token)
+  pub owner : (i : ℕ) → i < length ts → Owner rs (get_or ts i blank_tok)
   -- (b) Each record owns at least one token.
   pub some : (j : ℕ) → j < length rs → 0 < length (owned ts rs j)
   -- (c) What a record owns, with its children in order of place, spells the rule of its kind, low and high.

@@ -3,7 +3,7 @@
 use Rattle.std.specs.Prelude.{◌≡◌, refl, Bool, true, false, List, [], ◌∷◌, map, ℕ, ◌<◌, ◌≤◌, ltb}
 use Rattle.std.proofs.Common.{sym, ap, ◌∙◌, subst, true≢false, arith, ltb→lt, lt→ltb}
 use Rattle.text.specs.Table.{is_true, is_false}
-use Rattle.own.specs.Tree.{Tok, Items, none, mark, sub, Node, node, yield, marks, kids, Marked, InOrder, end, exchange, arrange, Rec, recordOf}
+use Rattle.own.specs.Tree.{Tok, Items, none, mark, sub, Node, node, yield, marks, kids, Marked, InOrder, end, exchange, arrange, Rec, record_of}
 use Rattle.own.specs.Flat.{Piece, tok, part, from, put, merge}
 use Rattle.own.specs.Law.{Ordered}
 use Rattle.own.specs.Lists.{All, nil, ◌&◌, all_map}
@@ -23,16 +23,16 @@ put_front r (p ∷ l) (h & a) = rw (less r.start (from p) h)
 put-past : (r : Rec) (t : Tok) (l : List Piece) → t.start ≤ r.start → put r (tok t ∷ l) ≡ tok t ∷ put r l
 put-past r t l h = rw (not-less r.start t.start h)
 
-merge-front : (t : Tok) (ts : List Tok) {cs : List Node} → All (λ c. t.start ≤ (recordOf c).start) cs
-    → merge (map recordOf cs) (t ∷ ts) ≡ tok t ∷ merge (map recordOf cs) ts
+merge-front : (t : Tok) (ts : List Tok) {cs : List Node} → All (λ c. t.start ≤ (record_of c).start) cs
+    → merge (map record_of cs) (t ∷ ts) ≡ tok t ∷ merge (map record_of cs) ts
 merge-front t ts nil = refl
-merge-front t ts (◌&◌ {a = c} {l = cs} h a) = ap (put (recordOf c)) (merge-front t ts a) ∙ put-past (recordOf c) t (merge (map recordOf cs) ts) h
+merge-front t ts (◌&◌ {a = c} {l = cs} h a) = ap (put (record_of c)) (merge-front t ts a) ∙ put-past (record_of c) t (merge (map record_of cs) ts) h
 
 -- the items of a node, as pieces
 abbrev pub pieces : Items → List Piece
 pieces none = []
 pieces (mark t r) = tok t ∷ pieces r
-pieces (sub k l h js r) = part (recordOf (node k l h js)) ∷ pieces r
+pieces (sub k l h js r) = part (record_of (node k l h js)) ∷ pieces r
 
 pieces-from : (is : Items) (at : ℕ) → InOrder at (yield is) → Marked is → All (λ p. at ≤ from p) (pieces is)
 pieces-from none at o m = nil
@@ -43,7 +43,7 @@ pieces-from (sub k l h js r) at o m =
     (node-bounded k l h js m.0 at p).low & all_map (λ x i. omega arith) (pieces-from r (end at (yield js)) (order-right at (yield js) (yield r) o) m.2)
 
 -- Own tokens and nodes right beneath, merged, are the items.
-pub merge-kids : (is : Items) (at : ℕ) → InOrder at (yield is) → Marked is → merge (map recordOf (kids is)) (marks is) ≡ pieces is
+pub merge-kids : (is : Items) (at : ℕ) → InOrder at (yield is) → Marked is → merge (map record_of (kids is)) (marks is) ≡ pieces is
 merge-kids none at o m = refl
 merge-kids (mark t r) at o m =
     merge-front t (marks r) (all_map (λ c b. omega arith) (heads r (bounded r t.stop o.2 m)))
@@ -51,8 +51,8 @@ merge-kids (mark t r) at o m =
 merge-kids (sub k l h js r) at o m =
     let q = order-right at (yield js) (yield r) o in
     let b = node-bounded k l h js m.0 at (order-left at (yield js) (yield r) o) in
-    ap (put (recordOf (node k l h js))) (merge-kids r (end at (yield js)) q m.2)
-    ∙ put_front (recordOf (node k l h js)) (pieces r) (all_map (λ p i. omega arith) (pieces-from r (end at (yield js)) q m.2))
+    ap (put (record_of (node k l h js))) (merge-kids r (end at (yield js)) q m.2)
+    ∙ put_front (record_of (node k l h js)) (pieces r) (all_map (λ p i. omega arith) (pieces-from r (end at (yield js)) q m.2))
 
 -- the nodes right beneath, in order of place
 pub ordered-from : {lo : ℕ} (lo' hi : ℕ) (l : List Rec) → lo' ≤ lo → Ordered lo hi l → Ordered lo' hi l
@@ -60,17 +60,17 @@ ordered-from lo' hi [] h r = omega arith
 ordered-from lo' hi (c ∷ cs) h r = (omega arith, r.1, r.2)
 
 -- The nodes right beneath are in order of place.
-pub ordered-kids : (is : Items) (at : ℕ) → InOrder at (yield is) → Marked is → Ordered at (end at (yield is)) (map recordOf (kids is))
+pub ordered-kids : (is : Items) (at : ℕ) → InOrder at (yield is) → Marked is → Ordered at (end at (yield is)) (map record_of (kids is))
 ordered-kids none at o m = omega arith
 ordered-kids (mark t r) at o m =
-    ordered-from at (end t.stop (yield r)) (map recordOf (kids r)) (omega arith) (ordered-kids r t.stop o.2 m)
+    ordered-from at (end t.stop (yield r)) (map record_of (kids r)) (omega arith) (ordered-kids r t.stop o.2 m)
 ordered-kids (sub k l h js r) at o m =
     let p = order-left at (yield js) (yield r) o in
     let q = order-right at (yield js) (yield r) o in
     let b = node-bounded k l h js m.0 at p in
-    let rest = ordered-from (recordOf (node k l h js)).stop (end (end at (yield js)) (yield r)) (map recordOf (kids r)) b.high
+    let rest = ordered-from (record_of (node k l h js)).stop (end (end at (yield js)) (yield r)) (map record_of (kids r)) b.high
     (ordered-kids r (end at (yield js)) q m.2) in
-    (b.low, b.some, subst (λ (e : ℕ). Ordered (recordOf (node k l h js)).stop e (map recordOf (kids r))) (sym (end-append at (yield js) (yield r))) rest)
+    (b.low, b.some, subst (λ (e : ℕ). Ordered (record_of (node k l h js)).stop e (map record_of (kids r))) (sym (end-append at (yield js) (yield r))) rest)
 
 -- the order in which two are put in does not matter
 put-swap : (a b : Rec) → a.start < b.start → (l : List Piece) → put b (put a l) ≡ put a (put b l)

@@ -9,8 +9,8 @@ use Rattle.std.proofs.Math.Dec.{T}
 use Rattle.std.proofs.Math.ListN.{length, length-map}
 use Rattle.text.specs.Table.{first-of}
 use Rattle.text.specs.Lists.{some, keep}
-use Rattle.own.specs.Tree.{Tok, Items, none, mark, sub, Node, node, roots, yield, marks, kids, Marked, InOrder, begin, end, turned, groups, below, Rec, recordOf, tokens, all, records, Fine}
-use Rattle.own.specs.Flat.{holds, width, blank, no-token, headChildren, children, owns, owned, total, merge, Owner}
+use Rattle.own.specs.Tree.{Tok, Items, none, mark, sub, Node, node, roots, yield, marks, kids, Marked, InOrder, begin, end, turned, groups, below, Rec, record_of, tokens, all, records, Fine}
+use Rattle.own.specs.Flat.{holds, width, blank, blank_tok, head_children, children, owns, owned, total, merge, Owner}
 use Rattle.own.specs.Law.{Ordered}
 use Rattle.own.specs.Lists.{All, nil, ◌&◌, all_map, all-arrange, all-concat, all-at, only_at, keep-and, keep-ext, arrange-map}
 use Rattle.own.specs.Places.{order-left, order-right, order-begin, end-any, marks-few, held, own-marks}
@@ -45,15 +45,15 @@ sits-in ts (sub k l h js r) a b e m =
 pub record Kept (ns : List Node) (ts : List Tok) (rs : List Rec) : Type 0 where
   -- the record j is that of the node j, its children through the sizes are those of the nodes right beneath, in the order handed over,
   -- and what it owns with them in order of place are the items of the node
-  pub stands : (j : ℕ) → j < length rs → get_or rs j blank ≡ recordOf (get_or (all ns) j no_node)
-  pub beneath : (j : ℕ) → j < length rs → children rs j ≡ map recordOf (below (get_or (all ns) j no_node))
+  pub stands : (j : ℕ) → j < length rs → get_or rs j blank ≡ record_of (get_or (all ns) j no_node)
+  pub beneath : (j : ℕ) → j < length rs → children rs j ≡ map record_of (below (get_or (all ns) j no_node))
   pub same : (j : ℕ) → j < length rs → merge (children rs j) (owned ts rs j) ≡ pieces (get_or (all ns) j no_node).items
   -- the nodes right beneath, in the order of the text, are in order of place
   pub ordered : (j : ℕ) → j < length rs
-      → Ordered (get_or rs j blank).start (get_or rs j blank).stop (map recordOf (kids (get_or (all ns) j no_node).items))
+      → Ordered (get_or rs j blank).start (get_or rs j blank).stop (map record_of (kids (get_or (all ns) j no_node).items))
   -- the tokens of the node j are a part of all
   pub sits : (j : ℕ) → j < length rs → Sits ts (get_or (all ns) j no_node)
-  pub owner : (i : ℕ) → i < length ts → Owner rs (get_or ts i no-token)
+  pub owner : (i : ℕ) → i < length ts → Owner rs (get_or ts i blank_tok)
   pub some : (j : ℕ) → j < length rs → 0 < length (owned ts rs j)
   pub sum : total (λ j. length (owned ts rs j)) (length rs) ≡ length ts
   pub few : length rs ≤ length ts
@@ -65,26 +65,26 @@ module _ (ns : List Node) (fine : Fine ns) where
 
   module _ (j : ℕ) (in-range : j < length (records ns)) where
     inside : j < length (all ns)
-    inside = omega (arith, length-map (all ns) recordOf)
+    inside = omega (arith, length-map (all ns) record_of)
 
-    is-record : get_or (records ns) j blank ≡ recordOf (at j)
+    is-record : get_or (records ns) j blank ≡ record_of (at j)
     unfolding at
-    is-record = get_d_map recordOf (all ns) j no_node blank inside
+    is-record = get_d_map record_of (all ns) j no_node blank inside
 
-    is-children : children (records ns) j ≡ map recordOf (below (at j))
+    is-children : children (records ns) j ≡ map record_of (below (at j))
     unfolding at
     is-children =
         let (rest, e) = leads-at j no_node inside (leads-all ns) in
-        ap headChildren (drop-map recordOf (all ns) j ∙ ap (map recordOf) e) ∙ head-children (at j) rest
+        ap head_children (drop-map record_of (all ns) j ∙ ap (map record_of) e) ∙ head-children (at j) rest
 
     is-owns : (t : Tok) → owns (records ns) j t ≡ mine (at j) t
     is-owns t =
         rw (
           is-record,
           is-children,
-          arrange-map recordOf (turned (at j).kind (at j).items) (kids (at j).items),
+          arrange-map record_of (turned (at j).kind (at j).items) (kids (at j).items),
           any-arrange t
-              (turned (at j).kind (at j).items) (map recordOf (kids (at j).items)),
+              (turned (at j).kind (at j).items) (map record_of (kids (at j).items)),
         )
 
     its-place : Sits (tokens ns) (at j)
@@ -105,27 +105,27 @@ module _ (ns : List Node) (fine : Fine ns) where
     is-owned =
         let s = its-place in
         let m = at j in
-        let no-kid : Tok → Bool = λ t. not (some (λ c. holds c t) (map recordOf (kids m.items))) in
+        let no-kid : Tok → Bool = λ t. not (some (λ c. holds c t) (map record_of (kids m.items))) in
         keep-ext (owns (records ns) j) (mine m) is-owns (tokens ns)
-        ∙ keep-and (holds (recordOf m)) no-kid (tokens ns)
-        ∙ ap (keep no-kid) (ap (keep (holds (recordOf m))) s.split ∙ held m s.before s.after has_some (subst (InOrder 0) s.split fine.ordered))
+        ∙ keep-and (holds (record_of m)) no-kid (tokens ns)
+        ∙ ap (keep no-kid) (ap (keep (holds (record_of m))) s.split ∙ held m s.before s.after has_some (subst (InOrder 0) s.split fine.ordered))
         ∙ own-marks m.items (end 0 s.before) its-order s.marked
 
     -- the nodes right beneath, in the order of the text
-    in-places : Ordered (recordOf (at j)).start (recordOf (at j)).stop (map recordOf (kids (at j).items))
+    in-places : Ordered (record_of (at j)).start (record_of (at j)).stop (map record_of (kids (at j).items))
     in-places =
         let y = yield (at j).items in
-        subst (λ (e : ℕ). Ordered (begin y) e (map recordOf (kids (at j).items))) (end-any (begin y) y has_some)
+        subst (λ (e : ℕ). Ordered (begin y) e (map record_of (kids (at j).items))) (end-any (begin y) y has_some)
         (ordered-kids (at j).items (begin y) (order-begin (end 0 its-place.before) y has_some its-order) its-place.marked)
 
-    is-ordered : Ordered (get_or (records ns) j blank).start (get_or (records ns) j blank).stop (map recordOf (kids (at j).items))
+    is-ordered : Ordered (get_or (records ns) j blank).start (get_or (records ns) j blank).stop (map record_of (kids (at j).items))
     is-ordered = rw is-record in-places
 
     is-merged : merge (children (records ns) j) (owned (tokens ns) (records ns) j) ≡ pieces (at j).items
     is-merged =
         let m = at j in
-        rw (is-owned, is-children, arrange-map recordOf (turned m.kind m.items) (kids m.items))
-        (merge-arrange (turned m.kind m.items) (recordOf m).start (recordOf m).stop (map recordOf (kids m.items)) (marks m.items) in-places
+        rw (is-owned, is-children, arrange-map record_of (turned m.kind m.items) (kids m.items))
+        (merge-arrange (turned m.kind m.items) (record_of m).start (record_of m).stop (map record_of (kids m.items)) (marks m.items) in-places
         ∙ merge-kids m.items (end 0 its-place.before) its-order its-place.marked)
 
   -- the one record that owns a token
@@ -133,7 +133,7 @@ module _ (ns : List Node) (fine : Fine ns) where
   unfolding at
   its-owner t f =
       let (j, lt, home, others) = only_at no_node f.only in
-      let lt' : j < length (records ns) = omega (arith, length-map (all ns) recordOf) in
+      let lt' : j < length (records ns) = omega (arith, length-map (all ns) record_of) in
       let its : T (owns (records ns) j t) = rw (is-owns j lt' t) home.owns in
       record {
         at = j;
@@ -158,7 +158,7 @@ module _ (ns : List Node) (fine : Fine ns) where
         same = is-merged;
         ordered = is-ordered;
         sits = its-place;
-        owner = λ i lt. all-at i no-token lt (all_map its-owner (homes ns fine));
+        owner = λ i lt. all-at i blank_tok lt (all_map its-owner (homes ns fine));
         some = least;
         sum = sum;
         few = subst (λ (k : ℕ). length (records ns) ≤ k) sum (total-least (λ j. length (owned (tokens ns) (records ns) j)) (length (records ns)) least);
@@ -171,7 +171,7 @@ module _ (ns : List Node) (fine : Fine ns) where
       sum =
           total-same (λ j. length (owned (tokens ns) (records ns) j)) (λ j. length (marks (get_or (all ns) j no_node).items)) (length (records ns))
           (λ j lt. ap length (is-owned j lt))
-          ∙ ap (total (λ j. length (marks (get_or (all ns) j no_node).items))) (length-map (all ns) recordOf)
+          ∙ ap (total (λ j. length (marks (get_or (all ns) j no_node).items))) (length-map (all ns) record_of)
           ∙ total-own (all ns) no_node
           ∙ own-all ns
 

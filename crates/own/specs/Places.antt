@@ -4,7 +4,7 @@ use Rattle.std.specs.Prelude.{◌≡◌, refl, Bool, false, ◌||◌, not, List,
 use Rattle.std.proofs.Common.{ap, ◌∙◌, subst, append-nil, inl, inr, arith, leb→le, le→leb, length-append}
 use Rattle.text.specs.Table.{is_true, is_false, first-of, second-of, pair}
 use Rattle.text.specs.Lists.{keep, some}
-use Rattle.own.specs.Tree.{Tok, Items, none, mark, sub, Node, node, yield, marks, kids, Marked, InOrder, begin, end, turned, groups, nodes, Rec, recordOf}
+use Rattle.own.specs.Tree.{Tok, Items, none, mark, sub, Node, node, yield, marks, kids, Marked, InOrder, begin, end, turned, groups, nodes, Rec, record_of}
 use Rattle.own.specs.Flat.{holds, width}
 use Rattle.own.specs.Lists.{All, nil, ◌&◌, all_head, all_map, all-arrange, all-concat, keep_append, keep_all, keep-none, keep_same}
 
@@ -81,9 +81,9 @@ marks-few (sub k l h js r) = let i = marks-few r in simp length-append (omega ar
 
 -- a node's place lies between two places
 pub record Bounded (lo hi : ℕ) (n : Node) : Type 0 where
-  pub low : lo ≤ (recordOf n).start
-  pub some : (recordOf n).start < (recordOf n).stop
-  pub high : (recordOf n).stop ≤ hi
+  pub low : lo ≤ (record_of n).start
+  pub some : (record_of n).start < (record_of n).stop
+  pub high : (record_of n).stop ≤ hi
 
 module _ (k l h : ℕ) (js : Items) (own : 0 < length (marks js)) (at : ℕ) (o : InOrder at (yield js)) where
   wordy : 0 < length (yield js)
@@ -100,11 +100,11 @@ module _ (k l h : ℕ) (js : Items) (own : 0 < length (marks js)) (at : ℕ) (o 
       }
 
   -- the place holds the node's tokens
-  pub node-holds : All (λ t. T (holds (recordOf (node k l h js)) t)) (yield js)
+  pub node-holds : All (λ t. T (holds (record_of (node k l h js)) t)) (yield js)
   node-holds =
       let b = order-begin at (yield js) wordy o in
       all_map
-      (λ t i. holds-in (recordOf (node k l h js)) t i.low (subst (λ (e : ℕ). t.stop ≤ e) (end-any (begin (yield js)) (yield js) wordy) i.high))
+      (λ t i. holds-in (record_of (node k l h js)) t i.low (subst (λ (e : ℕ). t.stop ≤ e) (end-any (begin (yield js)) (yield js) wordy) i.high))
       (order-all (begin (yield js)) (yield js) b)
 
 wider : {lo hi : ℕ} {gs : List (List Node)} (lo' hi' : ℕ) → lo' ≤ lo → hi ≤ hi' → All (All (Bounded lo hi)) gs → All (All (Bounded lo' hi')) gs
@@ -137,7 +137,7 @@ heads (sub k l h js r) (g & a) = all_head g & heads r a
 
 -- with a token of its own, a node is wider than each right beneath
 pub narrow : (is : Items) (at : ℕ) → InOrder at (yield is) → Marked is → 0 < length (marks is)
-    → All (λ c. width (recordOf c) + at < end at (yield is)) (kids is)
+    → All (λ c. width (record_of c) + at < end at (yield is)) (kids is)
 narrow none at o m own = nil
 narrow (mark t r) at o m own = all_map (λ c b. omega arith) (heads r (bounded r t.stop o.2 m))
 narrow (sub k l h js r) at o m own =
@@ -147,12 +147,12 @@ narrow (sub k l h js r) at o m own =
     let u = order_le at (yield js) p in
     let b = node-bounded k l h js m.0 at p in
     let g = order-grows (end at (yield js)) (yield r) q (omega (arith, marks-few r)) in
-    let first : width (recordOf (node k l h js)) + at < end at (yield js ++ yield r) = omega arith in
+    let first : width (record_of (node k l h js)) + at < end at (yield js ++ yield r) = omega arith in
     first & all_map (λ c i. omega arith) (narrow r (end at (yield js)) q m.2 own)
 
 -- A node with a token of its own is wider than each right beneath.
 pub narrower : (k l h : ℕ) (js : Items) (at : ℕ) → InOrder at (yield js) → Marked js → 0 < length (marks js)
-    → All (λ c. width (recordOf c) < width (recordOf (node k l h js))) (kids js)
+    → All (λ c. width (record_of c) < width (record_of (node k l h js))) (kids js)
 narrower k l h js at o m own =
     let w = wordy k l h js own at o in
     let b = order-begin at (yield js) w o in
@@ -161,7 +161,7 @@ narrower k l h js at o m own =
 
 -- which tokens a place holds: of tokens in order, those that it was made from
 pub held : (n : Node) (a b : List Tok) → 0 < length (yield n.items) → InOrder 0 (a ++ (yield n.items ++ b))
-    → keep (holds (recordOf n)) (a ++ (yield n.items ++ b)) ≡ yield n.items
+    → keep (holds (record_of n)) (a ++ (yield n.items ++ b)) ≡ yield n.items
 held n a b w o =
     let y = yield n.items in
     let oa = order-left 0 a (y ++ b) o in
@@ -171,49 +171,49 @@ held n a b w o =
     let s = begin-le (end 0 a) y w oy in
     let e = end-any (end 0 a) y w in
     let eb = end-any (begin y) y w in
-    let none_before : All (λ t. ¬ T (holds (recordOf n) t)) a =
-    all_map (λ t i h. let p = holds-out (recordOf n) t h in omega arith) (order-all 0 a oa) in
-    let all-within : All (λ t. T (holds (recordOf n) t)) y =
-    all_map (λ t i. holds-in (recordOf n) t i.low (omega arith)) (order-all (begin y) y (order-begin (end 0 a) y w oy)) in
-    let none_after : All (λ t. ¬ T (holds (recordOf n) t)) b =
-    all_map (λ t i h. let p = holds-out (recordOf n) t h in omega arith) (order-all (end (end 0 a) y) b ob) in
-    keep_append (holds (recordOf n)) a (y ++ b)
+    let none_before : All (λ t. ¬ T (holds (record_of n) t)) a =
+    all_map (λ t i h. let p = holds-out (record_of n) t h in omega arith) (order-all 0 a oa) in
+    let all-within : All (λ t. T (holds (record_of n) t)) y =
+    all_map (λ t i. holds-in (record_of n) t i.low (omega arith)) (order-all (begin y) y (order-begin (end 0 a) y w oy)) in
+    let none_after : All (λ t. ¬ T (holds (record_of n) t)) b =
+    all_map (λ t i h. let p = holds-out (record_of n) t h in omega arith) (order-all (end (end 0 a) y) b ob) in
+    keep_append (holds (record_of n)) a (y ++ b)
     ∙ (rw (
-      keep-none (holds (recordOf n)) none_before,
-      keep_append (holds (recordOf n)) y b,
-      keep_all (holds (recordOf n)) all-within,
+      keep-none (holds (record_of n)) none_before,
+      keep_append (holds (record_of n)) y b,
+      keep_all (holds (record_of n)) all-within,
       keep-none
-          (holds (recordOf n)) none_after,
+          (holds (record_of n)) none_after,
     ) (append-nil y))
 
 -- what no node right beneath holds
-pub any_none : (t : Tok) {cs : List Node} → All (λ c. ¬ T (holds (recordOf c) t)) cs → some (λ c. holds c t) (map recordOf cs) ≡ false
+pub any_none : (t : Tok) {cs : List Node} → All (λ c. ¬ T (holds (record_of c) t)) cs → some (λ c. holds c t) (map record_of cs) ≡ false
 unfolding some
 any_none t nil = refl
-any_none t (◌&◌ {a = c} {l = cs} h a) = rw (is_false (holds (recordOf c) t) h) (any_none t a)
+any_none t (◌&◌ {a = c} {l = cs} h a) = rw (is_false (holds (record_of c) t) h) (any_none t a)
 
 -- a node does not hold what stands before or after
-pub misses : {lo hi : ℕ} {n : Node} (t : Tok) → Bounded lo hi n → t.start < t.stop → (t.start < lo) ⊎ (hi < t.stop) → ¬ T (holds (recordOf n) t)
-misses {n = n} t b w (inl p) h = let q = holds-out (recordOf n) t h in omega arith
-misses {n = n} t b w (inr p) h = let q = holds-out (recordOf n) t h in omega arith
+pub misses : {lo hi : ℕ} {n : Node} (t : Tok) → Bounded lo hi n → t.start < t.stop → (t.start < lo) ⊎ (hi < t.stop) → ¬ T (holds (record_of n) t)
+misses {n = n} t b w (inl p) h = let q = holds-out (record_of n) t h in omega arith
+misses {n = n} t b w (inr p) h = let q = holds-out (record_of n) t h in omega arith
 
 -- Of its tokens, those that no node right beneath holds are its own.
-pub own-marks : (is : Items) (at : ℕ) → InOrder at (yield is) → Marked is → keep (λ t. not (some (λ c. holds c t) (map recordOf (kids is)))) (yield is) ≡ marks is
+pub own-marks : (is : Items) (at : ℕ) → InOrder at (yield is) → Marked is → keep (λ t. not (some (λ c. holds c t) (map record_of (kids is)))) (yield is) ≡ marks is
 unfolding some
 own-marks none at o m = refl
 own-marks (mark t r) at o m =
-    let no-kid : some (λ c. holds c t) (map recordOf (kids r)) ≡ false = any_none t
+    let no-kid : some (λ c. holds c t) (map record_of (kids r)) ≡ false = any_none t
     (all_map (λ c b. misses t b o.1 (inl o.1)) (heads r (bounded r t.stop o.2 m))) in
     rw no-kid (ap (λ (l : List Tok). t ∷ l) (own-marks r t.stop o.2 m))
 own-marks (sub k l h js r) at o m =
     let n = node k l h js in
     let p = order-left at (yield js) (yield r) o in
     let q = order-right at (yield js) (yield r) o in
-    let test : Tok → Bool = λ t. not (holds (recordOf n) t || some (λ c. holds c t) (map recordOf (kids r))) in
+    let test : Tok → Bool = λ t. not (holds (record_of n) t || some (λ c. holds c t) (map record_of (kids r))) in
     let none_here : All (λ t. ¬ T (test t)) (yield js) =
-    all_map (λ t i. rw (is_true (holds (recordOf n) t) i) (λ x. x)) (node-holds k l h js m.0 at p) in
-    let same_after : All (λ t. test t ≡ not (some (λ c. holds c t) (map recordOf (kids r)))) (yield r) =
-    all_map (λ t i. rw (is_false (holds (recordOf n) t) (misses t (node-bounded k l h js m.0 at p) i.some (inr (omega arith)))))
+    all_map (λ t i. rw (is_true (holds (record_of n) t) i) (λ x. x)) (node-holds k l h js m.0 at p) in
+    let same_after : All (λ t. test t ≡ not (some (λ c. holds c t) (map record_of (kids r)))) (yield r) =
+    all_map (λ t i. rw (is_false (holds (record_of n) t) (misses t (node-bounded k l h js m.0 at p) i.some (inr (omega arith)))))
     (order-all (end at (yield js)) (yield r) q) in
     keep_append test (yield js) (yield r)
-    ∙ (rw (keep-none test none_here) (keep_same test (λ t. not (some (λ c. holds c t) (map recordOf (kids r)))) same_after ∙ own-marks r (end at (yield js)) q m.2))
+    ∙ (rw (keep-none test none_here) (keep_same test (λ t. not (some (λ c. holds c t) (map record_of (kids r)))) same_after ∙ own-marks r (end at (yield js)) q m.2))

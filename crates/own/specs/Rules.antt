@@ -7,9 +7,9 @@ use Rattle.std.proofs.Math.Bool.{false}
 use Rattle.std.proofs.Math.Dec.{eqb, eqb→eq}
 use Rattle.std.proofs.lemmas.List.{length-map}
 use Rattle.text.specs.Table.{first-of, second-of, or_cases}
-use Rattle.own.specs.Tree.{Tok, Items, none, mark, sub, Node, node, roots, yield, kids, Each, Marked, Paired, InOrder, begin, end, partner, canonical, paired, reversed, turned, arrange, groups, recordOf, tokens, all, records, Fine}
+use Rattle.own.specs.Tree.{Tok, Items, none, mark, sub, Node, node, roots, yield, kids, Each, Marked, Paired, InOrder, begin, end, partner, canonical, paired, reversed, turned, arrange, groups, record_of, tokens, all, records, Fine}
 use Rattle.own.specs.Flat.{blank, children}
-use Rattle.own.specs.Law.{word, class_at, sortOf, made, Rule, firstClass, sorts, Keeps, Ordered, Canonical, Ownership}
+use Rattle.own.specs.Law.{word, class_at, sort_of, made, Rule, first_class, sorts, Keeps, Ordered, Canonical, Ownership}
 use Rattle.own.specs.Lists.{All, nil, ◌&◌, all-arrange, all-concat, all-at}
 use Rattle.own.specs.Places.{order-left, order-right, order_le, begin-le, marks-few}
 use Rattle.own.specs.Merge.{pieces}
@@ -29,7 +29,7 @@ each_map P Q f (mark t r) h = each_map P Q f r h
 each_map P Q f (sub k l i js r) h = (f (node k l i js) h.0, each_map P Q f js h.1, each_map P Q f r h.2)
 
 -- the token that a part begins with is found by its place
-class-at : (at : ℕ) (a y b : List Tok) → 0 < length y → InOrder at (a ++ (y ++ b)) → class_at (a ++ (y ++ b)) (begin y) ≡ firstClass y
+class-at : (at : ℕ) (a y b : List Tok) → 0 < length y → InOrder at (a ++ (y ++ b)) → class_at (a ++ (y ++ b)) (begin y) ≡ first_class y
 class-at at [] [] b h o = absurd (omega arith)
 class-at at [] (t ∷ y) b h o = rw (eq-eqb t.start t.start refl) refl
 class-at at (x ∷ a) y b h o =
@@ -38,21 +38,21 @@ class-at at (x ∷ a) y b h o =
     rw (ne_eqb x.start (begin y) (λ e. omega arith)) (class-at x.stop a y b h o.2)
 
 -- The pieces of a part of the tokens, as a rule sees them.
-pub sorts-pieces : (ts : List Tok) → InOrder 0 ts → (is : Items) (a b : List Tok) → ts ≡ a ++ (yield is ++ b) → Marked is → map (sortOf ts) (pieces is) ≡ sorts is
+pub sorts-pieces : (ts : List Tok) → InOrder 0 ts → (is : Items) (a b : List Tok) → ts ≡ a ++ (yield is ++ b) → Marked is → map (sort_of ts) (pieces is) ≡ sorts is
 sorts-pieces ts o none a b e m = refl
 sorts-pieces ts o (mark t r) a b e m =
     ap (λ l. word t.class ∷ l) (sorts-pieces ts o r (a ++ (t ∷ [])) b (e ∙ sym (append_assoc a (t ∷ []) (yield r ++ b))) m)
 sorts-pieces ts o (sub k l h js r) a b e m =
     let f : ts ≡ a ++ (yield js ++ (yield r ++ b)) = e ∙ ap (λ x. a ++ x) (append_assoc (yield js) (yield r) b) in
     let g : ts ≡ (a ++ yield js) ++ (yield r ++ b) = f ∙ sym (append_assoc a (yield js) (yield r ++ b)) in
-    let c : class_at ts (begin (yield js)) ≡ firstClass (yield js) =
+    let c : class_at ts (begin (yield js)) ≡ first_class (yield js) =
     ap (λ x. class_at x (begin (yield js))) f ∙ class-at 0 a (yield js) (yield r ++ b) (omega (arith, marks-few js, m.0)) (subst (InOrder 0) f o) in
     let rest = sorts-pieces ts o r (a ++ yield js) b g m.2 in
     cc
 
 module _ (lo hi : ℕ) (e a b : Node) where
-  arms : T (canonical a b) → Ordered lo hi (recordOf e ∷ recordOf a ∷ recordOf b ∷ []) ⊎ Ordered lo hi (recordOf e ∷ recordOf b ∷ recordOf a ∷ [])
-      → Canonical lo hi (recordOf e ∷ recordOf a ∷ recordOf b ∷ [])
+  arms : T (canonical a b) → Ordered lo hi (record_of e ∷ record_of a ∷ record_of b ∷ []) ⊎ Ordered lo hi (record_of e ∷ record_of b ∷ record_of a ∷ [])
+      → Canonical lo hi (record_of e ∷ record_of a ∷ record_of b ∷ [])
   unfolding canonical
   arms t o =
       let x = eqb a.kind kind.BuiltinArm in
@@ -60,24 +60,24 @@ module _ (lo hi : ℕ) (e a b : Node) where
       let z = partner a.low b.low in
       let u = second-of x (y && z) t in
       record {
-        matched = recordOf e;
-        first = recordOf a;
-        second = recordOf b;
-        they-are = refl;
-        first-arm = eqb→eq a.kind kind.BuiltinArm (first-of x (y && z) t);
-        second-arm = eqb→eq b.kind kind.BuiltinArm (first-of y z u);
+        matched = record_of e;
+        first = record_of a;
+        second = record_of b;
+        they_are = refl;
+        first_arm = eqb→eq a.kind kind.BuiltinArm (first-of x (y && z) t);
+        second_arm = eqb→eq b.kind kind.BuiltinArm (first-of y z u);
         partners = second-of y z u;
         places = o;
       }
 
 -- the arms as they are handed over
-handed-arms : (lo hi : ℕ) (ks : List Node) → T (paired ks) → Ordered lo hi (map recordOf ks) → Canonical lo hi (map recordOf (arrange (reversed ks) ks))
+handed-arms : (lo hi : ℕ) (ks : List Node) → T (paired ks) → Ordered lo hi (map record_of ks) → Canonical lo hi (map record_of (arrange (reversed ks) ks))
 handed-arms lo hi [] t o = absurd t
 handed-arms lo hi (e ∷ []) t o = absurd t
 handed-arms lo hi (e ∷ a ∷ []) t o = absurd t
 handed-arms lo hi (e ∷ a ∷ b ∷ []) t o = go (canonical b a) refl (or_cases (canonical a b) (canonical b a) t)
   where
-    go : (r : Bool) → canonical b a ≡ r → T (canonical a b) ⊎ T (canonical b a) → Canonical lo hi (map recordOf (arrange r (e ∷ a ∷ b ∷ [])))
+    go : (r : Bool) → canonical b a ≡ r → T (canonical a b) ⊎ T (canonical b a) → Canonical lo hi (map record_of (arrange r (e ∷ a ∷ b ∷ [])))
     go true q u = arms lo hi e b a (rw q tt) (inr o)
     go false q (inl u) = arms lo hi e a b u (inl o)
     go false q (inr u) = absurd (rw q at u)
@@ -91,9 +91,9 @@ module _ (R : Rule) (ns : List Node) (fine : Fine ns) (keeps : Each (Keeps R) (r
 
   module _ (j : ℕ) (lt : j < length (records ns)) where
     inside : j < length (all ns)
-    inside = omega (arith, length-map (all ns) recordOf)
+    inside = omega (arith, length-map (all ns) record_of)
 
-    stands : get_or (records ns) j blank ≡ recordOf (at j)
+    stands : get_or (records ns) j blank ≡ record_of (at j)
     unfolding at
     stands = (kept ns fine).stands j lt
 
@@ -105,7 +105,7 @@ module _ (R : Rule) (ns : List Node) (fine : Fine ns) (keeps : Each (Keeps R) (r
     unfolding at
     is_made =
         let s = (kept ns fine).sits j lt in
-        ap (map (sortOf (tokens ns))) ((kept ns fine).same j lt) ∙ sorts-pieces (tokens ns) fine.ordered (at j).items s.before s.after s.split
+        ap (map (sort_of (tokens ns))) ((kept ns fine).same j lt) ∙ sorts-pieces (tokens ns) fine.ordered (at j).items s.before s.after s.split
         s.marked
 
     is_spelled : R (get_or (records ns) j blank).kind (get_or (records ns) j blank).low (get_or (records ns) j blank).high (made (tokens ns) (records ns) j)

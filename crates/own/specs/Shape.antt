@@ -4,8 +4,8 @@ use Rattle.std.specs.Prelude.{◌≡◌, refl, Bool, true, false, ◌||◌, List
 use Rattle.std.proofs.Common.{sym, ap, ◌∙◌, append_assoc, append-nil, arith, length-append, take_at, drop_at}
 use Rattle.std.proofs.lemmas.List.{length-map}
 use Rattle.text.specs.Lists.{some}
-use Rattle.own.specs.Tree.{Tok, Items, none, mark, sub, Node, node, kids, turned, exchange, arrange, concat, groups, nodes, below, roots, all, Rec, recordOf, records}
-use Rattle.own.specs.Flat.{holds, row, headChildren}
+use Rattle.own.specs.Tree.{Tok, Items, none, mark, sub, Node, node, kids, turned, exchange, arrange, concat, groups, nodes, below, roots, all, Rec, record_of, records}
+use Rattle.own.specs.Flat.{holds, row, head_children}
 use Rattle.own.specs.Lists.{All, nil, ◌&◌, all-arrange, arrange-map}
 
 -- each node of the list is followed by all beneath it
@@ -51,12 +51,12 @@ map-append f [] l = refl
 map-append f (a ∷ k) l = ap (λ m. f a ∷ m) (map-append f k l)
 
 -- a row of nodes, each with all beneath it, by the sizes
-row-nodes : (cs : List Node) (f : ℕ) → length cs ≤ f → row f (map recordOf (concat (map nodes cs))) ≡ map recordOf cs
+row-nodes : (cs : List Node) (f : ℕ) → length cs ≤ f → row f (map record_of (concat (map nodes cs))) ≡ map record_of cs
 row-nodes [] zero h = refl
 row-nodes [] (suc f) h = refl
 row-nodes (c ∷ cs) zero h = absurd (omega arith)
-row-nodes (c ∷ cs) (suc f) h = ap (λ m. recordOf c ∷ m) (ap (row f)
-    (ap (drop s) (map-append recordOf beneath later) ∙ drop_at (map recordOf beneath) (map recordOf later) s same) ∙ row-nodes cs f (omega arith))
+row-nodes (c ∷ cs) (suc f) h = ap (λ m. record_of c ∷ m) (ap (row f)
+    (ap (drop s) (map-append record_of beneath later) ∙ drop_at (map record_of beneath) (map record_of later) s same) ∙ row-nodes cs f (omega arith))
   where
     beneath : List Node
     beneath = concat (arrange (turned c.kind c.items) (groups c.items))
@@ -65,28 +65,28 @@ row-nodes (c ∷ cs) (suc f) h = ap (λ m. recordOf c ∷ m) (ap (row f)
     later = concat (map nodes cs)
 
     s : ℕ
-    s = (recordOf c).size - 1
+    s = (record_of c).size - 1
 
-    same : length (map recordOf beneath) ≡ s
-    same = length-map beneath recordOf ∙ omega arith
+    same : length (map record_of beneath) ≡ s
+    same = length-map beneath record_of ∙ omega arith
 
 few : (cs : List Node) → length cs ≤ length (concat (map nodes cs))
 few [] = omega arith
 few (c ∷ cs) = let h = few cs in omega (arith, length-append (nodes c) (concat (map nodes cs)))
 
 -- the children of the first record are those of its node
-pub head-children : (n : Node) (rest : List Node) → headChildren (map recordOf (nodes n ++ rest)) ≡ map recordOf (below n)
-head-children n rest = ap (row size) (ap (take (size - 1)) (map-append recordOf beneath rest) ∙ take_at (map recordOf beneath) (map recordOf rest)
-    (size - 1) same) ∙ ap (λ m. row size (map recordOf m)) is_below ∙ row-nodes (below n) size enough
+pub head-children : (n : Node) (rest : List Node) → head_children (map record_of (nodes n ++ rest)) ≡ map record_of (below n)
+head-children n rest = ap (row size) (ap (take (size - 1)) (map-append record_of beneath rest) ∙ take_at (map record_of beneath) (map record_of rest)
+    (size - 1) same) ∙ ap (λ m. row size (map record_of m)) is_below ∙ row-nodes (below n) size enough
   where
     beneath : List Node
     beneath = concat (arrange (turned n.kind n.items) (groups n.items))
 
     size : ℕ
-    size = (recordOf n).size
+    size = (record_of n).size
 
-    same : length (map recordOf beneath) ≡ size - 1
-    same = length-map beneath recordOf ∙ omega arith
+    same : length (map record_of beneath) ≡ size - 1
+    same = length-map beneath record_of ∙ omega arith
 
     is_below : beneath ≡ concat (map nodes (below n))
     is_below = cc (nodes-below n)
@@ -100,10 +100,10 @@ kids-roots [] = refl
 kids-roots (n ∷ ns) = ap (λ m. n ∷ m) (kids-roots ns)
 
 -- the records of the trees themselves, through the sizes from the first on
-pub tops : (ns : List Node) (f : ℕ) → length (records ns) ≤ f → row f (records ns) ≡ map recordOf ns
+pub tops : (ns : List Node) (f : ℕ) → length (records ns) ≤ f → row f (records ns) ≡ map record_of ns
 tops ns f h =
-    ap (λ m. row f (map recordOf (concat m))) e
-    ∙ row-nodes ns f (omega (arith, h, few ns, length-map (all ns) recordOf, ap (λ m. length (concat m)) e))
+    ap (λ m. row f (map record_of (concat m))) e
+    ∙ row-nodes ns f (omega (arith, h, few ns, length-map (all ns) record_of, ap (λ m. length (concat m)) e))
   where
     e : groups (roots ns) ≡ map nodes ns
     e = groups-kids (roots ns) ∙ ap (map nodes) (kids-roots ns)

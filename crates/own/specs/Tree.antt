@@ -12,8 +12,8 @@ pub record Tok : Type 0 where
   pub start : ℕ
   pub stop : ℕ
 
-unfoldable pub classesOf : List Tok → List ℕ
-classesOf = map (λ t. t.class)
+unfoldable pub classes_of : List Tok → List ℕ
+classes_of = map (λ t. t.class)
 
 -- What a node is made of, in the order of the text: tokens of its own, and nodes (kind, low, high and what each is made of).
 pub data Items : Type 0 where
@@ -137,8 +137,8 @@ pub record Rec : Type 0 where
   pub size : ℕ
 
 -- The record of a node: from the start of its first token to the end of its last; size counts it and all beneath it.
-abbrev pub recordOf : Node → Rec
-recordOf n =
+abbrev pub record_of : Node → Rec
+record_of n =
     record { kind = n.kind; start = begin (yield n.items); stop = end 0 (yield n.items); low = n.low; high = n.high; size = length (nodes n) }
 
 -- What is handed over of trees side by side: the tokens, in the order of the text.
@@ -150,7 +150,7 @@ abbrev pub all : List Node → List Node
 all ns = concat (groups (roots ns))
 
 abbrev pub records : List Node → List Rec
-records ns = map recordOf (all ns)
+records ns = map record_of (all ns)
 
 -- Tokens in order from a place on: none is empty, and each starts where the one before ends, or later.
 abbrev pub InOrder : ℕ → List Tok → Type 0

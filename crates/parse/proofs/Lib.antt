@@ -1,1 +1,1 @@
-pub mod rule
+pub mod Rule

@@ -4,33 +4,33 @@
 use Rattle.std.specs.Prelude.{◌≡◌, ℕ, suc, ◌+◌, ◌*◌, ◌/◌, ◌%◌, ◌<◌, ◌≤◌, true, false, cond, T, List, [], ◌∷◌, ◌++◌, length, drop, ◌==◌, ◌≢◌, nat_lt, slice_index, slice_index_or}
 use Rattle.std.proofs.Math.Option.{Option, none, some}
 use Rattle.std.proofs.lemmas.List.Edits.{sets}
-use Rattle.num.specs.Value.{decimalOf}
+use Rattle.num.specs.Value.{decimal_of}
 use Rattle.num.specs.declared.Value.{Value}
 use Rattle.num.specs.declared.Value.TheVariants.{Number, TooLarge}
-use Rattle.num.specs.Bound.{boundOk, sizeOk, lengthOk}
+use Rattle.num.specs.Bound.{bound_ok, size_ok, length_ok}
 use Rattle.theory.specs.Grammar.{Sym, nt}
 use Rattle.theory.specs.Machine.{choose}
 use Rattle.theory.specs.Ebnf as shape
 use Rattle.theory.specs.Walk.{Reads, Sticks}
 use Rattle.own.specs.Tree as own
-use Rattle.own.specs.Tree.{Tok, Items, Each, concat, classesOf}
-use Rattle.own.specs.Flat.{no-token}
+use Rattle.own.specs.Tree.{Tok, Items, Each, concat, classes_of}
+use Rattle.own.specs.Flat.{blank_tok}
 use Rattle.own.specs.Law.{Sort, word, child, sorts}
-use Rattle.text.specs.Widths.{recWide, tokWide}
+use Rattle.text.specs.Widths.{rec_wide, tok_wide}
 use Rattle.text.specs.Refusals as refusal
 use Rattle.text.specs.Lists.{has}
-use Rattle.own.specs.Words.{recThen, toks, sizes, wordGroups}
+use Rattle.own.specs.Words.{rec_then, toks, sizes, word_groups}
 use Rattle.own.specs.Kinds as kind
-use Rattle.kinds.specs.Shape.{halfRange}
+use Rattle.kinds.specs.Shape.{half_range}
 use Rattle.kinds.specs.Fields.{counted, halves}
 use Rattle.kinds.specs.Families as family
 use Rattle.kinds.specs.Class.{class_of}
 use Rattle.lexer.specs.Classes as t
-use Rattle.grammar.specs.shapes.Shapes.{shapes}
-use Rattle.grammar.specs.shapes.Tables.{means, table}
-use Rattle.grammar.specs.shapes.TablesIndex.{n-arm, n-head}
-use Rattle.grammar.specs.records.Records.{low_half, high_half, sees, nameCount, arranged, text_of, recordItems}
-use Rattle.grammar.specs.records.Faults.{Fault, earlier, earliest, faults}
+use Rattle.grammar.specs.Shapes.Shapes.{shapes}
+use Rattle.grammar.specs.Shapes.Tables.{means, table}
+use Rattle.grammar.specs.Shapes.TablesIndex.{n-arm, n-head}
+use Rattle.grammar.specs.Records.Records.{low_half, high_half, sees, name_count, arranged, text_of, record_items}
+use Rattle.grammar.specs.Records.Faults.{Fault, earlier, earliest, faults}
 use Rattle.parse.specs.declared.State.{State}
 use Rattle.parse.specs.declared.token.Lexeme.{Lexeme}
 use Rattle.parse.specs.declared.Step.{Step}
@@ -38,8 +38,8 @@ use Rattle.parse.specs.declared.Step.TheVariants.{Next, Refused}
 use Rattle.parse.specs.Choice as choice
 
 -- So many numbers a u32 has.
-abbrev pub u32Count : ℕ
-u32Count = halfRange
+abbrev pub u32_count : ℕ
+u32_count = half_range
 
 -- So many tokens at most: then neither their number nor that of the records' words leaves a u32.
 abbrev pub countable : ℕ
@@ -52,13 +52,13 @@ pub record Text : Type 0 where
 
 -- The draft with the first n tokens of a buffer, as far as it holds them.
 unfoldable pub text : List ℕ → List ℕ → ℕ → Text
-text draft words n = record { draft = draft; ts = toks (class_of draft) (cond (nat_lt n (length words / tokWide)) n (length words / tokWide)) words }
+text draft words n = record { draft = draft; ts = toks (class_of draft) (cond (nat_lt n (length words / tok_wide)) n (length words / tok_wide)) words }
 
 abbrev pub classes : Text → List ℕ
-classes x = classesOf x.ts
+classes x = classes_of x.ts
 
-abbrev pub tokAt : Text → ℕ → Tok
-tokAt x i = slice_index_or x.ts i no-token
+abbrev pub tok_at : Text → ℕ → Tok
+tok_at x i = slice_index_or x.ts i blank_tok
 
 -- The two relations of theory's Walk over grammar's table.
 abbrev pub Read : Text → List Sym → ℕ → shape.Items → ℕ → Type 0
@@ -69,11 +69,11 @@ Stuck x = Sticks shapes means table (classes x)
 
 -- The records of shapes that begin at a token, before any token of theirs becomes a record of its own.
 unfoldable pub raw : Text → ℕ → shape.Items → Items
-raw x at r = recordItems x.draft r (drop at x.ts)
+raw x at r = record_items x.draft r (drop at x.ts)
 
 -- The earliest refusal of a shape in shapes that begin at a token.
-unfoldable pub faultIn : Text → ℕ → shape.Items → Option Fault
-faultIn x at r = earliest (faults x.draft r (drop at x.ts))
+unfoldable pub fault_in : Text → ℕ → shape.Items → Option Fault
+fault_in x at r = earliest (faults x.draft r (drop at x.ts))
 
 -- Of two refusals the earlier, if there is one.
 abbrev pub sooner : Option Fault → Option Fault → Option Fault
@@ -90,10 +90,10 @@ kept st = fault st.fault st.place
 -- The state is at its token: class, start and end are those of the token, `end` that of the token before.
 pub record Stands (x : Text) (st : State) : Type 0 where
   pub within : st.at ≤ length x.ts
-  pub class-is : st.class ≡ slice_index (classes x) st.at
-  pub start_is : st.start ≡ (tokAt x st.at).start
-  pub stop_is : st.stop ≡ (tokAt x st.at).stop
-  pub end_is : (p : ℕ) → st.at ≡ suc p → st.end ≡ (tokAt x p).stop
+  pub class_is : st.class ≡ slice_index (classes x) st.at
+  pub start_is : st.start ≡ (tok_at x st.at).start
+  pub stop_is : st.stop ≡ (tok_at x st.at).stop
+  pub end_is : (p : ℕ) → st.at ≡ suc p → st.end ≡ (tok_at x p).stop
 
 -- A state to parse from: as many records at most as tokens were passed, and few enough to be counted.
 pub record Ready (x : Text) (st : State) : Type 0 where
@@ -110,12 +110,12 @@ pub record Near (x : Text) (st : State) : Type 0 where
 -- The state at the next token.
 pub record Moved (x : Text) (st st' : State) : Type 0 where
   pub ahead : st.at < length x.ts → st'.at ≡ st.at + 1
-  pub class-is : st'.class ≡ slice_index (classes x) st'.at
-  pub start_is : st'.start ≡ (tokAt x st'.at).start
-  pub stop_is : st'.stop ≡ (tokAt x st'.at).stop
+  pub class_is : st'.class ≡ slice_index (classes x) st'.at
+  pub start_is : st'.start ≡ (tok_at x st'.at).start
+  pub stop_is : st'.stop ≡ (tok_at x st'.at).stop
   pub end_is : st'.end ≡ st.stop
-  pub out-is : st'.out ≡ st.out
-  pub kept-is : kept st' ≡ kept st
+  pub out_is : st'.out ≡ st.out
+  pub kept_is : kept st' ≡ kept st
 
 -- What `eat` answers.
 pub data Eaten (x : Text) (st : State) (c : ℕ) : Step → Type 0 where
@@ -123,12 +123,12 @@ pub data Eaten (x : Text) (st : State) (c : ℕ) : Step → Type 0 where
   lacked : (st.class ≢ c) → Eaten x st c (Refused st.at)
 
 -- The kinds of records that hold a number, those with fields `wide` or `bounded` in the kinds table.
-abbrev pub numberKinds : List ℕ
-numberKinds = kind.ArrayType ∷ kind.ListType ∷ kind.Number ∷ []
+abbrev pub number_kinds : List ℕ
+number_kinds = kind.ArrayType ∷ kind.ListType ∷ kind.Number ∷ []
 
 -- Low and high of such a kind are two halves of 32 bits.
 abbrev pub Halved : ℕ → ℕ → ℕ → Type 0
-Halved k low high = T (has numberKinds k) → T (halves low high)
+Halved k low high = T (has number_kinds k) → T (halves low high)
 
 abbrev pub Holds : own.Node → Type 0
 Holds n = Halved n.kind n.low n.high
@@ -136,7 +136,7 @@ Holds n = Halved n.kind n.low n.high
 -- The record `here` is written where it fits: the buffer has room for it, and it for its number, if its kind holds one.
 pub record Put (l : List ℕ) (here k b e low high z : ℕ) (l' : List ℕ) : Type 0 where
   pub long : length l' ≡ length l
-  pub put : Halved k low high → recWide * here + recWide ≤ length l → l' ≡ sets l (recWide * here) (recThen k b e low high z [])
+  pub put : Halved k low high → rec_wide * here + rec_wide ≤ length l → l' ≡ sets l (rec_wide * here) (rec_then k b e low high z [])
 
 -- The same of a record that holds the number v; if that is too large nothing is written.
 pub data PutNumber (l : List ℕ) (here k b e : ℕ) (v : Value) (z : ℕ) (l' : List ℕ) : Type 0 where
@@ -146,8 +146,8 @@ pub data PutNumber (l : List ℕ) (here k b e : ℕ) (v : Value) (z : ℕ) (l' :
 -- The records from `from` to `mid`, u, and those up to `to`, v, are exchanged where they fit.
 pub record Turned (l : List ℕ) (from mid to : ℕ) (l' : List ℕ) : Type 0 where
   pub long : length l' ≡ length l
-  pub turn : (l₀ u v : List ℕ) → recWide * to ≤ length l → length l₀ ≡ length l → l ≡ sets l₀ (recWide * from) (u ++ v)
-      → recWide * from + length u ≡ recWide * mid → recWide * mid + length v ≡ recWide * to → l' ≡ sets l₀ (recWide * from) (v ++ u)
+  pub turn : (l₀ u v : List ℕ) → rec_wide * to ≤ length l → length l₀ ≡ length l → l ≡ sets l₀ (rec_wide * from) (u ++ v)
+      → rec_wide * from + length u ≡ rec_wide * mid → rec_wide * mid + length v ≡ rec_wide * to → l' ≡ sets l₀ (rec_wide * from) (v ++ u)
 
 -- From st and the buffer l to st' and l': as many tokens were passed as r has; the records of L stand behind those before, where there is
 -- room for them, and in them for their numbers; m tokens belong to no record yet; and the earliest refusal is kept.
@@ -156,8 +156,8 @@ pub record Laid (x : Text) (st : State) (l : List ℕ) (r : shape.Items) (L : It
   pub sized : st'.out ≡ st.out + sizes L
   pub few : st'.out + st.at + m ≤ st.out + st'.at
   pub long : length l' ≡ length l
-  pub laid : Each Holds L → recWide * st'.out ≤ length l → l' ≡ sets l (recWide * st.out) (concat (wordGroups L))
-  pub worst : kept st' ≡ sooner (kept st) (faultIn x st.at r)
+  pub laid : Each Holds L → rec_wide * st'.out ≤ length l → l' ≡ sets l (rec_wide * st.out) (concat (word_groups L))
+  pub worst : kept st' ≡ sooner (kept st) (fault_in x st.at r)
   pub stands : Stands x st'
 
 -- What an answer says besides: of the records before and after tokens became records, the tokens that belong to none, and its two numbers.
@@ -165,11 +165,11 @@ abbrev pub Info : Type 1
 Info = Items → Items → ℕ → ℕ → ℕ → Type 0
 
 -- What was read as items is laid as `wrap` of them: as they are, or as one node.
-abbrev pub asItems : shape.Items → shape.Items
-asItems r = r
+abbrev pub as_items : shape.Items → shape.Items
+as_items r = r
 
-abbrev pub asNode : ℕ → shape.Items → shape.Items
-asNode k r = shape.sub k r shape.nil
+abbrev pub as_node : ℕ → shape.Items → shape.Items
+as_node k r = shape.sub k r shape.nil
 
 -- The symbols σ were read.
 pub record Went (x : Text) (σ : List Sym) (wrap : shape.Items → shape.Items) (I : Info) (st : State) (l : List ℕ) (st' : State) (l' : List ℕ) (a b : ℕ) : Type 0 where
@@ -188,7 +188,7 @@ pub data Parsed (x : Text) (σ : List Sym) (wrap : shape.Items → shape.Items) 
 -- The state with a record more.
 unfoldable pub reserved : State → State
 reserved st =
-    record { at = st.at; class = st.class; start = st.start; stop = st.stop; end = st.end; out = (st.out + 1) % u32Count; fault = st.fault; place = st.place }
+    record { at = st.at; class = st.class; start = st.start; stop = st.stop; end = st.end; out = (st.out + 1) % u32_count; fault = st.fault; place = st.place }
 
 -- The state without a refusal.
 unfoldable pub cleaned : State → State
@@ -196,14 +196,14 @@ cleaned st = record { at = st.at; class = st.class; start = st.start; stop = st.
 
 -- One token that is no record of its own,
 pub record Mark (t : Tok) (J L : Items) (m a b : ℕ) : Type 0 where
-  pub raw-is : J ≡ own.mark t own.none
-  pub laid-is : L ≡ own.mark t own.none
+  pub raw_is : J ≡ own.mark t own.none
+  pub laid_is : L ≡ own.mark t own.none
   pub one : m ≡ 1
 
 -- one that is a record of this kind, low and high,
 pub record Named (t : Tok) (kind low high : ℕ) (J L : Items) (m a b : ℕ) : Type 0 where
-  pub raw-is : J ≡ own.mark t own.none
-  pub laid-is : L ≡ own.sub kind low high (own.mark t own.none) own.none
+  pub raw_is : J ≡ own.mark t own.none
+  pub laid_is : L ≡ own.sub kind low high (own.mark t own.none) own.none
   pub none_left : m ≡ 0
 
 -- and one node of a kind that fulfils P.
@@ -212,14 +212,14 @@ pub record Node (P : ℕ → Type 0) (J L : Items) (m a b : ℕ) : Type 0 where
   pub low : ℕ
   pub high : ℕ
   pub js : Items
-  pub raw-is : J ≡ own.sub kind low high js own.none
-  pub laid-is : L ≡ own.sub kind low high js own.none
+  pub raw_is : J ≡ own.sub kind low high js own.none
+  pub laid_is : L ≡ own.sub kind low high js own.none
   pub none_left : m ≡ 0
-  pub its-kind : P kind
+  pub its_kind : P kind
 
 -- The token that the accessor gives.
 pub record Gives (r : Lexeme) (t : Tok) : Type 0 where
-  pub class-is : r.class ≡ t.class
+  pub class_is : r.class ≡ t.class
   pub start_is : r.start ≡ t.start
   pub stop_is : r.stop ≡ t.stop
 
@@ -229,35 +229,35 @@ next at n = cond (nat_lt at n) (at + 1) at
 
 -- The inner state with the earliest refusal: that of the outer state, this one, that of the inner state.
 pub record Judged (outer inner : State) (number place : ℕ) (r : State) : Type 0 where
-  pub at-is : r.at ≡ inner.at
-  pub class-is : r.class ≡ inner.class
+  pub at_is : r.at ≡ inner.at
+  pub class_is : r.class ≡ inner.class
   pub start_is : r.start ≡ inner.start
   pub stop_is : r.stop ≡ inner.stop
   pub end_is : r.end ≡ inner.end
-  pub out-is : r.out ≡ inner.out
-  pub kept-is : kept r ≡ sooner (kept outer) (sooner (fault number place) (kept inner))
+  pub out_is : r.out ≡ inner.out
+  pub kept_is : kept r ≡ sooner (kept outer) (sooner (fault number place) (kept inner))
 
 -- The refusal of a bound, of a size and of a length, or 0.
-unfoldable pub boundFault : Value → ℕ
-boundFault v = cond (boundOk v) 0 refusal.Bound
+unfoldable pub bound_fault : Value → ℕ
+bound_fault v = cond (bound_ok v) 0 refusal.Bound
 
-unfoldable pub sizeFault : Value → ℕ
-sizeFault v = cond (sizeOk v) 0 refusal.Size
+unfoldable pub size_fault : Value → ℕ
+size_fault v = cond (size_ok v) 0 refusal.Size
 
-unfoldable pub lengthFault : Value → ℕ
-lengthFault v = cond (lengthOk v) 0 refusal.Length
+unfoldable pub length_fault : Value → ℕ
+length_fault v = cond (length_ok v) 0 refusal.Length
 
 -- The sort of a name, one that a function may have or a reserved one, and 0 for any other token.
-unfoldable pub nameSort : ℕ → ℕ
-nameSort c = cond (has t.functionNames c) choice.FunctionName (cond (has t.identifiers c) choice.ReservedName 0)
+unfoldable pub name_sort : ℕ → ℕ
+name_sort c = cond (has t.function_names c) choice.FunctionName (cond (has t.identifiers c) choice.ReservedName 0)
 
 -- The alternative of an arm's head, or 0 where no arm begins.
-unfoldable pub headSort : ℕ → ℕ
-headSort c = cond (choose table n-arm c == 0) 0 (choose table n-head c)
+unfoldable pub head_sort : ℕ → ℕ
+head_sort c = cond (choose table n-arm c == 0) 0 (choose table n-head c)
 
 -- The classes of a call's name that is a record: "a jet's token or a function name".
 abbrev pub callees : List ℕ
-callees = t.Jet ∷ t.functionNames
+callees = t.Jet ∷ t.function_names
 
 -- The name of a call: a record where it is a jet's token or a function's name, otherwise nothing is written.
 pub data Called (st a : State) (l l' : List ℕ) (r : State) : Type 0 where
@@ -266,19 +266,19 @@ pub data Called (st a : State) (l l' : List ℕ) (r : State) : Type 0 where
 
 -- The number of the decimal at a place, of any size.
 abbrev pub value_at : Text → ℕ → ℕ
-value_at x at = decimalOf (text_of x.draft (tokAt x at))
+value_at x at = decimal_of (text_of x.draft (tok_at x at))
 
 -- A decimal that is a record of its own.
 abbrev pub Decimal : Text → ℕ → Info
-Decimal x at = Named (tokAt x at) kind.Number (low_half (value_at x at)) (high_half (value_at x at))
+Decimal x at = Named (tok_at x at) kind.Number (low_half (value_at x at)) (high_half (value_at x at))
 
 -- Names joined by `::`, each a record where every name of the record above is one, and how many.
 pub record Names (J L : Items) (m a b : ℕ) : Type 0 where
-  pub count-is : nameCount (sorts J) ≡ a
+  pub count_is : name_count (sorts J) ≡ a
   pub bounded : a ≤ countable
-  pub roles : (K n : ℕ) → has family.namesKept K ≡ true → arranged K n J ≡ L
+  pub roles : (K n : ℕ) → has family.names_kept K ≡ true → arranged K n J ≡ L
   pub others : (c : ℕ) → has t.identifiers c ≡ false → (c ≢ t.DoubleColon) → sees c (sorts J) ≡ false
-  pub no-parts : (ks : List ℕ) → counted ks (sorts J) ≡ 0
+  pub no_parts : (ks : List ℕ) → counted ks (sorts J) ≡ 0
 
 -- Kinds of nodes: types, patterns, expressions.
 abbrev pub TypeKind : ℕ → Type 0
@@ -304,8 +304,8 @@ pub record Commas (J L : Items) (m a b : ℕ) : Type 0 where
 -- What a function says of a nonterminal, of all that it is lent: the draft, the words of its tokens and their number, the state from which
 -- it parses, and the tree buffer before and after.
 abbrev pub Parses : ℕ → Info → List ℕ → List ℕ → ℕ → State → List ℕ → List ℕ → Step → Type 0
-Parses A I draft words n st l l' r = Parsed (text draft words n) (nt A ∷ []) asItems I st l l' r
+Parses A I draft words n st l l' r = Parsed (text draft words n) (nt A ∷ []) as_items I st l l' r
 
 -- The name at a token, as a record of its own.
 abbrev pub NameAt : List ℕ → List ℕ → ℕ → ℕ → Info
-NameAt draft words n at = Named (tokAt (text draft words n) at) kind.Name 0 0
+NameAt draft words n at = Named (tok_at (text draft words n) at) kind.Name 0 0

@@ -4,18 +4,18 @@
 use Rattle.std.specs.Prelude.{◌≡◌, ℕ, ◌*◌, Bool, true, false, cond, ◌||◌, List, [], ◌∷◌, length, replicate, ◌==◌, nat_le, nat_lt}
 use Rattle.std.proofs.Math.Option.{none}
 use Rattle.lexer.specs.Lexemes.{Token}
-use Rattle.lexer.specs.Buffer.{tokensIn}
-use Rattle.text.specs.Widths.{tokWide, recWide}
+use Rattle.lexer.specs.Buffer.{tokens_in}
+use Rattle.text.specs.Widths.{tok_wide, rec_wide}
 use Rattle.text.specs.Answers.{Answer, accepted, refused}
 use Rattle.text.specs.Refusals as refusal
-use Rattle.own.specs.Words.{recWords}
-use Rattle.own.specs.Tree.{classesOf}
-use Rattle.grammar.specs.Entry.{Entry, oneFunction, wholeFile}
+use Rattle.own.specs.Words.{rec_words}
+use Rattle.own.specs.Tree.{classes_of}
+use Rattle.grammar.specs.Entry.{Entry, single_function, whole_file}
 use Rattle.theory.specs.Grammar.{nt}
-use Rattle.grammar.specs.shapes.TablesIndex.{n-function}
-use Rattle.grammar.specs.shapes.WellShaped.{shape_of}
-use Rattle.grammar.specs.answers.Answer.{toks_of, start_of, Reading, shaped, fitted, content, recordsIn}
-use Rattle.parse.specs.Contract.{Text, kept, Stands, asItems, Parsed, Node, u32Count}
+use Rattle.grammar.specs.Shapes.TablesIndex.{n-function}
+use Rattle.grammar.specs.Shapes.WellShaped.{shape_of}
+use Rattle.grammar.specs.Answers.Answer.{toks_of, start_of, Reading, shaped, fitted, content, records_in}
+use Rattle.parse.specs.Contract.{Text, kept, Stands, as_items, Parsed, Node, u32_count}
 use Rattle.parse.specs.Infos.{FunctionKind, FileRead}
 use Rattle.parse.specs.declared.State.{State}
 use Rattle.parse.specs.declared.Step as steps
@@ -24,27 +24,27 @@ use Rattle.parse.specs.declared.Answer as code
 use Rattle.parse.specs.declared.Answer.TheVariants.{Records, Refused}
 
 -- More tokens than there may be, or than the token buffer of so many words holds.
-unfoldable pub tooMany : ℕ → ℕ → ℕ → Bool
-tooMany most n tw = nat_lt most n || nat_lt tw (tokWide * n)
+unfoldable pub too_many : ℕ → ℕ → ℕ → Bool
+too_many most n tw = nat_lt most n || nat_lt tw (tok_wide * n)
 
 -- The code's name for an entry: whether it reads a file.
 abbrev pub entry_of : Bool → Entry
-entry_of false = oneFunction
-entry_of true = wholeFile
+entry_of false = single_function
+entry_of true = whole_file
 
 -- A file longer than its first record can say. (No draft within the limits is.)
-unfoldable pub tooLong : Entry → ℕ → Bool
-tooLong oneFunction len = false
-tooLong wholeFile len = nat_le u32Count len
+unfoldable pub too_long : Entry → ℕ → Bool
+too_long single_function len = false
+too_long whole_file len = nat_le u32_count len
 
 -- What the step of a whole draft of so many bytes says.
 pub data WholeRead (x : Text) (len : ℕ) (st : State) (l l' : List ℕ) (r : steps.Step) : Entry → Type 0 where
-  one-read : Parsed x (nt n-function ∷ []) asItems (Node FunctionKind) st l l' r → WholeRead x len st l l' r oneFunction
-  all_read : FileRead x len st l l' r → WholeRead x len st l l' r wholeFile
+  one_read : Parsed x (nt n-function ∷ []) as_items (Node FunctionKind) st l l' r → WholeRead x len st l l' r single_function
+  all_read : FileRead x len st l l' r → WholeRead x len st l l' r whole_file
 
 -- The reading of a draft with these tokens: refusal 8, then those of the shapes, or its tokens and its records.
 unfoldable pub reading_of : Entry → List ℕ → List Token → Reading
-reading_of en draft ts = shaped en draft ts (shape_of en (classesOf (toks_of draft ts)))
+reading_of en draft ts = shaped en draft ts (shape_of en (classes_of (toks_of draft ts)))
 
 -- The paper's answer for each case of the code's, over n tokens,
 abbrev pub meant : ℕ → code.Answer → Answer
@@ -60,30 +60,30 @@ answered (refused c p) = Refused c p
 -- places of both are the lexer's to give: here they are 0, and the reader never comes to them (`not-many` and `not-long` of its laws).
 unfoldable pub answer_of : Entry → ℕ → List ℕ → List ℕ → ℕ → ℕ → Answer
 answer_of en most draft words n rw =
-    cond (tooMany most n (length words)) (refused refusal.TooMany 0)
-    (cond (tooLong en (length draft)) (refused refusal.TooLong 0) (fitted rw (reading_of en draft (tokensIn n words))))
+    cond (too_many most n (length words)) (refused refusal.TooMany 0)
+    (cond (too_long en (length draft)) (refused refusal.TooLong 0) (fitted rw (reading_of en draft (tokens_in n words))))
 
 -- Every word of the tree buffer: six words a record, a seventh that is 0, and zeros behind them; otherwise zeros alone.
 unfoldable pub tree_of : Entry → ℕ → List ℕ → List ℕ → ℕ → ℕ → List ℕ
 tree_of en most draft words n rw =
-    let r = reading_of en draft (tokensIn n words) in
-    cond (tooMany most n (length words)) (replicate rw 0)
-    (cond (tooLong en (length draft)) (replicate rw 0) (content (fitted rw r) (recWords (recordsIn r)) rw))
+    let r = reading_of en draft (tokens_in n words) in
+    cond (too_many most n (length words)) (replicate rw 0)
+    (cond (too_long en (length draft)) (replicate rw 0) (content (fitted rw r) (rec_words (records_in r)) rw))
 
 -- The first state: at the first token, with no records and no refusal.
 pub record Starts (x : Text) (st : State) : Type 0 where
   pub stands : Stands x st
-  pub at-is : st.at ≡ 0
-  pub out-is : st.out ≡ 0
-  pub kept-is : kept st ≡ none
+  pub at_is : st.at ≡ 0
+  pub out_is : st.out ≡ 0
+  pub kept_is : kept st ≡ none
 
 -- What the last state says: a token left over is refusal 8; then those of the shapes, then 15.
 unfoldable pub ended : List ℕ → List ℕ → ℕ → ℕ → State → code.Answer
 ended draft words n rw z =
-    cond (nat_lt z.at n) (Refused refusal.Misshapen (start_of draft (tokensIn n words) z.at))
-    (cond (z.fault == 0) (cond (nat_lt rw (recWide * z.out)) (Refused refusal.NoRoom 0) (Records z.out)) (Refused z.fault z.place))
+    cond (nat_lt z.at n) (Refused refusal.Misshapen (start_of draft (tokens_in n words) z.at))
+    (cond (z.fault == 0) (cond (nat_lt rw (rec_wide * z.out)) (Refused refusal.NoRoom 0) (Records z.out)) (Refused z.fault z.place))
 
 -- What the step of the whole draft says.
 abbrev pub judged : List ℕ → List ℕ → ℕ → ℕ → steps.Step → code.Answer
 judged draft words n rw (step.Next z a b) = ended draft words n rw z
-judged draft words n rw (step.Refused p) = Refused refusal.Misshapen (start_of draft (tokensIn n words) p)
+judged draft words n rw (step.Refused p) = Refused refusal.Misshapen (start_of draft (tokens_in n words) p)

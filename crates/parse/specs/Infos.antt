@@ -13,12 +13,12 @@ use Rattle.own.specs.Kinds as kind
 use Rattle.kinds.specs.Fields.{counted}
 use Rattle.kinds.specs.Families as family
 use Rattle.lexer.specs.Classes as t
-use Rattle.grammar.specs.records.Records.{head, sees, nameCount, lone, unended, armHead, arranged}
-use Rattle.grammar.specs.shapes.Tables.{table}
-use Rattle.grammar.specs.shapes.TablesIndex.{n-single, n-function, n-typeItem, n-file}
+use Rattle.grammar.specs.Records.Records.{head, sees, name_count, lone, unended, arm_head, arranged}
+use Rattle.grammar.specs.Shapes.Tables.{table}
+use Rattle.grammar.specs.Shapes.TablesIndex.{n-single, n-function, n-type_item, n-file}
 use Rattle.text.specs.Refusals as refusal
-use Rattle.text.specs.Widths.{recWide}
-use Rattle.parse.specs.Contract.{Text, asItems, Parsed, Put, Moved, Only, Turned, countable, reserved}
+use Rattle.text.specs.Widths.{rec_wide}
+use Rattle.parse.specs.Contract.{Text, as_items, Parsed, Put, Moved, Only, Turned, countable, reserved}
 use Rattle.parse.specs.Choice as choice
 use Rattle.parse.specs.declared.State.{State}
 use Rattle.parse.specs.declared.Step.{Step}
@@ -32,7 +32,7 @@ LetKind k = k ≡ kind.Let
 pub record Elements (J L : Items) (m a b : ℕ) : Type 0 where
   pub same : L ≡ J
   pub semis : Only t.Semi (sorts J)
-  pub last-is : a ≡ cond (unended false (sorts J)) 1 0
+  pub last_is : a ≡ cond (unended false (sorts J)) 1 0
 
 -- Expressions with commas between them: a is 1 if it is one without a comma.
 pub record Lone (J L : Items) (m a b : ℕ) : Type 0 where
@@ -44,7 +44,7 @@ pub record Lone (J L : Items) (m a b : ℕ) : Type 0 where
 pub record Args (J L : Items) (m a b : ℕ) : Type 0 where
   pub roles : (K n : ℕ) → arranged K n J ≡ L
   pub W : List Sort
-  pub sorts-is : sorts J ≡ word t.LParen ∷ (W ++ (word t.RParen ∷ []))
+  pub sorts_is : sorts J ≡ word t.LParen ∷ (W ++ (word t.RParen ∷ []))
   pub commas : Only t.Comma W
   pub lone_is : lone W ≡ (a == 1)
   pub own : 1 ≤ m
@@ -52,7 +52,7 @@ pub record Args (J L : Items) (m a b : ℕ) : Type 0 where
 -- What follows the first `::` of an enum construction: a names.
 pub record Path (J L : Items) (m a b : ℕ) : Type 0 where
   pub roles : (n : ℕ) → arranged kind.EnumConstruction n J ≡ L
-  pub count-is : nameCount (sorts J) ≡ a
+  pub count_is : name_count (sorts J) ≡ a
   pub bounded : a ≤ countable
   pub angles : sees t.LAngle (sorts J) ≡ false
 
@@ -70,21 +70,21 @@ pub record Generic (c rule : ℕ) : Type 0 where
 
 -- A name of the class c and `::`, with a token of the class b behind them, begin an enum construction.
 pub data Leads (c b : ℕ) : Type 0 where
-  named-leads : choose table n-single c ≡ choice.Named → Leads c b
+  named_leads : choose table n-single c ≡ choice.Named → Leads c b
   bare_leads : choose table n-single c ≡ choice.Bare → Leads c b
-  generic-leads : {rule : ℕ} → Generic c rule → (b ≢ t.LAngle) → Leads c b
+  generic_leads : {rule : ℕ} → Generic c rule → (b ≢ t.LAngle) → Leads c b
 
 -- Pieces that say nothing of an arm's head: no `::`, no name, no pattern.
 pub record Quiet (w : List Sort) : Type 0 where
   pub paths : sees t.DoubleColon w ≡ false
-  pub names : nameCount w ≡ 0
+  pub names : name_count w ≡ 0
   pub patterns : counted family.patterns w ≡ 0
 
 -- `p: T`, and pairs with commas between them: as many patterns as said.
 pub record Pairs (n : ℕ) (J L : Items) (m a b : ℕ) : Type 0 where
   pub roles : (K i : ℕ) → arranged K i J ≡ L
   pub paths : sees t.DoubleColon (sorts J) ≡ false
-  pub names : nameCount (sorts J) ≡ 0
+  pub names : name_count (sorts J) ≡ 0
   pub patterns : counted family.patterns (sorts J) ≡ n
 
 -- so many as the first number says, and one more than that before
@@ -99,26 +99,26 @@ pub record MorePairs (J L : Items) (m a b : ℕ) : Type 0 where
 -- An enum path in an arm's head, from its first `::` on: a names, b pairs.
 pub record HeadPath (J L : Items) (m a b : ℕ) : Type 0 where
   pub roles : (n : ℕ) → arranged kind.EnumArm n J ≡ L
-  pub count-is : nameCount (sorts J) ≡ a
+  pub count_is : name_count (sorts J) ≡ a
   pub bounded : a ≤ countable
   pub path : sees t.DoubleColon (sorts J) ≡ true
   pub patterns : counted family.patterns (sorts J) ≡ b
 
 -- Kind, low and high of an arm: a built-in one where there are no names (low b), otherwise an enum arm with a names and b pairs.
-unfoldable pub armKind : ℕ → ℕ
-armKind a = cond (a == 0) kind.BuiltinArm kind.EnumArm
+unfoldable pub arm_kind : ℕ → ℕ
+arm_kind a = cond (a == 0) kind.BuiltinArm kind.EnumArm
 
-unfoldable pub armLow : ℕ → ℕ → ℕ
-armLow a b = cond (a == 0) b a
+unfoldable pub arm_low : ℕ → ℕ → ℕ
+arm_low a b = cond (a == 0) b a
 
-unfoldable pub armHigh : ℕ → ℕ → ℕ
-armHigh a b = cond (a == 0) 0 b
+unfoldable pub arm_high : ℕ → ℕ → ℕ
+arm_high a b = cond (a == 0) 0 b
 
 -- The head of an arm decides its record, whatever quiet pieces follow.
 pub record ArmHead (J L : Items) (m a b : ℕ) : Type 0 where
-  pub roles : (n : ℕ) → arranged (armKind a) n J ≡ L
-  pub decides : (v : List Sort) → Quiet v → armHead (sorts J ++ v) ≡ head (armKind a) (armLow a b) (armHigh a b)
-  pub low-is : a ≡ 0 → (arm.Left ≤ b) × (b ≤ arm.True)
+  pub roles : (n : ℕ) → arranged (arm_kind a) n J ≡ L
+  pub decides : (v : List Sort) → Quiet v → arm_head (sorts J ++ v) ≡ head (arm_kind a) (arm_low a b) (arm_high a b)
+  pub low_is : a ≡ 0 → (arm.Left ≤ b) × (b ≤ arm.True)
 
 -- What an arm has behind its fat arrow.
 pub record Body (J L : Items) (m a b : ℕ) : Type 0 where
@@ -133,30 +133,30 @@ ArmKind k l = ((k ≡ kind.BuiltinArm) × (arm.Left ≤ l) × (l ≤ arm.True)) 
 pub record Arm (J L : Items) (m a b : ℕ) : Type 0 where
   pub high : ℕ
   pub js : Items
-  pub raw-is : J ≡ own.sub a b high js own.none
-  pub laid-is : L ≡ own.sub a b high js own.none
+  pub raw_is : J ≡ own.sub a b high js own.none
+  pub laid_is : L ≡ own.sub a b high js own.none
   pub none_left : m ≡ 0
-  pub its-kind : ArmKind a b
+  pub its_kind : ArmKind a b
 
 -- The order of arms with one arm more, as a number (Orders.antt): 0 is none, a built-in arm alone has its low.
-unfoldable pub pairArm : ℕ → ℕ → ℕ
-pairArm a b = cond (partner a b) order.Paired (cond (partner b a) order.Turned order.Unpaired)
+unfoldable pub pair_arm : ℕ → ℕ → ℕ
+pair_arm a b = cond (partner a b) order.Paired (cond (partner b a) order.Turned order.Unpaired)
 
-unfoldable pub afterArm : ℕ → ℕ → ℕ → ℕ
-afterArm o k l =
-    cond (k == kind.EnumArm) (cond (o == 0 || o == order.Enums) order.Enums order.Mixed) (cond (o == 0) l (cond (o == order.Enums || o == order.Mixed) order.Mixed (cond (nat_lt order.Enums o) order.More (pairArm o l))))
+unfoldable pub after_arm : ℕ → ℕ → ℕ → ℕ
+after_arm o k l =
+    cond (k == kind.EnumArm) (cond (o == 0 || o == order.Enums) order.Enums order.Mixed) (cond (o == 0) l (cond (o == order.Enums || o == order.Mixed) order.Mixed (cond (nat_lt order.Enums o) order.More (pair_arm o l))))
 
-unfoldable pub orderFrom : ℕ → List Sort → ℕ
-orderFrom o [] = o
-orderFrom o (word c ∷ w) = orderFrom o w
-orderFrom o (child k l h c ∷ w) = orderFrom (afterArm o k l) w
+unfoldable pub order_from : ℕ → List Sort → ℕ
+order_from o [] = o
+order_from o (word c ∷ w) = order_from o w
+order_from o (child k l h c ∷ w) = order_from (after_arm o k l) w
 
 -- The kind of a match with arms in this order, and its refusal or 0.
-unfoldable pub orderKind : ℕ → ℕ
-orderKind o = cond (o == order.Enums || o == order.Mixed) kind.EnumMatch kind.Match
+unfoldable pub order_kind : ℕ → ℕ
+order_kind o = cond (o == order.Enums || o == order.Mixed) kind.EnumMatch kind.Match
 
-unfoldable pub orderFault : ℕ → ℕ
-orderFault o = cond (o == 0) refusal.NoArms (cond (o == order.Enums || (o == order.Paired || o == order.Turned)) 0 (cond (o == order.Unpaired) refusal.NoPartners (cond (o == order.Mixed) refusal.MixedArms refusal.ArmCount)))
+unfoldable pub order_fault : ℕ → ℕ
+order_fault o = cond (o == 0) refusal.NoArms (cond (o == order.Enums || (o == order.Paired || o == order.Turned)) 0 (cond (o == order.Unpaired) refusal.NoPartners (cond (o == order.Mixed) refusal.MixedArms refusal.ArmCount)))
 
 -- Nothing but arms.
 abbrev pub Armed : List Sort → Type 0
@@ -165,17 +165,17 @@ Armed (word c ∷ w) = ⊥
 Armed (child k l h c ∷ w) = ArmKind k l × Armed w
 
 -- The first of records side by side.
-abbrev pub firstNode : Items → Items
-firstNode own.none = own.none
-firstNode (own.mark t r) = own.none
-firstNode (own.sub k l h js r) = own.sub k l h js own.none
+abbrev pub first_node : Items → Items
+first_node own.none = own.none
+first_node (own.mark t r) = own.none
+first_node (own.sub k l h js r) = own.sub k l h js own.none
 
 -- Arms side by side from the state st on: a is their order, b the first record after the first of them.
 pub record Arms (st : State) (J L : Items) (m a b : ℕ) : Type 0 where
   pub same : L ≡ J
   pub armed : Armed (sorts J)
-  pub order_is : a ≡ orderFrom 0 (sorts J)
-  pub mid-is : b ≡ st.out + sizes (firstNode J)
+  pub order_is : a ≡ order_from 0 (sorts J)
+  pub mid_is : b ≡ st.out + sizes (first_node J)
 
 -- Arms that are partners the other way round are exchanged, others stay.
 pub data Arranged (o : ℕ) (l : List ℕ) (from mid to : ℕ) (l' : List ℕ) : Type 0 where
@@ -196,7 +196,7 @@ ItemKind k = (k ≡ kind.Function) ⊎ (k ≡ kind.TypeItem)
 
 -- The nonterminal of the item that begins with a token of this class: a type item's, or a function's.
 unfoldable pub item_at : ℕ → ℕ
-item_at c = cond ((c == t.«Type»)) n-typeItem n-function
+item_at c = cond ((c == t.«Type»)) n-type_item n-function
 
 -- Items side by side: no token of theirs becomes a record here.
 pub record FileItems (J L : Items) (m a b : ℕ) : Type 0 where
@@ -204,19 +204,19 @@ pub record FileItems (J L : Items) (m a b : ℕ) : Type 0 where
 
 -- Where the words behind the first record begin, in a buffer of so many.
 unfoldable pub behind : ℕ → ℕ
-behind n = cond (nat_lt n recWide) n recWide
+behind n = cond (nat_lt n rec_wide) n rec_wide
 
 -- What is read of a whole file of so many bytes: its items, behind the first record, and then that record; or the parser is stuck.
 pub data FileRead (x : Text) (len : ℕ) (st : State) (l l' : List ℕ) : Step → Type 0 where
-  file-read : {z : State} {l₁ : List ℕ} {a b : ℕ} → Parsed x (nt n-file ∷ []) asItems FileItems st (drop (behind (length l)) l) l₁ (Next z a b)
+  file_read : {z : State} {l₁ : List ℕ} {a b : ℕ} → Parsed x (nt n-file ∷ []) as_items FileItems st (drop (behind (length l)) l) l₁ (Next z a b)
       → Put (take (behind (length l)) l ++ l₁) 0 kind.Program 0 len 0 0 (reserved z).out l' → FileRead x len st l l' (Next (reserved z) 0 0)
-  file-stuck : {l₁ : List ℕ} {p : ℕ} → Parsed x (nt n-file ∷ []) asItems FileItems st (drop (behind (length l)) l) l₁ (Refused p) → FileRead x len st l l' (Refused p)
+  file_stuck : {l₁ : List ℕ} {p : ℕ} → Parsed x (nt n-file ∷ []) as_items FileItems st (drop (behind (length l)) l) l₁ (Refused p) → FileRead x len st l l' (Refused p)
 
 -- Parameters with commas between them: a is how many.
 pub record Parameters (J L : Items) (m a b : ℕ) : Type 0 where
   pub same : L ≡ J
   pub commas : Only t.Comma (sorts J)
-  pub count-is : counted (kind.Parameter ∷ []) (sorts J) ≡ a
+  pub count_is : counted (kind.Parameter ∷ []) (sorts J) ≡ a
 
 -- "low 1 for pub, plus 2 for a result type".
 abbrev pub public : ℕ
@@ -230,4 +230,4 @@ pub record Optional (c n : ℕ) (J L : Items) (m a b : ℕ) : Type 0 where
   pub roles : (K i : ℕ) → arranged K i J ≡ L
   pub there : a ≡ cond (sees c (sorts J)) n 0
   pub others : (d : ℕ) → (d ≢ c) → sees d (sorts J) ≡ false
-  pub no-parameters : counted (kind.Parameter ∷ []) (sorts J) ≡ 0
+  pub no_parameters : counted (kind.Parameter ∷ []) (sorts J) ≡ 0

@@ -2,7 +2,7 @@
 ghost use Rattle.std.specs.Prelude.{◌≡◌, ◌≤◌, ◌||◌, if◌then◌else◌, ◌==◌, nat_eq};
 ghost use Rattle.own.specs.Arms as arm;
 ghost use Rattle.parse.specs.Orders as orders;
-ghost use Rattle.parse.specs.Infos.{armKind, armLow, armHigh, ArmKind, pairArm, afterArm, orderKind, orderFault, Arranged};
+ghost use Rattle.parse.specs.Infos.{arm_kind, arm_low, arm_high, ArmKind, pair_arm, after_arm, order_kind, order_fault, Arranged};
 
 use crate::tree;
 use own::arm;
@@ -51,7 +51,7 @@ pub(crate) struct Arm {
 
 // The record of an arm: a built-in one where there is no name, otherwise an enum arm.
 pub(crate) fn head(number: u32, other: u32) -> Arm
-    ensures { (result.kind ≡ armKind number) × (result.low ≡ armLow number other) × (result.high ≡ armHigh number other) }
+    ensures { (result.kind ≡ arm_kind number) × (result.low ≡ arm_low number other) × (result.high ≡ arm_high number other) }
 {
     if number == 0 {
         return Arm {
@@ -70,7 +70,7 @@ pub(crate) fn head(number: u32, other: u32) -> Arm
 // The order of two built-in arms.
 fn pair(a: u32, b: u32) -> u32
     requires { (a ≤ arm.True) × (b ≤ arm.True) }
-    ensures { result ≡ pairArm a b }
+    ensures { result ≡ pair_arm a b }
 {
     match APART * a + b {
         LEFT_RIGHT => PAIRED,
@@ -86,7 +86,7 @@ fn pair(a: u32, b: u32) -> u32
 // The order of arms with one arm more.
 pub(crate) fn after(order: u32, kind: u32, low: u32) -> u32
     requires { ArmKind kind low }
-    ensures { result ≡ afterArm order kind low }
+    ensures { result ≡ after_arm order kind low }
 {
     if kind == ENUM_ARM {
         return with_enum(order);
@@ -125,7 +125,7 @@ pub(crate) fn first_end(order: u32, mid: u32, out: u32) -> u32
 
 // The kind of a match: another one with an enum arm among its arms.
 pub(crate) fn kind(order: u32) -> u32
-    ensures { result ≡ orderKind order }
+    ensures { result ≡ order_kind order }
 {
     match order {
         ENUMS => ENUM_MATCH,
@@ -136,7 +136,7 @@ pub(crate) fn kind(order: u32) -> u32
 
 // The refusal of a match with these arms, or 0.
 pub(crate) fn fault(order: u32) -> u32
-    ensures { result ≡ orderFault order }
+    ensures { result ≡ order_fault order }
 {
     match order {
         NO_ARM => refusal::NO_ARMS,

@@ -2,9 +2,9 @@
 // class.
 ghost use Rattle.std.specs.Prelude.{◌≡◌};
 ghost use Rattle.theory.specs.Machine.{choose};
-ghost use Rattle.grammar.specs.shapes.Tables.{table};
-ghost use Rattle.grammar.specs.shapes.TablesIndex.{n-type, n-pattern, n-single, n-aliasName};
-ghost use Rattle.parse.specs.Contract.{nameSort, headSort};
+ghost use Rattle.grammar.specs.Shapes.Tables.{table};
+ghost use Rattle.grammar.specs.Shapes.TablesIndex.{n-type, n-pattern, n-single, n-alias_name};
+ghost use Rattle.parse.specs.Contract.{name_sort, head_sort};
 
 // Written by tools/choice.py, to the second mark.
 // The classes are the numbers below this one.
@@ -155,7 +155,7 @@ pub(crate) fn singles(class: u32) -> u32
 }
 
 pub(crate) fn names(class: u32) -> u32
-    ensures { result ≡ nameSort class }
+    ensures { result ≡ name_sort class }
 {
     if class < TYPE_NAMES {
         let i = class as usize;
@@ -168,7 +168,7 @@ pub(crate) fn names(class: u32) -> u32
 }
 
 pub(crate) fn aliases(class: u32) -> u32
-    ensures { result ≡ choose table n-aliasName class }
+    ensures { result ≡ choose table n-alias_name class }
 {
     if class < TYPE_NAMES {
         let i = class as usize;
@@ -178,7 +178,7 @@ pub(crate) fn aliases(class: u32) -> u32
 }
 
 pub(crate) fn heads(class: u32) -> u32
-    ensures { result ≡ headSort class }
+    ensures { result ≡ head_sort class }
 {
     if class < TYPE_NAMES {
         let i = class as usize;

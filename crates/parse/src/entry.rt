@@ -1,12 +1,12 @@
 // From the first token to the answer: the parser's refusals in their order.
 ghost use Rattle.std.specs.Prelude.{◌≡◌, ◌*◌, ◌≤◌, false, length};
 ghost use Rattle.text.specs.Front.{Held};
-ghost use Rattle.text.specs.Widths.{tokWide};
-ghost use Rattle.lexer.specs.Buffer.{tokensIn};
-ghost use Rattle.own.specs.Words.{recWords};
-ghost use Rattle.grammar.specs.answers.Answer.{start_of, recordsIn};
+ghost use Rattle.text.specs.Widths.{tok_wide};
+ghost use Rattle.lexer.specs.Buffer.{tokens_in};
+ghost use Rattle.own.specs.Words.{rec_words};
+ghost use Rattle.grammar.specs.Answers.Answer.{start_of, records_in};
 ghost use Rattle.parse.specs.Contract.{text, countable, Ready};
-ghost use Rattle.parse.specs.Entry.{entry_of, tooMany, tooLong, WholeRead, Starts, ended, judged, meant, answered, reading_of, answer_of, tree_of};
+ghost use Rattle.parse.specs.Entry.{entry_of, too_many, too_long, WholeRead, Starts, ended, judged, meant, answered, reading_of, answer_of, tree_of};
 
 use crate::{Answer, State, Step, file, program, token};
 use text::{RECORD_WORDS, TOKEN_WORDS, refusal};
@@ -16,7 +16,7 @@ const U32_COUNT: usize = 4294967296;
 
 // Whether there are more tokens than there may be, or than so many words hold.
 fn too_many(most: usize, count: usize, words: usize) -> bool
-    ensures { result ≡ tooMany most count words }
+    ensures { result ≡ too_many most count words }
 {
     if most < count {
         return true;
@@ -43,8 +43,8 @@ fn start(draft: &[u8], tokens: &[u32], count: usize) -> State
 
 // Where the token of this number starts, or the length at the end.
 fn place(draft: &[u8], tokens: &[u32], count: usize, at: usize) -> usize
-    requires { tokWide * count ≤ length tokens.now }
-    ensures { result ≡ start_of draft.now (tokensIn count tokens.now) at }
+    requires { tok_wide * count ≤ length tokens.now }
+    ensures { result ≡ start_of draft.now (tokens_in count tokens.now) at }
 {
     if at < count {
         let t = token::token(draft, tokens, count, at);
@@ -55,7 +55,7 @@ fn place(draft: &[u8], tokens: &[u32], count: usize, at: usize) -> usize
 
 // The answer of the last state, with so many words for the records.
 fn end(draft: &[u8], tokens: &[u32], count: usize, room: usize, z: State) -> Answer
-    requires { tokWide * count ≤ length tokens.now }
+    requires { tok_wide * count ≤ length tokens.now }
     ensures { result ≡ ended draft.now tokens.now count room z }
 {
     if z.at < count {
@@ -82,7 +82,7 @@ fn end(draft: &[u8], tokens: &[u32], count: usize, room: usize, z: State) -> Ans
 
 // The answer of a step, likewise.
 fn judge(draft: &[u8], tokens: &[u32], count: usize, room: usize, step: Step) -> Answer
-    requires { tokWide * count ≤ length tokens.now }
+    requires { tok_wide * count ≤ length tokens.now }
     ensures { result ≡ judged draft.now tokens.now count room step }
 {
     match step {
@@ -96,7 +96,7 @@ fn judge(draft: &[u8], tokens: &[u32], count: usize, room: usize, step: Step) ->
 
 // Whether a file is longer than its first record can say.
 fn too_long(file: bool, bytes: usize) -> bool
-    ensures { result ≡ tooLong (entry_of file) bytes }
+    ensures { result ≡ too_long (entry_of file) bytes }
 {
     if file {
         return bytes >= U32_COUNT;
@@ -114,7 +114,7 @@ fn whole(
     file: bool,
 ) -> Step
     requires ready { Ready (text draft.now tokens.now count) st }
-    requires draft_value { tooLong (entry_of file) (length draft.now) ≡ false }
+    requires draft_value { too_long (entry_of file) (length draft.now) ≡ false }
     ensures { WholeRead (text draft.now tokens.now count) (length draft.now) st tree.old tree.new result (entry_of file) }
 {
     if file {
@@ -134,7 +134,7 @@ pub(crate) fn parse_front_within(
 ) -> Answer
     requires { most ≤ countable }
     ensures value { result ≡ answered (answer_of (entry_of file) most draft.now tokens.now count (length tree.old)) }
-    ensures held { Held (meant count result) (recWords (recordsIn (reading_of (entry_of file) draft.now (tokensIn count tokens.now)))) tree.old tree.new }
+    ensures held { Held (meant count result) (rec_words (records_in (reading_of (entry_of file) draft.now (tokens_in count tokens.now)))) tree.old tree.new }
 {
     if too_many(most, count, tokens.len()) {
         return Answer::Refused {

@@ -4,8 +4,8 @@
 ghost use Rattle.std.specs.Prelude.{◌≡◌, ◌<◌, if◌then◌else◌, nat_eq};
 ghost use Rattle.lexer.specs.Classes as t;
 ghost use Rattle.theory.specs.Machine.{choose};
-ghost use Rattle.grammar.specs.shapes.Tables.{table};
-ghost use Rattle.grammar.specs.shapes.TablesIndex.{n-expression, n-block, n-elements, n-assignment, n-single, n-list-expression, n-many-arm, n-arm, n-arm-choice};
+ghost use Rattle.grammar.specs.Shapes.Tables.{table};
+ghost use Rattle.grammar.specs.Shapes.TablesIndex.{n-expression, n-block, n-elements, n-assignment, n-single, n-list-expression, n-many-arm, n-arm, n-arm-choice};
 ghost use Rattle.parse.specs.Choice as choice;
 ghost use Rattle.parse.specs.Contract.{text, Ready, Parses, Node, ExprKind};
 ghost use Rattle.parse.specs.Infos.{LetKind, Elements, Lone, Arms, Arm, Body};

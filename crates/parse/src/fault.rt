@@ -1,6 +1,6 @@
 // The refusals of shapes: the earliest is kept.
 ghost use Rattle.std.specs.Prelude.{◌≡◌};
-ghost use Rattle.parse.specs.Contract.{cleaned, fault, sooner, Judged, boundFault, sizeFault, lengthFault};
+ghost use Rattle.parse.specs.Contract.{cleaned, fault, sooner, Judged, bound_fault, size_fault, length_fault};
 
 use crate::State;
 use text::refusal;
@@ -56,21 +56,21 @@ pub(crate) fn judged(outer: State, inner: State, number: u32, place: u32) -> Sta
 
 // The refusal of a bound, or 0.
 pub(crate) fn bound(v: num::Value) -> u32
-    ensures { result ≡ boundFault v }
+    ensures { result ≡ bound_fault v }
 {
     if num::is_bound(v) { 0 } else { refusal::BOUND }
 }
 
 // The refusal of a size, or 0.
 pub(crate) fn size(v: num::Value) -> u32
-    ensures { result ≡ sizeFault v }
+    ensures { result ≡ size_fault v }
 {
     if num::is_size(v) { 0 } else { refusal::SIZE }
 }
 
 // The refusal of an array's length, or 0.
 pub(crate) fn array_length(v: num::Value) -> u32
-    ensures { result ≡ lengthFault v }
+    ensures { result ≡ length_fault v }
 {
     if num::is_length(v) {
         0

@@ -1,8 +1,8 @@
 // The items of a file, functions and type items: src/parse/grammar/program.rs. Above them stands the record of the whole file.
 ghost use Rattle.std.specs.Prelude.{◌≡◌, ◌<◌, length};
 ghost use Rattle.lexer.specs.Classes as t;
-ghost use Rattle.grammar.specs.shapes.TablesIndex.{n-typeItem, n-file};
-ghost use Rattle.parse.specs.Contract.{text, Ready, Parses, Node, u32Count};
+ghost use Rattle.grammar.specs.Shapes.TablesIndex.{n-type_item, n-file};
+ghost use Rattle.parse.specs.Contract.{text, Ready, Parses, Node, u32_count};
 ghost use Rattle.parse.specs.Infos.{TypeItemKind, ItemKind, item_at, FileItems, behind, FileRead};
 
 use crate::{State, Step, names, program, token, tree, types};
@@ -17,7 +17,7 @@ const END: u32 = 0;
 fn type_item(draft: &[u8], tokens: &[u32], count: usize, tree: &mut [u32], st: State) -> Step
     requires ready { Ready (text draft.now tokens.now count) st }
     requires class_value { st.class ≡ t.«Type» }
-    ensures { Parses n-typeItem (Node TypeItemKind) draft.now tokens.now count st tree.old tree.new result }
+    ensures { Parses n-type_item (Node TypeItemKind) draft.now tokens.now count st tree.old tree.new result }
 {
     let a = token::advance(draft, tokens, count, tree::reserve(st));
     let name = names::alias_name(draft, tokens, count, tree, a);
@@ -80,7 +80,7 @@ fn first_words(size: usize) -> usize
 // A whole file: its items behind the first record, and then that record, over all of the draft.
 pub(crate) fn file(draft: &[u8], tokens: &[u32], count: usize, tree: &mut [u32], st: State) -> Step
     requires ready { Ready (text draft.now tokens.now count) st }
-    requires draft_len_bound { length draft.now < u32Count }
+    requires draft_len_bound { length draft.now < u32_count }
     ensures { FileRead (text draft.now tokens.now count) (length draft.now) st tree.old tree.new result }
 {
     let from = first_words(tree.len());

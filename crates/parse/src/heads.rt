@@ -2,10 +2,10 @@
 // the six built-in heads it is; or, of an enum path, how many names and how many pairs it has.
 ghost use Rattle.std.specs.Prelude.{◌≡◌, if◌then◌else◌, ◌≢◌, nat_eq};
 ghost use Rattle.lexer.specs.Classes as t;
-ghost use Rattle.grammar.specs.shapes.TablesIndex.{n-head, n-headPath, n-pair, n-headPath-optional-LParen, n-tail-pair};
+ghost use Rattle.grammar.specs.Shapes.TablesIndex.{n-head, n-head_path, n-pair, n-head_path-optional-LParen, n-tail-pair};
 ghost use Rattle.own.specs.Arms as arm;
 ghost use Rattle.parse.specs.Choice as choice;
-ghost use Rattle.parse.specs.Contract.{text, Ready, Moved, Parses, headSort};
+ghost use Rattle.parse.specs.Contract.{text, Ready, Moved, Parses, head_sort};
 ghost use Rattle.parse.specs.Infos.{ArmHead, HeadPath, Pairs, ManyPairs, MorePairs};
 
 use crate::{State, Step, choice, names, pattern, token, tree, types};
@@ -36,7 +36,7 @@ pub(crate) fn head(draft: &[u8], tokens: &[u32], count: usize, tree: &mut [u32],
 // `None`, or an enum path that begins with it.
 fn none(draft: &[u8], tokens: &[u32], count: usize, tree: &mut [u32], st: State) -> Step
     requires ready { Ready (text draft.now tokens.now count) st }
-    requires class_value { headSort st.class ≡ choice.NoneHead }
+    requires class_value { head_sort st.class ≡ choice.NoneHead }
     ensures { Parses n-head ArmHead draft.now tokens.now count st tree.old tree.new result }
 {
     let a = token::advance(draft, tokens, count, st);
@@ -65,7 +65,7 @@ fn wrapper(class: u32) -> u32
 // `Left(p: T)` and kin, or an enum path that begins with such a word.
 fn wrapped(draft: &[u8], tokens: &[u32], count: usize, tree: &mut [u32], st: State) -> Step
     requires ready { Ready (text draft.now tokens.now count) st }
-    requires class_value { headSort st.class ≡ choice.WrappedHead }
+    requires class_value { head_sort st.class ≡ choice.WrappedHead }
     ensures { Parses n-head ArmHead draft.now tokens.now count st tree.old tree.new result }
 {
     let a = token::advance(draft, tokens, count, st);
@@ -87,7 +87,7 @@ fn wrapped(draft: &[u8], tokens: &[u32], count: usize, tree: &mut [u32], st: Sta
 // An enum path that begins with Left, Right or Some.
 fn paths(draft: &[u8], tokens: &[u32], count: usize, tree: &mut [u32], st: State, a: State) -> Step
     requires ready { Ready (text draft.now tokens.now count) st }
-    requires class_value { headSort st.class ≡ choice.WrappedHead }
+    requires class_value { head_sort st.class ≡ choice.WrappedHead }
     requires moved { Moved (text draft.now tokens.now count) st a }
     requires class_nonzero { a.class ≢ t.LParen }
     ensures { Parses n-head ArmHead draft.now tokens.now count st tree.old tree.new result }
@@ -103,7 +103,7 @@ fn paths(draft: &[u8], tokens: &[u32], count: usize, tree: &mut [u32], st: State
 // An enum path that begins with any other name.
 fn other(draft: &[u8], tokens: &[u32], count: usize, tree: &mut [u32], st: State) -> Step
     requires ready { Ready (text draft.now tokens.now count) st }
-    requires class_value { headSort st.class ≡ choice.NamedHead }
+    requires class_value { head_sort st.class ≡ choice.NamedHead }
     ensures { Parses n-head ArmHead draft.now tokens.now count st tree.old tree.new result }
 {
     let a = token::advance(draft, tokens, count, st);
@@ -118,7 +118,7 @@ fn other(draft: &[u8], tokens: &[u32], count: usize, tree: &mut [u32], st: State
 // An enum path from its first `::` on; how many names and how many pairs.
 fn path(draft: &[u8], tokens: &[u32], count: usize, tree: &mut [u32], st: State) -> Step
     requires { Ready (text draft.now tokens.now count) st }
-    ensures { Parses n-headPath HeadPath draft.now tokens.now count st tree.old tree.new result }
+    ensures { Parses n-head_path HeadPath draft.now tokens.now count st tree.old tree.new result }
 {
     let colons = token::eat(draft, tokens, count, st, class::DOUBLE_COLON);
     let Step::Next(a, _, _) = colons else {
@@ -158,7 +158,7 @@ fn pair(draft: &[u8], tokens: &[u32], count: usize, tree: &mut [u32], st: State)
 // Nothing, or `(p: T, …)` with one pair at least; and how many.
 fn pairs(draft: &[u8], tokens: &[u32], count: usize, tree: &mut [u32], st: State) -> Step
     requires { Ready (text draft.now tokens.now count) st }
-    ensures { Parses n-headPath-optional-LParen ManyPairs draft.now tokens.now count st tree.old tree.new result }
+    ensures { Parses n-head_path-optional-LParen ManyPairs draft.now tokens.now count st tree.old tree.new result }
 {
     if st.class != class::LPAREN {
         return Step::Next(st, 0, 0);

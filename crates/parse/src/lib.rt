@@ -3,11 +3,11 @@
 
 ghost use Rattle.std.specs.Prelude.{◌≡◌, length};
 ghost use Rattle.text.specs.Front.{Held};
-ghost use Rattle.lexer.specs.Limits.{draftLimits};
-ghost use Rattle.lexer.specs.Buffer.{tokensIn};
-ghost use Rattle.own.specs.Words.{recWords};
-ghost use Rattle.grammar.specs.Entry.{oneFunction, wholeFile};
-ghost use Rattle.grammar.specs.answers.Answer.{recordsIn};
+ghost use Rattle.lexer.specs.Limits.{draft_limits};
+ghost use Rattle.lexer.specs.Buffer.{tokens_in};
+ghost use Rattle.own.specs.Words.{rec_words};
+ghost use Rattle.grammar.specs.Entry.{single_function, whole_file};
+ghost use Rattle.grammar.specs.Answers.Answer.{records_in};
 ghost use Rattle.parse.specs.Entry.{entry_of, meant, reading_of, answer_of, tree_of};
 
 mod arms;
@@ -55,16 +55,16 @@ pub enum Answer {
 // Writes the records of one function, a draft with so many tokens, `RECORD_WORDS` words each, and zeros behind them; on a refusal every word is 0. The last
 // word of each record, its way up, is 0 too: crate `up` fills it.
 pub fn parse(draft: &[u8], tokens: &[u32], count: usize, tree: &mut [u32]) -> Answer
-    ensures answer { meant count result ≡ answer_of oneFunction draftLimits.tokens draft.now tokens.now count (length tree.old) }
-    ensures tree { tree.new ≡ tree_of oneFunction draftLimits.tokens draft.now tokens.now count (length tree.old) }
+    ensures answer { meant count result ≡ answer_of single_function draft_limits.tokens draft.now tokens.now count (length tree.old) }
+    ensures tree { tree.new ≡ tree_of single_function draft_limits.tokens draft.now tokens.now count (length tree.old) }
 {
     entry::parse_within(draft, tokens, count, tree, lexer::DRAFT_TOKENS, false)
 }
 
 // The same of a file: its first record is that of the whole file.
 pub fn parse_file(draft: &[u8], tokens: &[u32], count: usize, tree: &mut [u32]) -> Answer
-    ensures answer { meant count result ≡ answer_of wholeFile draftLimits.tokens draft.now tokens.now count (length tree.old) }
-    ensures tree { tree.new ≡ tree_of wholeFile draftLimits.tokens draft.now tokens.now count (length tree.old) }
+    ensures answer { meant count result ≡ answer_of whole_file draft_limits.tokens draft.now tokens.now count (length tree.old) }
+    ensures tree { tree.new ≡ tree_of whole_file draft_limits.tokens draft.now tokens.now count (length tree.old) }
 {
     entry::parse_within(draft, tokens, count, tree, lexer::DRAFT_TOKENS, true)
 }
@@ -77,8 +77,8 @@ pub fn parse_front(
     tree: &mut [u32],
     file: bool,
 ) -> Answer
-    ensures answer { meant count result ≡ answer_of (entry_of file) draftLimits.tokens draft.now tokens.now count (length tree.old) }
-    ensures held { Held (meant count result) (recWords (recordsIn (reading_of (entry_of file) draft.now (tokensIn count tokens.now)))) tree.old tree.new }
+    ensures answer { meant count result ≡ answer_of (entry_of file) draft_limits.tokens draft.now tokens.now count (length tree.old) }
+    ensures held { Held (meant count result) (rec_words (records_in (reading_of (entry_of file) draft.now (tokens_in count tokens.now)))) tree.old tree.new }
 {
     entry::parse_front_within(draft, tokens, count, tree, lexer::DRAFT_TOKENS, file)
 }

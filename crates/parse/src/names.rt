@@ -4,9 +4,9 @@ ghost use Rattle.text.specs.Part.{part_of};
 ghost use Rattle.num.specs.Value.{number_of};
 ghost use Rattle.theory.specs.Grammar.{tok, nt};
 ghost use Rattle.lexer.specs.Classes as t;
-ghost use Rattle.grammar.specs.shapes.TablesIndex.{n-identifier, n-functionName, n-aliasName, n-path-many-DoubleColon};
-ghost use Rattle.grammar.specs.records.Records.{head, plain, typeName, patternName, literalHead, callHead, wrapperHead, aloneHead, place_in};
-ghost use Rattle.parse.specs.Contract.{text, Ready, Near, Parsed, Parses, asItems, NameAt, Decimal, Names, Called, boundFault, sizeFault};
+ghost use Rattle.grammar.specs.Shapes.TablesIndex.{n-identifier, n-function_name, n-alias_name, n-path-many-DoubleColon};
+ghost use Rattle.grammar.specs.Records.Records.{head, plain, type_name_head, pattern_name_head, literal_head, call_head, wrapper_head, alone_head, place_in};
+ghost use Rattle.parse.specs.Contract.{text, Ready, Near, Parsed, Parses, as_items, NameAt, Decimal, Names, Called, bound_fault, size_fault};
 
 use crate::{State, Step, choice, fault, token, tree};
 use lexer::classes as class;
@@ -40,7 +40,7 @@ pub(crate) fn function_name(
     st: State,
 ) -> Step
     requires { Ready (text draft.now tokens.now count) st }
-    ensures { Parses n-functionName (NameAt draft.now tokens.now count st.at) draft.now tokens.now count st tree.old tree.new result }
+    ensures { Parses n-function_name (NameAt draft.now tokens.now count st.at) draft.now tokens.now count st tree.old tree.new result }
 {
     if choice::names(st.class) != choice::FUNCTION_NAME {
         return Step::Refused(st.at);
@@ -59,7 +59,7 @@ pub(crate) fn alias_name(
     st: State,
 ) -> Step
     requires { Ready (text draft.now tokens.now count) st }
-    ensures { Parses n-aliasName (NameAt draft.now tokens.now count st.at) draft.now tokens.now count st tree.old tree.new result }
+    ensures { Parses n-alias_name (NameAt draft.now tokens.now count st.at) draft.now tokens.now count st tree.old tree.new result }
 {
     if choice::aliases(st.class) == choice::ABSENT {
         return Step::Refused(st.at);
@@ -72,7 +72,7 @@ pub(crate) fn alias_name(
 // Names joined by `::`, each a record, and how many.
 pub(crate) fn names(draft: &[u8], tokens: &[u32], count: usize, tree: &mut [u32], st: State) -> Step
     requires { Ready (text draft.now tokens.now count) st }
-    ensures { Parsed (text draft.now tokens.now count) (nt n-identifier ∷ nt n-path-many-DoubleColon ∷ []) asItems Names st tree.old tree.new result }
+    ensures { Parsed (text draft.now tokens.now count) (nt n-identifier ∷ nt n-path-many-DoubleColon ∷ []) as_items Names st tree.old tree.new result }
 {
     let first = identifier(draft, tokens, count, tree, st);
     let Step::Next(a, _, _) = first else {
@@ -101,7 +101,7 @@ pub(crate) struct Head {
 
 // What a name is as a type: an alias, `bool`, an unsigned type or a built-in alias.
 pub(crate) fn type_name(class: u32) -> Head
-    ensures { head result.kind result.low 0 ≡ typeName class }
+    ensures { head result.kind result.low 0 ≡ type_name_head class }
 {
     if class < class::BOOL_TYPE {
         return Head {
@@ -135,7 +135,7 @@ pub(crate) fn type_name(class: u32) -> Head
 
 // What a name is as a pattern: an identifier, or `_`.
 pub(crate) fn pattern_name(draft: &[u8], st: State) -> u32
-    ensures { plain result ≡ patternName (part_of draft.now st.start st.stop) st.class }
+    ensures { plain result ≡ pattern_name_head (part_of draft.now st.start st.stop) st.class }
 {
     if st.class != class::IDENT {
         return kind::IDENTIFIER_PATTERN;
@@ -152,7 +152,7 @@ pub(crate) fn pattern_name(draft: &[u8], st: State) -> u32
 // The kind of a literal.
 #[inline(always)]
 pub(crate) fn literal(class: u32) -> u32
-    ensures { result ≡ (literalHead class).kind }
+    ensures { result ≡ (literal_head class).kind }
 {
     match class {
         class::FALSE => kind::BOOLEAN,
@@ -167,14 +167,14 @@ pub(crate) fn literal(class: u32) -> u32
 
 // 1 for `true`.
 pub(crate) fn truth(class: u32) -> u32
-    ensures { result ≡ (literalHead class).low }
+    ensures { result ≡ (literal_head class).low }
 {
     if class == class::TRUE { 1 } else { 0 }
 }
 
 // Which of the fourteen calls begins with a token of this class: a custom function where no other does.
 pub(crate) fn call(class: u32) -> u32
-    ensures { result ≡ (callHead class).low }
+    ensures { result ≡ (call_head class).low }
 {
     match class {
         class::JET => own::call::JET,
@@ -196,7 +196,7 @@ pub(crate) fn call(class: u32) -> u32
 
 // The kind of a name that stands alone: `None`, otherwise a variable.
 pub(crate) fn alone(class: u32) -> u32
-    ensures { plain result ≡ aloneHead class }
+    ensures { plain result ≡ alone_head class }
 {
     if class == class::NONE {
         kind::NONE
@@ -219,7 +219,7 @@ pub(crate) fn wrapper(class: u32) -> u32
 
 // The kind of a wrapper.
 pub(crate) fn wrapping(class: u32) -> u32
-    ensures { result ≡ (wrapperHead class).kind }
+    ensures { result ≡ (wrapper_head class).kind }
 {
     match class {
         class::LEFT => kind::LEFT,
@@ -258,7 +258,7 @@ pub(crate) fn decimal(
     st: State,
 ) -> Step
     requires { Ready (text draft.now tokens.now count) st }
-    ensures { Parsed (text draft.now tokens.now count) (tok t.DecLiteral ∷ []) asItems (Decimal (text draft.now tokens.now count) st.at) st tree.old tree.new result }
+    ensures { Parsed (text draft.now tokens.now count) (tok t.DecLiteral ∷ []) as_items (Decimal (text draft.now tokens.now count) st.at) st tree.old tree.new result }
 {
     if st.class != class::DEC_LITERAL {
         return Step::Refused(st.at);
@@ -270,7 +270,7 @@ pub(crate) fn decimal(
 
 // The refusal of the number of a fold or an `array_fold`, or 0.
 pub(crate) fn size_fault(class: u32, v: num::Value) -> u32
-    ensures { result ≡ (if nat_eq class t.array-fold then sizeFault v else boundFault v) }
+    ensures { result ≡ (if nat_eq class t.array_fold then size_fault v else bound_fault v) }
 {
     if class == class::ARRAY_FOLD {
         return fault::size(v);

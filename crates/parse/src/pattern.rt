@@ -1,8 +1,8 @@
 // Patterns: `Pattern::parser` of src/parse/grammar/statement.rs. A name is read where the pattern stands, the others apart, as in `expr`.
 ghost use Rattle.std.specs.Prelude.{◌≡◌};
 ghost use Rattle.theory.specs.Machine.{choose};
-ghost use Rattle.grammar.specs.shapes.Tables.{table};
-ghost use Rattle.grammar.specs.shapes.TablesIndex.{n-pattern, n-list-pattern};
+ghost use Rattle.grammar.specs.Shapes.Tables.{table};
+ghost use Rattle.grammar.specs.Shapes.TablesIndex.{n-pattern, n-list-pattern};
 ghost use Rattle.parse.specs.Choice as choice;
 ghost use Rattle.parse.specs.Contract.{text, Ready, Parses, Node, PatternKind, Commas};
 

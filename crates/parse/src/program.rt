@@ -1,7 +1,7 @@
 // The function and its parameters: src/parse/grammar/program.rs.
 ghost use Rattle.std.specs.Prelude.{ℕ, List};
 ghost use Rattle.lexer.specs.Classes as t;
-ghost use Rattle.grammar.specs.shapes.TablesIndex.{n-function, n-function-optional-Pub, n-function-optional-Arrow, n-block, n-parameter, n-list-parameter};
+ghost use Rattle.grammar.specs.Shapes.TablesIndex.{n-function, n-function-optional-Pub, n-function-optional-Arrow, n-block, n-parameter, n-list-parameter};
 ghost use Rattle.parse.specs.Contract.{text, Ready, Near, Parses, Node, ExprKind};
 ghost use Rattle.parse.specs.Infos.{ParameterKind, FunctionKind, Parameters, Optional, public, typed};
 

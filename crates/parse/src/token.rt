@@ -1,8 +1,8 @@
 // The tokens of a draft, one by one. All is inlined where it is called, so that a state stays in registers, but for the look-up of words.
 ghost use Rattle.std.specs.Prelude.{◌≡◌, ◌/◌, ◌||◌, ◌==◌, cond, nat_lt};
-ghost use Rattle.text.specs.Widths.{tokWide};
+ghost use Rattle.text.specs.Widths.{tok_wide};
 ghost use Rattle.lexer.specs.Classes as t;
-ghost use Rattle.parse.specs.Contract.{text, tokAt, Gives, next, Moved, Eaten};
+ghost use Rattle.parse.specs.Contract.{text, tok_at, Gives, next, Moved, Eaten};
 
 use crate::{State, Step};
 use lexer::classes as class;
@@ -18,7 +18,7 @@ pub(crate) struct Lexeme {
 // How many of so many tokens a buffer of so many words holds.
 #[inline(always)]
 fn held(count: usize, words: usize) -> usize
-    ensures { result ≡ cond (nat_lt count (words / tokWide)) count (words / tokWide) }
+    ensures { result ≡ cond (nat_lt count (words / tok_wide)) count (words / tok_wide) }
 {
     let most = words / TOKEN_WORDS;
     if count < most { count } else { most }
@@ -27,7 +27,7 @@ fn held(count: usize, words: usize) -> usize
 // The token of this number: its class, start and end; zeros past the last one.
 #[inline(always)]
 pub(crate) fn token(draft: &[u8], tokens: &[u32], count: usize, at: usize) -> Lexeme
-    ensures { Gives result (tokAt (text draft.now tokens.now count) at) }
+    ensures { Gives result (tok_at (text draft.now tokens.now count) at) }
 {
     if at < held(count, tokens.len()) {
         let kind = tokens[TOKEN_WORDS * at];

@@ -1,6 +1,6 @@
 // The tree buffer: so many words a record, written where they fit.
 ghost use Rattle.std.specs.Prelude.{◌≡◌, ◌-◌};
-ghost use Rattle.grammar.specs.records.Records.{low_half, high_half};
+ghost use Rattle.grammar.specs.Records.Records.{low_half, high_half};
 ghost use Rattle.own.specs.Kinds as kind;
 ghost use Rattle.parse.specs.Contract.{reserved, Put, PutNumber, Turned};
 

@@ -1,8 +1,8 @@
 // Types: src/parse/grammar/types.rs. A name is read where the type stands, the others apart, as in `expr`.
 ghost use Rattle.std.specs.Prelude.{◌≡◌};
 ghost use Rattle.theory.specs.Machine.{choose};
-ghost use Rattle.grammar.specs.shapes.Tables.{table};
-ghost use Rattle.grammar.specs.shapes.TablesIndex.{n-type, n-list-type};
+ghost use Rattle.grammar.specs.Shapes.Tables.{table};
+ghost use Rattle.grammar.specs.Shapes.TablesIndex.{n-type, n-list-type};
 ghost use Rattle.parse.specs.Choice as choice;
 ghost use Rattle.parse.specs.Contract.{text, Ready, Parses, Node, TypeKind, Commas};
 

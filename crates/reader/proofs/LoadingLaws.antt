@@ -10,19 +10,19 @@ use Rattle.load.specs.Meant.{meant}
 use Rattle.load.specs.Promised.{Loads}
 use Rattle.load.specs.declared.Loaded.{Loaded}
 use Rattle.load.specs.declared.Loaded.TheVariants.{Records, Refused}
-use Rattle.reader.specs.Loading.{recordsLoaded, refusalLoaded, Refusing, nothing-only}
+use Rattle.reader.specs.Loading.{records_loaded, refusal_loaded, Refusing, nothing-only}
 
 -- What is promised of the number that is returned, of the words and of the refusal.
 abbrev pub Handed : List ℕ → ℕ → List ℕ → ℕ → List ℕ → Type 0
 Handed listing room w n r =
-    (n ≡ recordsLoaded listing room)
-    × ((w ≡ words_of listing room) × ((r ≡ refusalLoaded listing room) × (((n ≡ 0) ↔ Refusing (load_of listing room)) × Loads listing room (load_of listing room) w)))
+    (n ≡ records_loaded listing room)
+    × ((w ≡ words_of listing room) × ((r ≡ refusal_loaded listing room) × (((n ≡ 0) ↔ Refusing (load_of listing room)) × Loads listing room (load_of listing room) w)))
 
 module _ (listing : List ℕ) (room : ℕ) (x : Loaded) {w : List ℕ} (answer : meant x ≡ load_of listing room) (words : w ≡ words_of listing room) (laws : Loads listing room (meant x) w) where
   handed : (a : Answer) → meant x ≡ a → {n : ℕ} {r : List ℕ} → n ≡ (values a).records → r ≡ (values a).number ∷ (values a).place ∷ [] → Handed listing room w n r
   handed a m {n} e f =
       let q : a ≡ load_of listing room = sym m ∙ answer in
-      let k : n ≡ recordsLoaded listing room = e ∙ ap (λ (b : Answer). (values b).records) q in
+      let k : n ≡ records_loaded listing room = e ∙ ap (λ (b : Answer). (values b).records) q in
       (k, (words, (f ∙ ap (λ (b : Answer). (values b).number ∷ (values b).place ∷ []) q, (nothing-only listing room k, subst (λ (b : Answer). Loads listing room b w) answer laws))))
 
   pub handed-records : {n : ℕ} → x ≡ Records n → Handed listing room w n (0 ∷ 0 ∷ [])

@@ -2,28 +2,28 @@
 -- bytes zero, only when the lines do not fit." A line has 41 bytes now, and "the C entry counts 41 a line" (document 02, order 7).
 -- Assumes nothing.
 use Rattle.std.specs.Prelude.{List, ℕ, ◌+◌, ◌*◌}
-use Rattle.lexer.specs.Limits.{draftLimits}
-use Rattle.text.specs.Widths.{tokWide, recWide}
+use Rattle.lexer.specs.Limits.{draft_limits}
+use Rattle.text.specs.Widths.{tok_wide, rec_wide}
 use Rattle.lines.specs.Written.{used, padded}
-use Rattle.grammar.specs.Entry.{wholeFile, over}
-use Rattle.grammar.specs.answers.Lines.{listing}
+use Rattle.grammar.specs.Entry.{whole_file, over}
+use Rattle.grammar.specs.Answers.Lines.{listing}
 
 -- A file has no more records than it may have tokens, and that of the whole file.
-abbrev pub recordsMost : ℕ
-recordsMost = over wholeFile + draftLimits.tokens
+abbrev pub records_most : ℕ
+records_most = over whole_file + draft_limits.tokens
 
 -- The listing of a draft, by a reader of files with a buffer of so many words for its tokens, and one for as many records as a draft may have,
-abbrev pub listingBy : List ℕ → ℕ → List ℕ
-listingBy draft tw = listing wholeFile draftLimits draft tw (recWide * recordsMost)
+abbrev pub listing_by : List ℕ → ℕ → List ℕ
+listing_by draft tw = listing whole_file draft_limits draft tw (rec_wide * records_most)
 
 -- and with one for as many tokens as a draft may have.
-abbrev pub listingOf : List ℕ → List ℕ
-listingOf draft = listingBy draft (tokWide * draftLimits.tokens)
+abbrev pub listing_of : List ℕ → List ℕ
+listing_of draft = listing_by draft (tok_wide * draft_limits.tokens)
 
 -- The bytes used of a buffer of so many,
-unfoldable pub usedOf : List ℕ → ℕ → ℕ
-usedOf draft size = used (listingOf draft) size
+unfoldable pub used_of : List ℕ → ℕ → ℕ
+used_of draft size = used (listing_of draft) size
 
 -- and every one of its bytes.
 unfoldable pub bytes_of : List ℕ → ℕ → List ℕ
-bytes_of draft size = padded (listingOf draft) size
+bytes_of draft size = padded (listing_of draft) size

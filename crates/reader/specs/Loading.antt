@@ -8,12 +8,12 @@ use Rattle.load.specs.Load.{load_of}
 use Rattle.load.specs.Laws.{Taken, accepted-taken, some-record}
 
 -- As many records as are loaded; 0 on a refusal.
-abbrev pub recordsLoaded : List ℕ → ℕ → ℕ
-recordsLoaded listing room = (values (load_of listing room)).records
+abbrev pub records_loaded : List ℕ → ℕ → ℕ
+records_loaded listing room = (values (load_of listing room)).records
 
 -- The number of the refusal, and its line.
-abbrev pub refusalLoaded : List ℕ → ℕ → List ℕ
-refusalLoaded listing room = (values (load_of listing room)).number ∷ (values (load_of listing room)).place ∷ []
+abbrev pub refusal_loaded : List ℕ → ℕ → List ℕ
+refusal_loaded listing room = (values (load_of listing room)).number ∷ (values (load_of listing room)).place ∷ []
 
 -- An answer that is a refusal.
 abbrev pub Refusing : Answer → Type 0
@@ -29,7 +29,7 @@ by_answer listing room (accepted n m) e = ((λ z. none (accepted-taken listing r
     none t z = let h = some-record t.its t.whole in let k = t.number in omega arith
 
 -- so that 0 is returned exactly on a refusal.
-pub nothing-only : (listing : List ℕ) (room : ℕ) {n : ℕ} → n ≡ recordsLoaded listing room → (n ≡ 0) ↔ Refusing (load_of listing room)
+pub nothing-only : (listing : List ℕ) (room : ℕ) {n : ℕ} → n ≡ records_loaded listing room → (n ≡ 0) ↔ Refusing (load_of listing room)
 nothing-only listing room {n} e =
     let h = by_answer listing room (load_of listing room) refl in
     ((λ z. h.0 (sym e ∙ z)), λ u. e ∙ h.1 u)

@@ -1,15 +1,15 @@
 // The listing of a draft into a buffer of bytes, as the entry for C does it (crate togmelic).
 ghost use Rattle.std.specs.Prelude.{◌≡◌, [], ◌↔◌, ◌+◌, ◌*◌, ◌/◌, ◌<◌, ◌≤◌, length};
 ghost use Rattle.text.specs.Answers.{accepted, refused};
-ghost use Rattle.text.specs.Widths.{tokWide, recWide};
+ghost use Rattle.text.specs.Widths.{tok_wide, rec_wide};
 ghost use Rattle.lexer.specs.Lexemes.{lexemes};
-ghost use Rattle.lexer.specs.Limits.{draftLimits, lexedOf, tokensOf};
-ghost use Rattle.lexer.specs.Buffer.{tokensIn};
+ghost use Rattle.lexer.specs.Limits.{draft_limits, lexed_of, tokens_of};
+ghost use Rattle.lexer.specs.Buffer.{tokens_in};
 ghost use Rattle.lines.specs.Lines.{lines};
 ghost use Rattle.lines.specs.Written.{used, padded};
-ghost use Rattle.grammar.specs.Entry.{wholeFile, over};
-ghost use Rattle.grammar.specs.answers.Lines as spec;
-ghost use Rattle.reader.specs.Listed.{recordsMost, listingBy, listingOf, usedOf, bytes_of};
+ghost use Rattle.grammar.specs.Entry.{whole_file, over};
+ghost use Rattle.grammar.specs.Answers.Lines as spec;
+ghost use Rattle.reader.specs.Listed.{records_most, listing_by, listing_of, used_of, bytes_of};
 
 use crate::Reading;
 use lexer::Lexed;
@@ -57,10 +57,10 @@ fn refusal(number: u32, place: usize, out: &mut [u8]) -> usize
 
 // Lists a draft by way of its tokens, which stand in a buffer, and of this buffer for its tree.
 fn list_by(draft: &[u8], out: &mut [u8], tokens: &[u32], count: usize, tree: &mut [u32]) -> usize
-    requires lexed { lexedOf draftLimits draft.now (length tokens.now) ≡ accepted count 0 }
-    requires held { tokensIn count tokens.now ≡ tokensOf (lexemes draft.now) }
-    ensures used { result ≡ used (spec.listing wholeFile draftLimits draft.now (length tokens.now) (length tree.old)) (length out.old) }
-    ensures bytes { out.new ≡ padded (spec.listing wholeFile draftLimits draft.now (length tokens.now) (length tree.old)) (length out.old) }
+    requires lexed { lexed_of draft_limits draft.now (length tokens.now) ≡ accepted count 0 }
+    requires held { tokens_in count tokens.now ≡ tokens_of (lexemes draft.now) }
+    ensures used { result ≡ used (spec.listing whole_file draft_limits draft.now (length tokens.now) (length tree.old)) (length out.old) }
+    ensures bytes { out.new ≡ padded (spec.listing whole_file draft_limits draft.now (length tokens.now) (length tree.old)) (length out.old) }
 {
     let reading = crate::parsed(draft, tokens, count, tree, true);
     match reading {
@@ -72,11 +72,11 @@ fn list_by(draft: &[u8], out: &mut [u8], tokens: &[u32], count: usize, tree: &mu
 // The same by way of an array of so many words, which has room for the records of as many tokens and the one over. Out of line, so that no frame has two.
 #[inline(never)]
 fn list_in<const WORDS: usize>(draft: &[u8], out: &mut [u8], tokens: &[u32], count: usize) -> usize
-    requires lexed { lexedOf draftLimits draft.now (length tokens.now) ≡ accepted count 0 }
-    requires held { tokensIn count tokens.now ≡ tokensOf (lexemes draft.now) }
-    requires room { (recWide * (over wholeFile + count) ≤ WORDS) × (WORDS ≤ recWide * recordsMost) }
-    ensures used { result ≡ used (listingBy draft.now (length tokens.now)) (length out.old) }
-    ensures bytes { out.new ≡ padded (listingBy draft.now (length tokens.now)) (length out.old) }
+    requires lexed { lexed_of draft_limits draft.now (length tokens.now) ≡ accepted count 0 }
+    requires held { tokens_in count tokens.now ≡ tokens_of (lexemes draft.now) }
+    requires room { (rec_wide * (over whole_file + count) ≤ WORDS) × (WORDS ≤ rec_wide * records_most) }
+    ensures used { result ≡ used (listing_by draft.now (length tokens.now)) (length out.old) }
+    ensures bytes { out.new ≡ padded (listing_by draft.now (length tokens.now)) (length out.old) }
 {
     let mut tree = [0u32; WORDS];
     list_by(draft, out, tokens, count, &mut tree)
@@ -84,10 +84,10 @@ fn list_in<const WORDS: usize>(draft: &[u8], out: &mut [u8], tokens: &[u32], cou
 
 // By way of the smallest array that has room for the records of so many tokens.
 fn list_counted(draft: &[u8], out: &mut [u8], tokens: &[u32], count: usize) -> usize
-    requires lexed { lexedOf draftLimits draft.now (length tokens.now) ≡ accepted count 0 }
-    requires held { tokensIn count tokens.now ≡ tokensOf (lexemes draft.now) }
-    ensures used { result ≡ used (listingBy draft.now (length tokens.now)) (length out.old) }
-    ensures bytes { out.new ≡ padded (listingBy draft.now (length tokens.now)) (length out.old) }
+    requires lexed { lexed_of draft_limits draft.now (length tokens.now) ≡ accepted count 0 }
+    requires held { tokens_in count tokens.now ≡ tokens_of (lexemes draft.now) }
+    ensures used { result ≡ used (listing_by draft.now (length tokens.now)) (length out.old) }
+    ensures bytes { out.new ≡ padded (listing_by draft.now (length tokens.now)) (length out.old) }
 {
     if count < STEP_1 / RECORD_WORDS {
         return list_in::<STEP_1>(draft, out, tokens, count);
@@ -115,8 +115,8 @@ fn list_counted(draft: &[u8], out: &mut [u8], tokens: &[u32], count: usize) -> u
 
 // Lists a draft by way of this buffer for its tokens.
 fn list_lexed(draft: &[u8], out: &mut [u8], tokens: &mut [u32]) -> usize
-    ensures used { result ≡ used (listingBy draft.now (length tokens.old)) (length out.old) }
-    ensures bytes { out.new ≡ padded (listingBy draft.now (length tokens.old)) (length out.old) }
+    ensures used { result ≡ used (listing_by draft.now (length tokens.old)) (length out.old) }
+    ensures bytes { out.new ≡ padded (listing_by draft.now (length tokens.old)) (length out.old) }
 {
     let lexed = lexer::lex_front(draft, tokens);
     match lexed {
@@ -128,8 +128,8 @@ fn list_lexed(draft: &[u8], out: &mut [u8], tokens: &mut [u32]) -> usize
 // Lists a draft by way of an array of so many words, which has room for as many tokens as it has bytes.
 #[inline(never)]
 fn list_short<const WORDS: usize>(draft: &[u8], out: &mut [u8]) -> usize
-    requires { (length draft.now ≤ WORDS / tokWide) × (WORDS ≤ tokWide * draftLimits.tokens) }
-    ensures used { result ≡ usedOf draft.now (length out.old) }
+    requires { (length draft.now ≤ WORDS / tok_wide) × (WORDS ≤ tok_wide * draft_limits.tokens) }
+    ensures used { result ≡ used_of draft.now (length out.old) }
     ensures bytes { out.new ≡ bytes_of draft.now (length out.old) }
 {
     let mut tokens = [0u32; WORDS];
@@ -139,7 +139,7 @@ fn list_short<const WORDS: usize>(draft: &[u8], out: &mut [u8]) -> usize
 // Lists any draft by way of an array that has room for as many tokens as a draft may have.
 #[inline(never)]
 fn list_long(draft: &[u8], out: &mut [u8]) -> usize
-    ensures used { result ≡ usedOf draft.now (length out.old) }
+    ensures used { result ≡ used_of draft.now (length out.old) }
     ensures bytes { out.new ≡ bytes_of draft.now (length out.old) }
 {
     let mut tokens = [0u32; MOST_TOKENS];
@@ -148,7 +148,7 @@ fn list_long(draft: &[u8], out: &mut [u8]) -> usize
 
 // By way of the smallest array that has room for as many tokens as the draft has bytes.
 fn list_sized(draft: &[u8], out: &mut [u8]) -> usize
-    ensures used { result ≡ usedOf draft.now (length out.old) }
+    ensures used { result ≡ used_of draft.now (length out.old) }
     ensures bytes { out.new ≡ bytes_of draft.now (length out.old) }
 {
     if draft.len() <= STEP_1 / TOKEN_WORDS {
@@ -174,9 +174,9 @@ fn list_sized(draft: &[u8], out: &mut [u8]) -> usize
 
 // Lists a draft: its lines, zeros behind them; 0 and zeros alone if the buffer is too short for them.
 pub fn list_draft(draft: &[u8], out: &mut [u8]) -> usize
-    ensures used { result ≡ usedOf draft.now (length out.old) }
+    ensures used { result ≡ used_of draft.now (length out.old) }
     ensures bytes { out.new ≡ bytes_of draft.now (length out.old) }
-    ensures nothing { (result ≡ 0) ↔ (length out.old < length (listingOf draft.now)) }
+    ensures nothing { (result ≡ 0) ↔ (length out.old < length (listing_of draft.now)) }
 {
     list_sized(draft, out)
 }

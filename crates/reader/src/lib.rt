@@ -3,15 +3,15 @@
 
 ghost use Rattle.std.specs.Prelude.{◌≡◌, length};
 ghost use Rattle.lexer.specs.Lexemes.{lexemes};
-ghost use Rattle.lexer.specs.Limits.{draftLimits, lexedOf, tokensOf, tokenWords};
-ghost use Rattle.lexer.specs.Buffer.{tokensIn};
-ghost use Rattle.up.specs.Ways.{upWords};
-ghost use Rattle.grammar.specs.Entry.{oneFunction, wholeFile};
+ghost use Rattle.lexer.specs.Limits.{draft_limits, lexed_of, tokens_of, token_words};
+ghost use Rattle.lexer.specs.Buffer.{tokens_in};
+ghost use Rattle.up.specs.Ways.{up_words};
+ghost use Rattle.grammar.specs.Entry.{single_function, whole_file};
 ghost use Rattle.parse.specs.Entry.{entry_of};
 ghost use Rattle.text.specs.Answers.{accepted, values};
 ghost use Rattle.text.specs.Front.{Held};
-ghost use Rattle.grammar.specs.answers.Answer.{answer, tokenBuffer, treeBuffer, recordsRead};
-ghost use Rattle.grammar.specs.answers.Promised.{Promised};
+ghost use Rattle.grammar.specs.Answers.Answer.{answer, token_buffer, tree_buffer, records_read};
+ghost use Rattle.grammar.specs.Answers.Promised.{Promised};
 ghost use Rattle.reader.specs.Read.{meant, returned};
 
 use lexer::Lexed;
@@ -29,31 +29,31 @@ pub enum Reading {
 
 // Reads one function: three words a token, seven words a record, zeros behind them; on a refusal every word of both buffers is 0.
 pub fn read(draft: &[u8], tokens: &mut [u32], tree: &mut [u32]) -> Reading
-    ensures answer { meant result ≡ answer oneFunction draftLimits draft.now (length tokens.old) (length tree.old) }
-    ensures values { returned result ≡ values (answer oneFunction draftLimits draft.now (length tokens.old) (length tree.old)) }
-    ensures tokens { tokens.new ≡ tokenBuffer oneFunction draftLimits draft.now (length tokens.old) (length tree.old) }
-    ensures tree { tree.new ≡ treeBuffer oneFunction draftLimits draft.now (length tokens.old) (length tree.old) }
-    ensures laws { Promised oneFunction draftLimits draft.now (length tokens.old) (length tree.old) (meant result) tokens.new tree.new }
+    ensures answer { meant result ≡ answer single_function draft_limits draft.now (length tokens.old) (length tree.old) }
+    ensures values { returned result ≡ values (answer single_function draft_limits draft.now (length tokens.old) (length tree.old)) }
+    ensures tokens { tokens.new ≡ token_buffer single_function draft_limits draft.now (length tokens.old) (length tree.old) }
+    ensures tree { tree.new ≡ tree_buffer single_function draft_limits draft.now (length tokens.old) (length tree.old) }
+    ensures laws { Promised single_function draft_limits draft.now (length tokens.old) (length tree.old) (meant result) tokens.new tree.new }
 {
     read_as(draft, tokens, tree, false)
 }
 
 // Reads a file, functions and type items: the same, and the first record is that of the whole file.
 pub fn read_file(draft: &[u8], tokens: &mut [u32], tree: &mut [u32]) -> Reading
-    ensures answer { meant result ≡ answer wholeFile draftLimits draft.now (length tokens.old) (length tree.old) }
-    ensures values { returned result ≡ values (answer wholeFile draftLimits draft.now (length tokens.old) (length tree.old)) }
-    ensures tokens { tokens.new ≡ tokenBuffer wholeFile draftLimits draft.now (length tokens.old) (length tree.old) }
-    ensures tree { tree.new ≡ treeBuffer wholeFile draftLimits draft.now (length tokens.old) (length tree.old) }
-    ensures laws { Promised wholeFile draftLimits draft.now (length tokens.old) (length tree.old) (meant result) tokens.new tree.new }
+    ensures answer { meant result ≡ answer whole_file draft_limits draft.now (length tokens.old) (length tree.old) }
+    ensures values { returned result ≡ values (answer whole_file draft_limits draft.now (length tokens.old) (length tree.old)) }
+    ensures tokens { tokens.new ≡ token_buffer whole_file draft_limits draft.now (length tokens.old) (length tree.old) }
+    ensures tree { tree.new ≡ tree_buffer whole_file draft_limits draft.now (length tokens.old) (length tree.old) }
+    ensures laws { Promised whole_file draft_limits draft.now (length tokens.old) (length tree.old) (meant result) tokens.new tree.new }
 {
     read_as(draft, tokens, tree, true)
 }
 
 // Reads a draft as a file, or as one function; what is behind the words of both buffers is cleared, on a refusal every word.
 fn read_as(draft: &[u8], tokens: &mut [u32], tree: &mut [u32], file: bool) -> Reading
-    ensures answer { meant result ≡ answer (entry_of file) draftLimits draft.now (length tokens.old) (length tree.old) }
-    ensures tokens { tokens.new ≡ tokenBuffer (entry_of file) draftLimits draft.now (length tokens.old) (length tree.old) }
-    ensures tree { tree.new ≡ treeBuffer (entry_of file) draftLimits draft.now (length tokens.old) (length tree.old) }
+    ensures answer { meant result ≡ answer (entry_of file) draft_limits draft.now (length tokens.old) (length tree.old) }
+    ensures tokens { tokens.new ≡ token_buffer (entry_of file) draft_limits draft.now (length tokens.old) (length tree.old) }
+    ensures tree { tree.new ≡ tree_buffer (entry_of file) draft_limits draft.now (length tokens.old) (length tree.old) }
 {
     let reading = read_front(draft, tokens, tree, file);
     let Reading::Accepted {
@@ -77,9 +77,9 @@ fn read_as(draft: &[u8], tokens: &mut [u32], tree: &mut [u32], file: bool) -> Re
 
 // The same, where the words behind those of the tokens and of the records stay as they are.
 fn read_front(draft: &[u8], tokens: &mut [u32], tree: &mut [u32], file: bool) -> Reading
-    ensures answer { meant result ≡ answer (entry_of file) draftLimits draft.now (length tokens.old) (length tree.old) }
-    ensures tokens { Held (meant result) (tokenWords (tokensOf (lexemes draft.now))) tokens.old tokens.new }
-    ensures tree { Held (meant result) (upWords (recordsRead (entry_of file) draftLimits draft.now (length tokens.old))) tree.old tree.new }
+    ensures answer { meant result ≡ answer (entry_of file) draft_limits draft.now (length tokens.old) (length tree.old) }
+    ensures tokens { Held (meant result) (token_words (tokens_of (lexemes draft.now))) tokens.old tokens.new }
+    ensures tree { Held (meant result) (up_words (records_read (entry_of file) draft_limits draft.now (length tokens.old))) tree.old tree.new }
 {
     let lexed = lexer::lex_front(draft, tokens);
     match lexed {
@@ -90,10 +90,10 @@ fn read_front(draft: &[u8], tokens: &mut [u32], tree: &mut [u32], file: bool) ->
 
 // The answer of the parser over the tokens that were lexed, its records given their ways up.
 fn parsed(draft: &[u8], tokens: &[u32], count: usize, tree: &mut [u32], file: bool) -> Reading
-    requires lexed { lexedOf draftLimits draft.now (length tokens.now) ≡ accepted count 0 }
-    requires held { tokensIn count tokens.now ≡ tokensOf (lexemes draft.now) }
-    ensures answer { meant result ≡ answer (entry_of file) draftLimits draft.now (length tokens.now) (length tree.old) }
-    ensures tree { Held (meant result) (upWords (recordsRead (entry_of file) draftLimits draft.now (length tokens.now))) tree.old tree.new }
+    requires lexed { lexed_of draft_limits draft.now (length tokens.now) ≡ accepted count 0 }
+    requires held { tokens_in count tokens.now ≡ tokens_of (lexemes draft.now) }
+    ensures answer { meant result ≡ answer (entry_of file) draft_limits draft.now (length tokens.now) (length tree.old) }
+    ensures tree { Held (meant result) (up_words (records_read (entry_of file) draft_limits draft.now (length tokens.now))) tree.old tree.new }
 {
     let answer = parse::parse_front(draft, tokens, count, tree, file);
     match answer {

@@ -2,16 +2,16 @@
 ghost use Rattle.std.specs.Prelude.{◌≡◌, ◌↔◌, length};
 ghost use Rattle.load.specs.Load.{load_of, words_of};
 ghost use Rattle.load.specs.Promised.{Loads};
-ghost use Rattle.reader.specs.Loading.{recordsLoaded, refusalLoaded, Refusing};
+ghost use Rattle.reader.specs.Loading.{records_loaded, refusal_loaded, Refusing};
 
 use load::Loaded;
 
 // Loads a listing: the number of records, seven words each, zeros behind them, and 0 and 0 as the refusal. Or 0, every word 0, and the refusal: its number,
 // and the first bad line from 1, or 0.
 pub fn load_listing(listing: &[u8], words: &mut [u32], refusal: &mut [usize; 2]) -> usize
-    ensures records { result ≡ recordsLoaded listing.now (length words.old) }
+    ensures records { result ≡ records_loaded listing.now (length words.old) }
     ensures words { words.new ≡ words_of listing.now (length words.old) }
-    ensures refusal { refusal.new ≡ refusalLoaded listing.now (length words.old) }
+    ensures refusal { refusal.new ≡ refusal_loaded listing.now (length words.old) }
     ensures nothing { (result ≡ 0) ↔ Refusing (load_of listing.now (length words.old)) }
     ensures laws { Loads listing.now (length words.old) (load_of listing.now (length words.old)) words.new }
 {

@@ -6,7 +6,7 @@
 // Check 3: the tokens that each record owns add up to the tokens.
 // Check 4: of two built-in arms of one match the first is odd, and the second one more.
 ghost use Rattle.std.specs.Prelude.{◌+◌, ◌*◌, ◌≤◌, ◌<◌, length};
-ghost use Rattle.text.specs.Widths.{recWide};
+ghost use Rattle.text.specs.Widths.{rec_wide};
 
 use own::{arm, kind};
 use text::{RECORD_WORDS, TOKEN_WORDS};
@@ -20,14 +20,14 @@ fn wide(w: u32) -> usize
 
 // Whether the place of a record holds the bytes from start to end.
 fn holds(tree: &[u32], i: usize, start: u32, end: u32) -> bool
-    requires { recWide * i + recWide ≤ length tree.now }
+    requires { rec_wide * i + rec_wide ≤ length tree.now }
 {
     tree[RECORD_WORDS * i + 1] <= start && end <= tree[RECORD_WORDS * i + 2]
 }
 
 // How many bytes the place of a record has.
 fn width(tree: &[u32], i: usize) -> u32
-    requires { recWide * i + recWide ≤ length tree.now }
+    requires { rec_wide * i + rec_wide ≤ length tree.now }
 {
     let start = tree[RECORD_WORDS * i + 1];
     let end = tree[RECORD_WORDS * i + 2];
@@ -36,8 +36,8 @@ fn width(tree: &[u32], i: usize) -> u32
 
 // The record behind a record and all beneath it; the end of the tree if the size is 0 or says more than there are.
 fn after(tree: &[u32], i: usize) -> usize
-    requires { recWide * i + recWide ≤ length tree.now }
-    ensures { (i < result) × (recWide * result ≤ length tree.now) }
+    requires { rec_wide * i + rec_wide ≤ length tree.now }
+    ensures { (i < result) × (rec_wide * result ≤ length tree.now) }
 {
     let size = wide(tree[RECORD_WORDS * i + 5]);
     let end = tree.len() / RECORD_WORDS;
@@ -52,7 +52,7 @@ fn after(tree: &[u32], i: usize) -> usize
 
 // Whether the place of a record's child holds the bytes from start to end.
 fn child_holds(tree: &[u32], i: usize, start: u32, end: u32) -> bool
-    requires { recWide * i + recWide ≤ length tree.now }
+    requires { rec_wide * i + rec_wide ≤ length tree.now }
 {
     let stop = after(tree, i);
     let mut c = i + 1;
@@ -67,7 +67,7 @@ fn child_holds(tree: &[u32], i: usize, start: u32, end: u32) -> bool
 
 // Whether a record owns the bytes from start to end.
 fn owns(tree: &[u32], i: usize, start: u32, end: u32) -> bool
-    requires { recWide * i + recWide ≤ length tree.now }
+    requires { rec_wide * i + rec_wide ≤ length tree.now }
 {
     if holds(tree, i, start, end) {
         !child_holds(tree, i, start, end)
@@ -90,7 +90,7 @@ fn owner(tree: &[u32], from: usize, start: u32, end: u32) -> usize {
 
 // Whether every other record that holds the bytes has a place of more bytes.
 fn narrowest(tree: &[u32], o: usize, start: u32, end: u32) -> bool
-    requires { recWide * o + recWide ≤ length tree.now }
+    requires { rec_wide * o + rec_wide ≤ length tree.now }
 {
     let bytes = width(tree, o);
     let mut i = 0;
@@ -139,7 +139,7 @@ fn tokens_owned(draft: &[u8], tokens: &[u32], tree: &[u32]) -> bool {
 
 // Whether a child is of a kind that the record may hold, has its place within the record's, and leads back to it.
 fn child_fits(tree: &[u32], i: usize, c: usize) -> bool
-    requires { (recWide * i + recWide ≤ length tree.now) × ((recWide * c + recWide ≤ length tree.now) × (i < c)) }
+    requires { (rec_wide * i + rec_wide ≤ length tree.now) × ((rec_wide * c + rec_wide ≤ length tree.now) × (i < c)) }
 {
     if wide(tree[RECORD_WORDS * c + UP]) != c - i {
         return false;
@@ -158,7 +158,7 @@ fn child_fits(tree: &[u32], i: usize, c: usize) -> bool
 
 // Check 2 of a record.
 fn children_fit(tree: &[u32], i: usize) -> bool
-    requires { recWide * i + recWide ≤ length tree.now }
+    requires { rec_wide * i + rec_wide ≤ length tree.now }
 {
     let stop = after(tree, i);
     let mut c = i + 1;
@@ -173,7 +173,7 @@ fn children_fit(tree: &[u32], i: usize) -> bool
 
 // Whether two children side by side, if both are built-in arms, are a pair in its order.
 fn arms_paired(tree: &[u32], c: usize, d: usize) -> bool
-    requires { (recWide * c + recWide ≤ length tree.now) × (recWide * d + recWide ≤ length tree.now) }
+    requires { (rec_wide * c + rec_wide ≤ length tree.now) × (rec_wide * d + rec_wide ≤ length tree.now) }
 {
     if tree[RECORD_WORDS * c] != kind::BUILTIN_ARM || tree[RECORD_WORDS * d] != kind::BUILTIN_ARM {
         return true;
@@ -187,7 +187,7 @@ fn arms_paired(tree: &[u32], c: usize, d: usize) -> bool
 
 // Check 4 of a record.
 fn arms_in_order(tree: &[u32], i: usize) -> bool
-    requires { recWide * i + recWide ≤ length tree.now }
+    requires { rec_wide * i + rec_wide ≤ length tree.now }
 {
     let stop = after(tree, i);
     let mut c = i + 1;
@@ -220,7 +220,7 @@ fn records_fit(tree: &[u32]) -> bool {
 
 // How many tokens a record owns.
 fn owned_by(tokens: &[u32], tree: &[u32], i: usize) -> usize
-    requires { recWide * i + recWide ≤ length tree.now }
+    requires { rec_wide * i + rec_wide ≤ length tree.now }
 {
     let mut n: usize = 0;
     let mut t = 0;
@@ -277,7 +277,7 @@ pub(crate) fn owned(draft: &[u8], tokens: &[u32], tree: &[u32]) -> bool {
 
 // Whether the first record is that of a file of so many bytes, and counts all records.
 fn program_first(tree: &[u32], bytes: usize) -> bool
-    requires { recWide ≤ length tree.now }
+    requires { rec_wide ≤ length tree.now }
 {
     if tree[0] != kind::PROGRAM || tree[1] != 0 || wide(tree[2]) != bytes {
         return false;

@@ -5,9 +5,9 @@ use Prim.Native.Char.{code}
 use Prim.Native.String.{String, len, char_at}
 
 -- n characters from i on
-unfoldable pub asciiFrom : String → ℕ → ℕ → List ℕ
-asciiFrom s i zero = []
-asciiFrom s i (suc n) = code (char_at s i) ∷ asciiFrom s (suc i) n
+unfoldable pub ascii_from : String → ℕ → ℕ → List ℕ
+ascii_from s i zero = []
+ascii_from s i (suc n) = code (char_at s i) ∷ ascii_from s (suc i) n
 
 unfoldable pub ascii : String → List ℕ
-ascii s = asciiFrom s 0 (len s)
+ascii s = ascii_from s 0 (len s)

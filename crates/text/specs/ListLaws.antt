@@ -68,11 +68,11 @@ count-some p (suc n) a x t l h = go (eqb a x) refl (count-some p n (suc a) x t)
 
 module _ {A : Type 0} where
   -- A test that all pass, and the default too, passes at the entry of any number.
-  pub all_get_d : (p : A → Bool) (l : List A) (d : A) → T (all p l) → T (p d) → (i : ℕ) → T (p (get_or l i d))
+  pub all_get_or : (p : A → Bool) (l : List A) (d : A) → T (all p l) → T (p d) → (i : ℕ) → T (p (get_or l i d))
   unfolding all
-  all_get_d p [] d t h i = h
-  all_get_d p (x ∷ l) d t h zero = first-of (p x) (all p l) t
-  all_get_d p (x ∷ l) d t h (suc i) = all_get_d p l d (second-of (p x) (all p l) t) h i
+  all_get_or p [] d t h i = h
+  all_get_or p (x ∷ l) d t h zero = first-of (p x) (all p l) t
+  all_get_or p (x ∷ l) d t h (suc i) = all_get_or p l d (second-of (p x) (all p l) t) h i
 
   -- All of those kept pass.
   pub all_keep : (p q : A → Bool) (l : List A) → T (all p l) → T (all p (keep q l))

@@ -75,17 +75,17 @@ abbrev pub of_bytes : List ℕ
 of_bytes = NotAscii ∷ NoLexeme ∷ Unclosed ∷ Simc ∷ NotUtf8 ∷ []
 
 -- "of 9 to 14 the earliest place", and 19 "among 9 to 14 by earliest place": those of the shapes, which a well-shaped draft may have.
-abbrev pub ofShapes : List ℕ
-ofShapes = Bound ∷ Size ∷ NoArms ∷ MixedArms ∷ ArmCount ∷ NoPartners ∷ Length ∷ []
+abbrev pub of_shapes : List ℕ
+of_shapes = Bound ∷ Size ∷ NoArms ∷ MixedArms ∷ ArmCount ∷ NoPartners ∷ Length ∷ []
 
 -- Every number of a reading, in the order of the tests: "Refusal 1 is tested first; of 2 to 5 the earliest place wins; then 6, 7 and 8 in turn [..];
 -- of 9 to 14 the earliest place; last 15."
-abbrev pub inOrder : List ℕ
-inOrder = TooLong ∷ (of_bytes ++ (TooMany ∷ TooDeep ∷ Misshapen ∷ (ofShapes ++ (NoRoom ∷ []))))
+abbrev pub in_order : List ℕ
+in_order = TooLong ∷ (of_bytes ++ (TooMany ∷ TooDeep ∷ Misshapen ∷ (of_shapes ++ (NoRoom ∷ []))))
 
 -- Those of a listing: "they are tested in this order".
-abbrev pub ofListings : List ℕ
-ofListings = BadLine ∷ NotWhole ∷ NoLoadRoom ∷ []
+abbrev pub of_listings : List ℕ
+of_listings = BadLine ∷ NotWhole ∷ NoLoadRoom ∷ []
 
 -- no number stands twice
 abbrev pub distinct : List ℕ → Bool
@@ -93,6 +93,6 @@ distinct [] = true
 distinct (n ∷ ns) = not (has ns n) && distinct ns
 
 -- Each refusal has a number of its own, none is in both families, and none is 0, which stands for no refusal: computed.
-pub numbers-distinct : T (distinct (0 ∷ (inOrder ++ ofListings)))
+pub numbers-distinct : T (distinct (0 ∷ (in_order ++ of_listings)))
 unfolding has
 numbers-distinct = tt

@@ -4,9 +4,9 @@
 use Rattle.std.specs.Prelude.{ℕ}
 
 -- "A token is three u32 words: kind .., start, end".
-abbrev pub tokWide : ℕ
-tokWide = 3
+abbrev pub tok_wide : ℕ
+tok_wide = 3
 
 -- "Six u32 words: kind, start, end, low, high, size.", and "a seventh word: how many records back its parent begins" (document 02, order 7).
-abbrev pub recWide : ℕ
-recWide = 7
+abbrev pub rec_wide : ℕ
+rec_wide = 7

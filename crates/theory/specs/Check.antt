@@ -11,7 +11,7 @@ use Rattle.std.proofs.Common.{arith}
 use Rattle.std.proofs.Math.Dec.{eqb}
 use Rattle.text.specs.Table.{first-of, second-of}
 use Rattle.text.specs.Lists.{has, all}
-use Rattle.text.specs.ListLaws.{all-has, all_get_d}
+use Rattle.text.specs.ListLaws.{all-has, all_get_or}
 use Rattle.theory.specs.Grammar.{Sym, tok, nt, Row, row, look, alt, pick, blank}
 use Rattle.theory.specs.Machine.{choose}
 
@@ -75,36 +75,36 @@ module _ (g : List Row) where
   short (suc n) (nt B ∷ σ) = elim (alt g B (row g B).least) [ none ↦ false | some rhs ↦ short n (rhs ++ σ) ]
 
   -- The test of an alternative of the row r: its beginnings are in `first`, the table chooses it there, `follow` is right.
-  unfoldable pub goodAlt : Row → ℕ → List Sym → Bool
-  goodAlt r i rhs =
+  unfoldable pub good_alt : Row → ℕ → List Sym → Bool
+  good_alt r i rhs =
       scan (has r.first) r.null rhs &&
       (scan (λ b. eqb (look r.cases r.other b) i) (all (λ b. eqb (look r.cases r.other b) i) r.follow) rhs &&
       follows r rhs)
 
   -- The test of a row: each alternative, and that it has a word.
-  unfoldable pub goodRow : Row → Bool
-  goodRow r = numbered (goodAlt r) r.alts && elim (pick r.alts r.least) [ none ↦ false | some rhs ↦ short 1000 rhs ]
+  unfoldable pub good_row : Row → Bool
+  good_row r = numbered (good_alt r) r.alts && elim (pick r.alts r.least) [ none ↦ false | some rhs ↦ short 1000 rhs ]
 
   -- The test of the whole table.
   unfoldable pub good : Bool
-  good = goodRow blank && all goodRow g
+  good = good_row blank && all good_row g
 
   module _ (ok : T good) where
     -- Each row passes its test.
-    pub row-good : (A : ℕ) → T (goodRow (row g A))
+    pub row-good : (A : ℕ) → T (good_row (row g A))
     unfolding good row
-    row-good A = all_get_d goodRow g blank (second-of (goodRow blank) (all goodRow g) ok) (first-of (goodRow blank) (all goodRow g) ok) A
+    row-good A = all_get_or good_row g blank (second-of (good_row blank) (all good_row g) ok) (first-of (good_row blank) (all good_row g) ok) A
 
-    alt-good : (A i : ℕ) {rhs : List Sym} → alt g A i ≡ some rhs → T (goodAlt (row g A) i rhs)
-    unfolding goodRow alt
+    alt-good : (A i : ℕ) {rhs : List Sym} → alt g A i ≡ some rhs → T (good_alt (row g A) i rhs)
+    unfolding good_row alt
     alt-good A i e =
-        numbered-at (goodAlt (row g A)) (row g A).alts
-        (first-of (numbered (goodAlt (row g A)) (row g A).alts) (elim (pick (row g A).alts (row g A).least) [ none ↦ false | some rhs ↦ short 1000 rhs ]) (row-good A))
+        numbered-at (good_alt (row g A)) (row g A).alts
+        (first-of (numbered (good_alt (row g A)) (row g A).alts) (elim (pick (row g A).alts (row g A).least) [ none ↦ false | some rhs ↦ short 1000 rhs ]) (row-good A))
         i e
 
     -- Each alternative passes its three tests.
     pub parts : (A i : ℕ) {rhs : List Sym} → alt g A i ≡ some rhs → record { firsts : T (scan (has (row g A).first) (row g A).null rhs); choice : T (scan (λ b. eqb (choose g A b) i) (all (λ b. eqb (choose g A b) i) (row g A).follow) rhs); after : T (follows (row g A) rhs) }
-    unfolding goodAlt choose
+    unfolding good_alt choose
     parts A i {rhs} e =
         let r : Row = row g A in
         let a : Bool = scan (has r.first) r.null rhs in

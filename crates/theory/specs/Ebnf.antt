@@ -58,8 +58,8 @@ choices t (list e c) = [] ∷ (items e ++ (tail e c ∷ [])) ∷ []
 choices t (tail e c) = [] ∷ (mark c ∷ list e c ∷ []) ∷ []
 
 -- The kinds of a category, and the expressions of a node of a kind.
-unfoldable pub kindsOf : Ebnf → ℕ → List ℕ
-kindsOf t C = get_or t.kinds C []
+unfoldable pub kinds_of : Ebnf → ℕ → List ℕ
+kinds_of t C = get_or t.kinds C []
 
 unfoldable pub body_of : Ebnf → ℕ → List Ex
 body_of t k = items (get_or t.bodies k eps)
@@ -77,10 +77,10 @@ yield (sub k js r) = yield js ++ yield r
 
 -- The items are what the expressions say, and so within each node.
 pub data Match (t : Ebnf) : List Ex → Items → Type 0 where
-  m-end : Match t [] nil
-  m-word : {c : ℕ} {es : List Ex} {r : Items} → Match t es r → Match t (mark c ∷ es) (word c r)
-  m-sub : {C k : ℕ} {es : List Ex} {js r : Items} (i : ℕ) → get_elem? (kindsOf t C) i ≡ some k → Match t (body_of t k) js → Match t es r → Match t (child C ∷ es) (sub k js r)
-  m-choice : {e : Ex} {es α : List Ex} {r : Items} (i : ℕ) → get_elem? (choices t e) i ≡ some α → Match t (α ++ es) r → Match t (e ∷ es) r
+  m_end : Match t [] nil
+  m_word : {c : ℕ} {es : List Ex} {r : Items} → Match t es r → Match t (mark c ∷ es) (word c r)
+  m_sub : {C k : ℕ} {es : List Ex} {js r : Items} (i : ℕ) → get_elem? (kinds_of t C) i ≡ some k → Match t (body_of t k) js → Match t es r → Match t (child C ∷ es) (sub k js r)
+  m_choice : {e : Ex} {es α : List Ex} {r : Items} (i : ℕ) → get_elem? (choices t e) i ≡ some α → Match t (α ++ es) r → Match t (e ∷ es) r
 
 -- Trees side by side of the expression e, with the tokens ts.
 abbrev pub Tree : Ebnf → Ex → List ℕ → Type 0
@@ -101,13 +101,13 @@ pub data Sort : Type 0 where
   flat : Sort
 
 -- The sort of an expression.
-unfoldable pub sortOf : Ex → Sort
-sortOf eps = flat
-sortOf (mark c) = token c
-sortOf (child C) = node C
-sortOf (part P) = flat
-sortOf (seq e f) = flat
-sortOf (or e f) = flat
-sortOf (many e) = flat
-sortOf (list e c) = flat
-sortOf (tail e c) = flat
+unfoldable pub sort_of : Ex → Sort
+sort_of eps = flat
+sort_of (mark c) = token c
+sort_of (child C) = node C
+sort_of (part P) = flat
+sort_of (seq e f) = flat
+sort_of (or e f) = flat
+sort_of (many e) = flat
+sort_of (list e c) = flat
+sort_of (tail e c) = flat

@@ -51,6 +51,6 @@ alt g A i = pick (row g A).alts i
 
 -- The symbols derive the classes of tokens, the leftmost symbol first.
 pub data Der (g : List Row) : List Sym → List ℕ → Type 0 where
-  d-end : Der g [] []
-  d-tok : {a : ℕ} {σ : List Sym} {ts : List ℕ} → Der g σ ts → Der g (tok a ∷ σ) (a ∷ ts)
-  d-nt : {A : ℕ} {σ : List Sym} {ts : List ℕ} (i : ℕ) {rhs : List Sym} → alt g A i ≡ some rhs → Der g (rhs ++ σ) ts → Der g (nt A ∷ σ) ts
+  d_end : Der g [] []
+  d_tok : {a : ℕ} {σ : List Sym} {ts : List ℕ} → Der g σ ts → Der g (tok a ∷ σ) (a ∷ ts)
+  d_nt : {A : ℕ} {σ : List Sym} {ts : List ℕ} (i : ℕ) {rhs : List Sym} → alt g A i ≡ some rhs → Der g (rhs ++ σ) ts → Der g (nt A ∷ σ) ts

@@ -19,18 +19,18 @@ expand g A a = alt g A (choose g A a)
 
 -- The symbols accept the tokens.
 pub data Acc (g : List Row) : List Sym → List ℕ → Type 0 where
-  a-end : Acc g [] []
-  a-tok : {a b : ℕ} {σ : List Sym} {ts : List ℕ} → a ≡ b → Acc g σ ts → Acc g (tok b ∷ σ) (a ∷ ts)
-  a-nt : {A : ℕ} {σ : List Sym} {ts : List ℕ} {rhs : List Sym} → expand g A (la ts) ≡ some rhs → Acc g (rhs ++ σ) ts → Acc g (nt A ∷ σ) ts
+  a_end : Acc g [] []
+  a_tok : {a b : ℕ} {σ : List Sym} {ts : List ℕ} → a ≡ b → Acc g σ ts → Acc g (tok b ∷ σ) (a ∷ ts)
+  a_nt : {A : ℕ} {σ : List Sym} {ts : List ℕ} {rhs : List Sym} → expand g A (la ts) ≡ some rhs → Acc g (rhs ++ σ) ts → Acc g (nt A ∷ σ) ts
 
 -- The symbols take the tokens of the first list and refuse what is left, the second list, at its beginning.
 pub data Ref (g : List Row) : List Sym → List ℕ → List ℕ → Type 0 where
-  r-long : {a : ℕ} {ts : List ℕ} → Ref g [] [] (a ∷ ts)
-  r-short : {b : ℕ} {σ : List Sym} → Ref g (tok b ∷ σ) [] []
-  r-other : {a b : ℕ} {σ : List Sym} {ts : List ℕ} → ¬ (a ≡ b) → Ref g (tok b ∷ σ) [] (a ∷ ts)
-  r-stuck : {A : ℕ} {σ : List Sym} {ts : List ℕ} → expand g A (la ts) ≡ none → Ref g (nt A ∷ σ) [] ts
-  r-tok : {b : ℕ} {σ : List Sym} {d r : List ℕ} → Ref g σ d r → Ref g (tok b ∷ σ) (b ∷ d) r
-  r-nt : {A : ℕ} {σ : List Sym} {d r : List ℕ} {rhs : List Sym} → expand g A (la (d ++ r)) ≡ some rhs → Ref g (rhs ++ σ) d r → Ref g (nt A ∷ σ) d r
+  r_long : {a : ℕ} {ts : List ℕ} → Ref g [] [] (a ∷ ts)
+  r_short : {b : ℕ} {σ : List Sym} → Ref g (tok b ∷ σ) [] []
+  r_other : {a b : ℕ} {σ : List Sym} {ts : List ℕ} → ¬ (a ≡ b) → Ref g (tok b ∷ σ) [] (a ∷ ts)
+  r_stuck : {A : ℕ} {σ : List Sym} {ts : List ℕ} → expand g A (la ts) ≡ none → Ref g (nt A ∷ σ) [] ts
+  r_tok : {b : ℕ} {σ : List Sym} {d r : List ℕ} → Ref g σ d r → Ref g (tok b ∷ σ) (b ∷ d) r
+  r_nt : {A : ℕ} {σ : List Sym} {d r : List ℕ} {rhs : List Sym} → expand g A (la (d ++ r)) ≡ some rhs → Ref g (rhs ++ σ) d r → Ref g (nt A ∷ σ) d r
 
 -- Two rests of tokens that the machine cannot tell apart at once: both at the end, or with the same next token.
 pub data Same : List ℕ → List ℕ → Type 0 where

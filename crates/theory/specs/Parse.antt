@@ -112,14 +112,14 @@ module _ (t : Ebnf) (m : List Ex) (g : List Row) (S : ℕ) (E : Ex) (ok : Checke
     stops-no-tree {p} w r =
         w.after (drop p s) (same_self (drop p s)) (tree-der (r.0, r.1, r.2 ∙ sym (take-append-drop p s)))
 
-    with-token : (p : ℕ) → p < length s → (more : List ℕ) → take (suc p) s ++ more ≡ take p s ++ (get_or s p 0 ∷ more)
-    with-token p h more = ap (λ (l : List ℕ). l ++ more) (take-suc s p 0 h) ∙ append_assoc (take p s) (get_or s p 0 ∷ []) more
+    with_token : (p : ℕ) → p < length s → (more : List ℕ) → take (suc p) s ++ more ≡ take p s ++ (get_or s p 0 ∷ more)
+    with_token p h more = ap (λ (l : List ℕ). l ++ more) (take-suc s p 0 h) ∙ append_assoc (take p s) (get_or s p 0 ∷ []) more
 
     -- Nor does any tree begin with them and go on with the token where they stop.
     pub stops-no-further : {p : ℕ} → Says (stuck p) → p < length s → (more : List ℕ) → Tree t E (take (suc p) s ++ more) → ⊥
     stops-no-further {p} w h more r =
         let d : Same (drop p s) (get_or s p 0 ∷ more) = rw (drop-cons s p 0 h) same_head in
-        w.after (get_or s p 0 ∷ more) d (tree-der (r.0, r.1, r.2 ∙ with-token p h more))
+        w.after (get_or s p 0 ∷ more) d (tree-der (r.0, r.1, r.2 ∙ with_token p h more))
 
     -- The place where they stop is where they are first wrong,
     pub stops-wrong : {p : ℕ} → Says (stuck p) → FirstWrong t E s p
@@ -138,7 +138,7 @@ module _ (t : Ebnf) (m : List Ex) (g : List Row) (S : ℕ) (E : Ex) (ok : Checke
         let h : p < length s = omega arith in
         let c = drop-cons s p 0 h in
         let b : a ≡ get_or s p 0 = cc in
-        w.further h v (subst (λ (l : List ℕ). Tree t E l) (ap (λ (y : ℕ). take p s ++ (y ∷ v)) b ∙ sym (with-token p h v)) (der-tree d))
+        w.further h v (subst (λ (l : List ℕ). Tree t E l) (ap (λ (y : ℕ). take p s ++ (y ∷ v)) b ∙ sym (with_token p h v)) (der-tree d))
 
     -- and the other way round.
     pub wrong-stops : {p : ℕ} → FirstWrong t E s p → Says (stuck p)

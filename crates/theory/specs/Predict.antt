@@ -12,22 +12,22 @@ use Rattle.std.proofs.Math.Dec.{T}
 use Rattle.text.specs.Table.{first-of, second-of}
 use Rattle.text.specs.Lists.{all, has}
 use Rattle.text.specs.ListLaws.{all-has}
-use Rattle.theory.specs.Grammar.{Sym, tok, nt, Row, row, alt, pick, Der, d-end, d-tok, d-nt}
-use Rattle.theory.specs.Machine.{la, choose, expand, Acc, a-end, a-tok, a-nt, Ref, r-long, r-short, r-other, r-stuck, r-tok, r-nt, Same, same_end, same_head}
-use Rattle.theory.specs.Check.{Starts, scan, scan-at, follows, good, goodRow, row-good, parts, short, numbered, goodAlt}
+use Rattle.theory.specs.Grammar.{Sym, tok, nt, Row, row, alt, pick, Der, d_end, d_tok, d_nt}
+use Rattle.theory.specs.Machine.{la, choose, expand, Acc, a_end, a_tok, a_nt, Ref, r_long, r_short, r_other, r_stuck, r_tok, r_nt, Same, same_end, same_head}
+use Rattle.theory.specs.Check.{Starts, scan, scan-at, follows, good, good_row, row-good, parts, short, numbered, good_alt}
 
 module _ (g : List Row) where
   -- Sound: what the machine accepts is derived.
   pub sound : {σ : List Sym} {ts : List ℕ} → Acc g σ ts → Der g σ ts
-  sound a-end = d-end
-  sound (a-tok e m) = rw e (d-tok (sound m))
-  sound (a-nt {A = A} {ts = ts} e m) = d-nt (choose g A (la ts)) e (sound m)
+  sound a_end = d_end
+  sound (a_tok e m) = rw e (d_tok (sound m))
+  sound (a_nt {A = A} {ts = ts} e m) = d_nt (choose g A (la ts)) e (sound m)
 
   -- Derivations side by side are one.
   pub der-append : {σ τ : List Sym} {u v : List ℕ} → Der g σ u → Der g τ v → Der g (σ ++ τ) (u ++ v)
-  der-append d-end b = b
-  der-append (d-tok d) b = d-tok (der-append d b)
-  der-append {τ = τ} {v = v} (d-nt {σ = σ} {ts = ts} i {rhs = rhs} e d) b = d-nt i e (rw append_assoc at (der-append d b))
+  der-append d_end b = b
+  der-append (d_tok d) b = d_tok (der-append d b)
+  der-append {τ = τ} {v = v} (d_nt {σ = σ} {ts = ts} i {rhs = rhs} e d) b = d_nt i e (rw append_assoc at (der-append d b))
 
   -- Symbols start with what comes after them, if they may be empty, under any weaker condition too.
   pub starts-mono : (C D : Type 0) (a : ℕ) (σ : List Sym) → (C → D) → Starts g C a σ → Starts g D a σ
@@ -56,9 +56,9 @@ module _ (g : List Row) where
   module _ (ok : T (good g)) where
     -- What is derived begins as the symbols may start.
     pub der-starts : {σ : List Sym} {ts : List ℕ} → Der g σ ts → Starts g (la ts ≡ 0) (la ts) σ
-    der-starts d-end = refl
-    der-starts (d-tok d) = refl
-    der-starts (d-nt {A = A} {σ = σ} {ts = ts} i {rhs = rhs} e d) =
+    der-starts d_end = refl
+    der-starts (d_tok d) = refl
+    der-starts (d_nt {A = A} {σ = σ} {ts = ts} i {rhs = rhs} e d) =
         scan-at g (has (row g A).first) (row g A).null (Starts g (la ts ≡ 0) (la ts) σ) (la ts) rhs (parts g ok A i e).firsts (starts-append (la ts ≡ 0) (la ts) rhs σ (der-starts d))
 
     -- The table chooses the alternative of every derivation.
@@ -92,55 +92,55 @@ module _ (g : List Row) where
 
     -- Complete: the machine accepts what is derived.
     pub complete : {σ : List Sym} {ts : List ℕ} → Ok σ → Der g σ ts → Acc g σ ts
-    complete k d-end = a-end
-    complete k (d-tok d) = a-tok refl (complete k d)
-    complete k (d-nt {A = A} {σ = σ} {ts = ts} i {rhs = rhs} e d) =
+    complete k d_end = a_end
+    complete k (d_tok d) = a_tok refl (complete k d)
+    complete k (d_nt {A = A} {σ = σ} {ts = ts} i {rhs = rhs} e d) =
         let c : choose g A (la ts) ≡ i = taken σ rhs A i k e d in
         let x : expand g A (la ts) ≡ some rhs = rw c e in
-        a-nt x (complete (ok-append (row g A) rhs σ (parts g ok A i e).after k.0 k.1) d)
+        a_nt x (complete (ok-append (row g A) rhs σ (parts g ok A i e).after k.0 k.1) d)
 
     short-der : (n : ℕ) (σ : List Sym) → T (short g n σ) → (ts : List ℕ) × Der g σ ts
     unfolding short
     short-der zero σ t = absurd t
-    short-der (suc n) [] t = ([], d-end)
-    short-der (suc n) (tok b ∷ σ) t = let r = short-der n σ t in (b ∷ r.0, d-tok r.1)
+    short-der (suc n) [] t = ([], d_end)
+    short-der (suc n) (tok b ∷ σ) t = let r = short-der n σ t in (b ∷ r.0, d_tok r.1)
     short-der (suc n) (nt B ∷ σ) t = go (alt g B (row g B).least) refl (λ τ. short-der n τ) t
       where
         go : (o : Option (List Sym)) → alt g B (row g B).least ≡ o → ((τ : List Sym) → T (short g n τ) → (ts : List ℕ) × Der g τ ts) → T (elim o [ none ↦ false | some rhs ↦ short g n (rhs ++ σ) ]) → (ts : List ℕ) × Der g (nt B ∷ σ) ts
         go none e ih t = absurd t
-        go (some rhs) e ih t = let r = ih (rhs ++ σ) t in (r.0, d-nt (row g B).least e r.1)
+        go (some rhs) e ih t = let r = ih (rhs ++ σ) t in (r.0, d_nt (row g B).least e r.1)
 
     word : (A : ℕ) → (ts : List ℕ) × Der g (nt A ∷ []) ts
-    unfolding goodRow alt
-    word A = go (alt g A (row g A).least) refl (second-of (numbered (goodAlt g (row g A)) (row g A).alts) (elim (pick (row g A).alts (row g A).least) [ none ↦ false | some rhs ↦ short g 1000 rhs ]) (row-good g ok A))
+    unfolding good_row alt
+    word A = go (alt g A (row g A).least) refl (second-of (numbered (good_alt g (row g A)) (row g A).alts) (elim (pick (row g A).alts (row g A).least) [ none ↦ false | some rhs ↦ short g 1000 rhs ]) (row-good g ok A))
       where
         go : (o : Option (List Sym)) → alt g A (row g A).least ≡ o → T (elim o [ none ↦ false | some rhs ↦ short g 1000 rhs ]) → (ts : List ℕ) × Der g (nt A ∷ []) ts
         go none e t = absurd t
         go (some rhs) e t =
             let r = short-der 1000 rhs t in
             let w : Der g (rhs ++ []) r.0 = rw append-nil r.1 in
-            (r.0, d-nt (row g A).least e w)
+            (r.0, d_nt (row g A).least e w)
 
     -- Every stack derives some word.
     pub words : (σ : List Sym) → (ts : List ℕ) × Der g σ ts
-    words [] = ([], d-end)
-    words (tok b ∷ σ) = let r = words σ in (b ∷ r.0, d-tok r.1)
+    words [] = ([], d_end)
+    words (tok b ∷ σ) = let r = words σ in (b ∷ r.0, d_tok r.1)
     words (nt A ∷ σ) = let r = words σ in let w = word A in (w.0 ++ r.0, der-append w.1 r.1)
 
     -- Viable prefix: what was taken before a refusal can be continued to what is derived.
     pub viable : {σ : List Sym} {d r : List ℕ} → Ref g σ d r → (c : List ℕ) × Der g σ (d ++ c)
-    viable r-long = words []
-    viable (r-short {b = b} {σ = σ}) = words (tok b ∷ σ)
-    viable (r-other {b = b} {σ = σ} n) = words (tok b ∷ σ)
-    viable (r-stuck {A = A} {σ = σ} e) = words (nt A ∷ σ)
-    viable (r-tok m) = let v = viable m in (v.0, d-tok v.1)
-    viable (r-nt {A = A} {d = d} {r = r} e m) = let v = viable m in (v.0, d-nt (choose g A (la (d ++ r))) e v.1)
+    viable r_long = words []
+    viable (r_short {b = b} {σ = σ}) = words (tok b ∷ σ)
+    viable (r_other {b = b} {σ = σ} n) = words (tok b ∷ σ)
+    viable (r_stuck {A = A} {σ = σ} e) = words (nt A ∷ σ)
+    viable (r_tok m) = let v = viable m in (v.0, d_tok v.1)
+    viable (r_nt {A = A} {d = d} {r = r} e m) = let v = viable m in (v.0, d_nt (choose g A (la (d ++ r))) e v.1)
 
     acc-nt : {A : ℕ} {σ : List Sym} {ts : List ℕ} → Acc g (nt A ∷ σ) ts → (rhs : List Sym) × (expand g A (la ts) ≡ some rhs) × Acc g (rhs ++ σ) ts
-    acc-nt (a-nt {rhs = rhs} e m) = (rhs, e, m)
+    acc-nt (a_nt {rhs = rhs} e m) = (rhs, e, m)
 
     acc-tok : {a b : ℕ} {σ : List Sym} {ts : List ℕ} → Acc g (tok b ∷ σ) (a ∷ ts) → (a ≡ b) × Acc g σ ts
-    acc-tok (a-tok e m) = (e, m)
+    acc-tok (a_tok e m) = (e, m)
 
     acc-long : {a : ℕ} {ts : List ℕ} → Acc g [] (a ∷ ts) → ⊥
     acc-long m = elim m [ ]
@@ -154,17 +154,17 @@ module _ (g : List Row) where
     la-same (a ∷ d) h = refl
 
     no-acc : {σ : List Sym} {d r s : List ℕ} → Ref g σ d r → Same r s → Acc g σ (d ++ s) → ⊥
-    no-acc r-long same_head m = acc-long m
-    no-acc r-short same_end m = acc-short m
-    no-acc (r-other n) same_head m = n (acc-tok m).0
-    no-acc (r-stuck {A = A} {ts = r} e) h m =
+    no-acc r_long same_head m = acc-long m
+    no-acc r_short same_end m = acc-short m
+    no-acc (r_other n) same_head m = n (acc-tok m).0
+    no-acc (r_stuck {A = A} {ts = r} e) h m =
         let n = acc-nt m in
         let e₂ = n.1 in
         let l = ap (expand g A) (la-same [] h) in
         let z : ◌≡◌ {A = ℕ} 0 1 = cc in
         omega arith
-    no-acc (r-tok t) h m = no-acc t h (acc-tok m).1
-    no-acc {s = s} (r-nt {A = A} {σ = σ} {d = d} {r = r} {rhs = rhs} e t) h m =
+    no-acc (r_tok t) h m = no-acc t h (acc-tok m).1
+    no-acc {s = s} (r_nt {A = A} {σ = σ} {d = d} {r = r} {rhs = rhs} e t) h m =
         let n = acc-nt m in
         let e₂ = n.1 in
         let l = ap (expand g A) (la-same d h) in

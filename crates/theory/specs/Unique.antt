@@ -7,11 +7,11 @@ use mathlib.Core.List.{List, [], ◌∷◌, ◌++◌, map, append_assoc, append-
 use Rattle.std.proofs.Math.Option.{some}
 use native.Mathlib.Omega.{arith}
 use Rattle.std.proofs.Math.ListN.{drop, get_elem?}
-use Rattle.theory.specs.Grammar.{Sym, tok, nt, Row, row, alt, Der, d-end}
+use Rattle.theory.specs.Grammar.{Sym, tok, nt, Row, row, alt, Der, d_end}
 use Rattle.theory.specs.Machine.{la, choose, expand}
 use Rattle.theory.specs.Check.{good, parts}
 use Rattle.theory.specs.Predict.{Ok, taken, ok-append, der-append}
-use Rattle.theory.specs.Ebnf.{Ex, child, Ebnf, kindsOf, choices, Items, nil, word, sub, yield, Match, m-end, m-word, m-sub, m-choice, flat, sortOf}
+use Rattle.theory.specs.Ebnf.{Ex, child, Ebnf, kinds_of, choices, Items, nil, word, sub, yield, Match, m_end, m_word, m_sub, m_choice, flat, sort_of}
 use Rattle.theory.specs.Same.{ex, sames, child-alt, the-alt, choice-flat, flat-unfolds, never-mark, tok-mark, tok-child, tok-choice, map-append, to-der}
 use Rattle.theory.specs.Walk.{la-drop, Reads, n-end, n-tok, n-flat, n-sub}
 
@@ -33,7 +33,7 @@ module _ (t : Ebnf) (m : List Ex) (g : List Row) (s : List ℕ) where
     rest : Items
     a : ℕ
     category : ex m (nt A) ≡ child C
-    kind : get_elem? (kindsOf t C) i ≡ some k
+    kind : get_elem? (kinds_of t C) i ≡ some k
     choice : choose g A (get_or s at 0) ≡ suc i
     rule : alt g A (suc i) ≡ some rhs
     whole : r ≡ sub k js rest
@@ -47,12 +47,12 @@ module _ (t : Ebnf) (m : List Ex) (g : List Row) (s : List ℕ) where
   inv-tok (n-tok {r = r} h e p) = (r, refl, p)
 
   inv-nt : {A : ℕ} {σ : List Sym} {at j : ℕ} {r : Items} → Reads t m g s (nt A ∷ σ) at r j
-      → ((rhs : List Sym) × (sortOf (ex m (nt A)) ≡ flat) × (expand g A (get_or s at 0) ≡ some rhs) × Reads t m g s (rhs ++ σ) at r j) ⊎ Node A σ at r j
+      → ((rhs : List Sym) × (sort_of (ex m (nt A)) ≡ flat) × (expand g A (get_or s at 0) ≡ some rhs) × Reads t m g s (rhs ++ σ) at r j) ⊎ Node A σ at r j
   inv-nt (n-flat {rhs = rhs} f e p) = inl (rhs, f, e, p)
   inv-nt (n-sub {rhs = rhs} {js = js} {r = r} {a = a} C i k c x f e p q) = inr (record { C = C; i = i; k = k; rhs = rhs; js = js; rest = r; a = a; category = c; kind = x; choice = f; rule = e; whole = refl; inner = p; outer = q })
 
-  node-not-flat : (e : Ex) (C : ℕ) → e ≡ child C → sortOf e ≡ flat → ⊥
-  unfolding sortOf
+  node-not-flat : (e : Ex) (C : ℕ) → e ≡ child C → sort_of e ≡ flat → ⊥
+  unfolding sort_of
   node-not-flat e C p q = let h = rw p at q in let z : ◌≡◌ {A = ℕ} 0 1 = cc in omega arith
 
   -- Reading gives one result.
@@ -61,20 +61,20 @@ module _ (t : Ebnf) (m : List Ex) (g : List Row) (s : List ℕ) where
   reads-one (n-tok {b = b} h e p) q = let v = inv-tok q in let o = reads-one p v.2 in (cc v.1, o.1)
   reads-one {at = at} {j = j} {i = i} {r = r} {u = u} (n-flat {A = A} {σ = σ} {rhs = rhs} f e p) q = go (inv-nt q) (λ p₂. reads-one p p₂)
     where
-      go : ((rhs₂ : List Sym) × (sortOf (ex m (nt A)) ≡ flat) × (expand g A (get_or s at 0) ≡ some rhs₂) × Reads t m g s (rhs₂ ++ σ) at u i) ⊎ Node A σ at u i
+      go : ((rhs₂ : List Sym) × (sort_of (ex m (nt A)) ≡ flat) × (expand g A (get_or s at 0) ≡ some rhs₂) × Reads t m g s (rhs₂ ++ σ) at u i) ⊎ Node A σ at u i
           → (Reads t m g s (rhs ++ σ) at u i → (r ≡ u) × (j ≡ i)) → (r ≡ u) × (j ≡ i)
       go (inl v) ih = let v₂ = v.2 in let w : v.0 ≡ rhs = cc in ih (subst (λ (l : List Sym). Reads t m g s (l ++ σ) at u i) w v.3)
       go (inr v) ih = absurd (node-not-flat (ex m (nt A)) v.C v.category f)
   reads-one {at = at} {j = j} {i = i} {u = u} (n-sub {A = A} {σ = σ} {rhs = rhs} {js = js} {r = r} {a = a} C n k c x f e p p') q = go (inv-nt q) (λ js₂ a₂ p₂. reads-one p p₂) (λ r₂ j₂ p₂. reads-one p' p₂)
     where
-      go : ((rhs₂ : List Sym) × (sortOf (ex m (nt A)) ≡ flat) × (expand g A (get_or s at 0) ≡ some rhs₂) × Reads t m g s (rhs₂ ++ σ) at u i) ⊎ Node A σ at u i
+      go : ((rhs₂ : List Sym) × (sort_of (ex m (nt A)) ≡ flat) × (expand g A (get_or s at 0) ≡ some rhs₂) × Reads t m g s (rhs₂ ++ σ) at u i) ⊎ Node A σ at u i
           → ((js₂ : Items) (a₂ : ℕ) → Reads t m g s rhs at js₂ a₂ → (js ≡ js₂) × (a ≡ a₂)) → ((r₂ : Items) (j₂ : ℕ) → Reads t m g s σ a r₂ j₂ → (r ≡ r₂) × (j ≡ j₂)) → (sub k js r ≡ u) × (j ≡ i)
       go (inl v) ih ih' = absurd (node-not-flat (ex m (nt A)) C c v.1)
       go (inr v) ih ih' =
           let c₂ = v.category in let x₂ = v.kind in let f₂ = v.choice in let e₂ = v.rule in let w = v.whole in
           let d : v.C ≡ C = cc in
           let y : v.i ≡ n = cc in
-          let z : v.k ≡ k = cc (ap (λ (D : ℕ). get_elem? (kindsOf t D) v.i) d, ap (get_elem? (kindsOf t C)) y) in
+          let z : v.k ≡ k = cc (ap (λ (D : ℕ). get_elem? (kinds_of t D) v.i) d, ap (get_elem? (kinds_of t C)) y) in
           let l : v.rhs ≡ rhs = cc (ap (alt g A) (ap suc y)) in
           let o = ih v.js v.a (subst (λ (l : List Sym). Reads t m g s l at v.js v.a) l v.inner) in
           let o' = ih' v.rest i (subst (λ (b : ℕ). Reads t m g s σ b v.rest i) (sym o.1) v.outer) in
@@ -100,24 +100,24 @@ module _ (t : Ebnf) (m : List Ex) (g : List Row) (s : List ℕ) where
     at_place : (A i : ℕ) (σ rhs : List Sym) (at : ℕ) (ts : List ℕ) → Ok g (nt A ∷ σ) → alt g A i ≡ some rhs → Der g (rhs ++ σ) ts → drop at s ≡ ts → choose g A (get_or s at 0) ≡ i
     at_place A i σ rhs at ts k e d w = subst (λ (a : ℕ). choose g A a ≡ i) (ap la (sym w) ∙ la-drop s at) (taken g ok σ rhs A i k e d)
 
-    done-flat : (A i : ℕ) (σ rhs : List Sym) (at : ℕ) (r : Items) (rest : List ℕ) → sortOf (ex m (nt A)) ≡ flat → choose g A (get_or s at 0) ≡ i → alt g A i ≡ some rhs → Done (rhs ++ σ) at r rest → Done (nt A ∷ σ) at r rest
+    done-flat : (A i : ℕ) (σ rhs : List Sym) (at : ℕ) (r : Items) (rest : List ℕ) → sort_of (ex m (nt A)) ≡ flat → choose g A (get_or s at 0) ≡ i → alt g A i ≡ some rhs → Done (rhs ++ σ) at r rest → Done (nt A ∷ σ) at r rest
     done-flat A i σ rhs at r rest f c e d = let x : expand g A (get_or s at 0) ≡ some rhs = rw c e in record { j = d.j; reads = n-flat f x d.reads; left = d.left }
 
-    done-node : (A C i k : ℕ) (σ rhs : List Sym) (at : ℕ) (js r : Items) (mid rest : List ℕ) → ex m (nt A) ≡ child C → get_elem? (kindsOf t C) i ≡ some k → choose g A (get_or s at 0) ≡ suc i
+    done-node : (A C i k : ℕ) (σ rhs : List Sym) (at : ℕ) (js r : Items) (mid rest : List ℕ) → ex m (nt A) ≡ child C → get_elem? (kinds_of t C) i ≡ some k → choose g A (get_or s at 0) ≡ suc i
         → alt g A (suc i) ≡ some rhs → Done rhs at js mid → ((a : ℕ) → drop a s ≡ mid → Done σ a r rest) → Done (nt A ∷ σ) at (sub k js r) rest
     done-node A C i k σ rhs at js r mid rest c x f e d h = let q = h d.j d.left in record { j = q.j; reads = n-sub C i k c x f e d.reads q.reads; left = q.left }
 
     -- Items that match are read where their tokens stand, if what is left is derived by what comes after.
     match-reads : {es : List Ex} {r : Items} → Match t es r → (σ τ : List Sym) (at : ℕ) (rest : List ℕ) → map (ex m) σ ≡ es → Ok g (σ ++ τ) → Der g τ rest → drop at s ≡ yield r ++ rest → Done σ at r rest
     unfolding yield
-    match-reads m-end [] τ at rest e k d w = done_end at rest w
-    match-reads m-end (x ∷ σ) τ at rest e k d w = let z : ◌≡◌ {A = ℕ} 0 1 = cc in absurd (omega arith)
-    match-reads (m-word n) [] τ at rest e k d w = let z : ◌≡◌ {A = ℕ} 0 1 = cc in absurd (omega arith)
-    match-reads (m-word {c = c} {r = r} n) (tok a ∷ σ) τ at rest e k d w = done-word a c σ at r rest (yield r ++ rest) (tok-mark t m a c (cc)) w (λ w₂. match-reads n σ τ (at + 1) rest (cc) k d w₂)
-    match-reads (m-word {c = c} n) (nt A ∷ σ) τ at rest e k d w = absurd (never-mark t m g same A c (cc))
-    match-reads (m-sub i p b n) [] τ at rest e k d w = let z : ◌≡◌ {A = ℕ} 0 1 = cc in absurd (omega arith)
-    match-reads (m-sub {C = C} i p b n) (tok a ∷ σ) τ at rest e k d w = absurd (tok-child t m a C (cc))
-    match-reads (m-sub {C = C} {k = x} {js = js} {r = r} i p b n) (nt A ∷ σ) τ at rest e k d w =
+    match-reads m_end [] τ at rest e k d w = done_end at rest w
+    match-reads m_end (x ∷ σ) τ at rest e k d w = let z : ◌≡◌ {A = ℕ} 0 1 = cc in absurd (omega arith)
+    match-reads (m_word n) [] τ at rest e k d w = let z : ◌≡◌ {A = ℕ} 0 1 = cc in absurd (omega arith)
+    match-reads (m_word {c = c} {r = r} n) (tok a ∷ σ) τ at rest e k d w = done-word a c σ at r rest (yield r ++ rest) (tok-mark t m a c (cc)) w (λ w₂. match-reads n σ τ (at + 1) rest (cc) k d w₂)
+    match-reads (m_word {c = c} n) (nt A ∷ σ) τ at rest e k d w = absurd (never-mark t m g same A c (cc))
+    match-reads (m_sub i p b n) [] τ at rest e k d w = let z : ◌≡◌ {A = ℕ} 0 1 = cc in absurd (omega arith)
+    match-reads (m_sub {C = C} i p b n) (tok a ∷ σ) τ at rest e k d w = absurd (tok-child t m a C (cc))
+    match-reads (m_sub {C = C} {k = x} {js = js} {r = r} i p b n) (nt A ∷ σ) τ at rest e k d w =
         let h = child-alt t m g same A C i x (cc) p in
         let rhs : List Sym = h.0 in
         let d₁ : Der g (σ ++ τ) (yield r ++ rest) = der-append g (to-der t m g same n σ (cc)) d in
@@ -128,9 +128,9 @@ module _ (t : Ebnf) (m : List Ex) (g : List Row) (s : List ℕ) where
         done-node A C i x σ rhs at js r (yield r ++ rest) rest (cc) p f h.1
         (match-reads b rhs (σ ++ τ) at (yield r ++ rest) h.2 o d₁ w₂)
         (λ a w₃. match-reads n σ τ a rest (cc) k.1 d w₃)
-    match-reads (m-choice i p n) [] τ at rest e k d w = let z : ◌≡◌ {A = ℕ} 0 1 = cc in absurd (omega arith)
-    match-reads (m-choice {e = y} i p n) (tok a ∷ σ) τ at rest e k d w = absurd (tok-choice t m a y i (cc) p)
-    match-reads (m-choice {e = y} {es = es} {α = α} {r = r} i p n) (nt A ∷ σ) τ at rest e k d w =
+    match-reads (m_choice i p n) [] τ at rest e k d w = let z : ◌≡◌ {A = ℕ} 0 1 = cc in absurd (omega arith)
+    match-reads (m_choice {e = y} i p n) (tok a ∷ σ) τ at rest e k d w = absurd (tok-choice t m a y i (cc) p)
+    match-reads (m_choice {e = y} {es = es} {α = α} {r = r} i p n) (nt A ∷ σ) τ at rest e k d w =
         let c : ex m (nt A) ≡ y = cc in
         let q : map (ex m) σ ≡ es = cc in
         let fl = choice-flat t y i p in
@@ -145,7 +145,7 @@ module _ (t : Ebnf) (m : List Ex) (g : List Row) (s : List ℕ) where
     -- A tree is read from its own tokens.
     pub tree-reads : (σ : List Sym) (r : Items) → Ok g σ → Match t (map (ex m) σ) r → yield r ≡ s → (j : ℕ) × Reads t m g s σ 0 r j × (drop j s ≡ [])
     tree-reads σ r k n e =
-        let d = match-reads n σ [] 0 [] refl (rw append-nil k) d-end (sym e ∙ sym (append-nil (yield r))) in
+        let d = match-reads n σ [] 0 [] refl (rw append-nil k) d_end (sym e ∙ sym (append-nil (yield r))) in
         (d.j, d.reads, d.left)
 
 -- Two trees with the same tokens are one.

@@ -13,10 +13,10 @@ use Rattle.std.proofs.Math.ListN.{drop, get_elem?}
 use Rattle.std.proofs.Math.Seq.{drop-cons}
 use Rattle.text.specs.Lists.{has}
 use Rattle.theory.specs.Grammar.{Sym, tok, nt, Row, row, alt, Der}
-use Rattle.theory.specs.Machine.{la, choose, expand, Ref, r-long, r-short, r-other, r-stuck, r-tok, r-nt, Same}
+use Rattle.theory.specs.Machine.{la, choose, expand, Ref, r_long, r_short, r_other, r_stuck, r_tok, r_nt, Same}
 use Rattle.theory.specs.Check.{good}
 use Rattle.theory.specs.Predict.{viable, no-further, start-ok}
-use Rattle.theory.specs.Ebnf.{Ex, child, Ebnf, kindsOf, body_of, choices, Items, nil, word, sub, yield, Match, m-end, m-word, m-sub, m-choice, flat, sortOf}
+use Rattle.theory.specs.Ebnf.{Ex, child, Ebnf, kinds_of, body_of, choices, Items, nil, word, sub, yield, Match, m_end, m_word, m_sub, m_choice, flat, sort_of}
 use Rattle.theory.specs.Same.{ex, sames, child-alt, the-choice, flat-unfolds, no_zero, map-append}
 
 -- Items side by side.
@@ -50,17 +50,17 @@ module _ (t : Ebnf) (m : List Ex) (g : List Row) (s : List ℕ) where
   pub data Reads : List Sym → ℕ → Items → ℕ → Type 0 where
     n-end : {at : ℕ} → Reads [] at nil at
     n-tok : {b : ℕ} {σ : List Sym} {at : ℕ} {r : Items} {j : ℕ} → at < length s → get_or s at 0 ≡ b → Reads σ (at + 1) r j → Reads (tok b ∷ σ) at (word b r) j
-    n-flat : {A : ℕ} {σ rhs : List Sym} {at : ℕ} {r : Items} {j : ℕ} → sortOf (ex m (nt A)) ≡ flat → expand g A (get_or s at 0) ≡ some rhs → Reads (rhs ++ σ) at r j → Reads (nt A ∷ σ) at r j
-    n-sub : {A : ℕ} {σ rhs : List Sym} {at : ℕ} {js r : Items} {a j : ℕ} (C i k : ℕ) → ex m (nt A) ≡ child C → get_elem? (kindsOf t C) i ≡ some k
+    n-flat : {A : ℕ} {σ rhs : List Sym} {at : ℕ} {r : Items} {j : ℕ} → sort_of (ex m (nt A)) ≡ flat → expand g A (get_or s at 0) ≡ some rhs → Reads (rhs ++ σ) at r j → Reads (nt A ∷ σ) at r j
+    n-sub : {A : ℕ} {σ rhs : List Sym} {at : ℕ} {js r : Items} {a j : ℕ} (C i k : ℕ) → ex m (nt A) ≡ child C → get_elem? (kinds_of t C) i ≡ some k
         → choose g A (get_or s at 0) ≡ suc i → alt g A (suc i) ≡ some rhs → Reads rhs at js a → Reads σ a r j → Reads (nt A ∷ σ) at (sub k js r) j
 
   -- The symbols, read from the first place, are stuck at the second: the token there is not the one that stands next, or there is
   -- none, or the table has nothing for it.
   pub data Sticks : List Sym → ℕ → ℕ → Type 0 where
-    k-tok : {b : ℕ} {σ : List Sym} {at : ℕ} → (at < length s → get_or s at 0 ≡ b → ⊥) → Sticks (tok b ∷ σ) at at
-    k-nt : {A : ℕ} {σ : List Sym} {at : ℕ} → expand g A (get_or s at 0) ≡ none → Sticks (nt A ∷ σ) at at
-    k-eat : {b : ℕ} {σ : List Sym} {at p : ℕ} → at < length s → get_or s at 0 ≡ b → Sticks σ (at + 1) p → Sticks (tok b ∷ σ) at p
-    k-in : {A : ℕ} {σ rhs : List Sym} {at p : ℕ} → expand g A (get_or s at 0) ≡ some rhs → Sticks (rhs ++ σ) at p → Sticks (nt A ∷ σ) at p
+    k_tok : {b : ℕ} {σ : List Sym} {at : ℕ} → (at < length s → get_or s at 0 ≡ b → ⊥) → Sticks (tok b ∷ σ) at at
+    k_nt : {A : ℕ} {σ : List Sym} {at : ℕ} → expand g A (get_or s at 0) ≡ none → Sticks (nt A ∷ σ) at at
+    k_eat : {b : ℕ} {σ : List Sym} {at p : ℕ} → at < length s → get_or s at 0 ≡ b → Sticks σ (at + 1) p → Sticks (tok b ∷ σ) at p
+    k_in : {A : ℕ} {σ rhs : List Sym} {at p : ℕ} → expand g A (get_or s at 0) ≡ some rhs → Sticks (rhs ++ σ) at p → Sticks (nt A ∷ σ) at p
 
   chosen_is : (A i : ℕ) {rhs : List Sym} (a : ℕ) → choose g A a ≡ i → alt g A i ≡ some rhs → expand g A a ≡ some rhs
   chosen_is A i a c e = rw c e
@@ -75,9 +75,9 @@ module _ (t : Ebnf) (m : List Ex) (g : List Row) (s : List ℕ) where
   -- Read, and what follows stuck.
   pub reads-sticks : {σ τ : List Sym} {at a p : ℕ} {r : Items} → Reads σ at r a → Sticks τ a p → Sticks (σ ++ τ) at p
   reads-sticks n-end q = q
-  reads-sticks (n-tok h e p) q = k-eat h e (reads-sticks p q)
-  reads-sticks (n-flat f e p) q = k-in e (rw append_assoc at (reads-sticks p q))
-  reads-sticks {at = at} (n-sub {A = A} C i k c x f e p p') q = k-in (chosen_is A (suc i) (get_or s at 0) f e) (reads-sticks p (reads-sticks p' q))
+  reads-sticks (n-tok h e p) q = k_eat h e (reads-sticks p q)
+  reads-sticks (n-flat f e p) q = k_in e (rw append_assoc at (reads-sticks p q))
+  reads-sticks {at = at} (n-sub {A = A} C i k c x f e p p') q = k_in (chosen_is A (suc i) (get_or s at 0) f e) (reads-sticks p (reads-sticks p' q))
 
   -- What is read are the tokens between the two places.
   pub reads-yield : {σ : List Sym} {at j : ℕ} {r : Items} → Reads σ at r j → drop at s ≡ yield r ++ drop j s
@@ -105,32 +105,32 @@ module _ (t : Ebnf) (m : List Ex) (g : List Row) (s : List ℕ) where
       omega arith
 
   module _ (same : T (sames t m g m)) where
-    flat-choice : (A i : ℕ) {rhs : List Sym} → sortOf (ex m (nt A)) ≡ flat → alt g A i ≡ some rhs → (j : ℕ) × (get_elem? (choices t (ex m (nt A))) j ≡ some (map (ex m) rhs))
+    flat-choice : (A i : ℕ) {rhs : List Sym} → sort_of (ex m (nt A)) ≡ flat → alt g A i ≡ some rhs → (j : ℕ) × (get_elem? (choices t (ex m (nt A))) j ≡ some (map (ex m) rhs))
     flat-choice A zero f e = absurd (no_zero t m g same A e)
     flat-choice A (suc j) f e = (j, the-choice t m g same A j (ex m (nt A)) (choices t (ex m (nt A))) refl (flat-unfolds t (ex m (nt A)) f) e)
 
     tok-is : (b : ℕ) {es : List Ex} {r : Items} → Match t es r → Match t (ex m (tok b) ∷ es) (word b r)
     unfolding ex
-    tok-is b k = m-word k
+    tok-is b k = m_word k
 
     -- What is read is what the expressions say.
     pub reads-match : {σ : List Sym} {at j : ℕ} {r : Items} → Reads σ at r j → Match t (map (ex m) σ) r
-    reads-match n-end = m-end
+    reads-match n-end = m_end
     reads-match (n-tok {b = b} h e p) = tok-is b (reads-match p)
     reads-match {at = at} (n-flat {A = A} {rhs = rhs} f e p) =
         let h = flat-choice A (choose g A (get_or s at 0)) f e in
-        m-choice h.0 h.1 (rw map-append at (reads-match p))
+        m_choice h.0 h.1 (rw map-append at (reads-match p))
     reads-match (n-sub {A = A} {σ = σ} {rhs = rhs} {js = js} {r = r} C i k c x f e p p') =
         let h = child-alt t m g same A C i k c x in
         let h₁ = h.1 in
         let q : h.0 ≡ rhs = cc in
         let w : map (ex m) rhs ≡ body_of t k = rw q at h.2 in
         let d : Match t (body_of t k) js = subst (λ (l : List Ex). Match t l js) w (reads-match p) in
-        subst (λ (y : Ex). Match t (y ∷ map (ex m) σ) (sub k js r)) (sym c) (m-sub i x d (reads-match p'))
+        subst (λ (y : Ex). Match t (y ∷ map (ex m) σ) (sub k js r)) (sym c) (m_sub i x d (reads-match p'))
 
   lacks : (b : ℕ) (σ : List Sym) (at : ℕ) → (at < length s → get_or s at 0 ≡ b → ⊥) → Dec (at < length s) → Ref g (tok b ∷ σ) [] (drop at s)
-  lacks b σ at n (yes h) = rw (drop-cons s at 0 h) (r-other (n h))
-  lacks b σ at n (no h) = let q : length s ≤ at = omega arith in let e : drop at s ≡ [] = drop_of_length-le s q in rw e r-short
+  lacks b σ at n (yes h) = rw (drop-cons s at 0 h) (r_other (n h))
+  lacks b σ at n (no h) = let q : length s ≤ at = omega arith in let e : drop at s ≡ [] = drop_of_length-le s q in rw e r_short
 
   -- The machine takes the tokens from the first place to the second and refuses there.
   pub record Refuses (σ : List Sym) (at p : ℕ) : Type 0 where
@@ -144,35 +144,35 @@ module _ (t : Ebnf) (m : List Ex) (g : List Row) (s : List ℕ) where
 
   -- Where the symbols are stuck the machine refuses.
   pub sticks-refuses : {σ : List Sym} {at p : ℕ} → Sticks σ at p → Refuses σ at p
-  sticks-refuses (k-tok {b = b} {σ = σ} {at = at} n) = record { done = []; whole = refl; long = omega arith; ref = lacks b σ at n (dec_lt at (length s)) }
-  sticks-refuses (k-nt {A = A} {at = at} e) = let f : expand g A (la (drop at s)) ≡ none = rw la-drop e in record { done = []; whole = refl; long = omega arith; ref = r-stuck f }
-  sticks-refuses (k-eat {b = b} {at = at} {p = p} h e k) =
+  sticks-refuses (k_tok {b = b} {σ = σ} {at = at} n) = record { done = []; whole = refl; long = omega arith; ref = lacks b σ at n (dec_lt at (length s)) }
+  sticks-refuses (k_nt {A = A} {at = at} e) = let f : expand g A (la (drop at s)) ≡ none = rw la-drop e in record { done = []; whole = refl; long = omega arith; ref = r_stuck f }
+  sticks-refuses (k_eat {b = b} {at = at} {p = p} h e k) =
       let r = sticks-refuses k in
       let l = r.long in
       record {
         done = b ∷ r.done;
         whole = drop-cons s at 0 h ∙ (rw (← add-one, e) (ap (λ (l : List ℕ). b ∷ l) r.whole));
         long = omega arith;
-        ref = r-tok r.ref;
+        ref = r_tok r.ref;
       }
-  sticks-refuses (k-in {A = A} {at = at} {p = p} e k) =
+  sticks-refuses (k_in {A = A} {at = at} {p = p} e k) =
       let r = sticks-refuses k in
-      record { done = r.done; whole = r.whole; long = r.long; ref = r-nt (sees A at (r.done ++ drop p s) e r.whole) r.ref }
+      record { done = r.done; whole = r.whole; long = r.long; ref = r_nt (sees A at (r.done ++ drop p s) e r.whole) r.ref }
 
   -- Read, and then refused by the machine.
   pub reads-ref : {σ τ : List Sym} {at j : ℕ} {r : Items} {d x : List ℕ} → Reads σ at r j → drop j s ≡ d ++ x → Ref g τ d x → Ref g (σ ++ τ) (yield r ++ d) x
   unfolding yield
   reads-ref n-end w q = q
-  reads-ref (n-tok h e p) w q = r-tok (reads-ref p w q)
+  reads-ref (n-tok h e p) w q = r_tok (reads-ref p w q)
   reads-ref {τ = τ} {at = at} {r = r} {d = d} {x = x} (n-flat {A = A} {σ = σ} {rhs = rhs} f e p) w q =
-      r-nt (sees A at ((yield r ++ d) ++ x) e (reads-yield p ∙ ap (λ (l : List ℕ). yield r ++ l) w ∙ rw append_assoc))
+      r_nt (sees A at ((yield r ++ d) ++ x) e (reads-yield p ∙ ap (λ (l : List ℕ). yield r ++ l) w ∙ rw append_assoc))
       (rw append_assoc at (reads-ref p w q))
   reads-ref {τ = τ} {at = at} {d = d} {x = x} (n-sub {A = A} {js = js} {r = r} C i k c y f e p p') w q =
       let z = reads-ref p' w q in
       let v : drop at s ≡ (yield js ++ (yield r ++ d)) ++ x =
       reads-yield p ∙ ap (λ (l : List ℕ). yield js ++ l) (reads-yield p') ∙ ap (λ (l : List ℕ). yield js ++ (yield r ++ l)) w ∙ sym (simp append_assoc) in
       rw append_assoc
-      (r-nt (sees A at ((yield js ++ (yield r ++ d)) ++ x) (chosen_is A (suc i) (get_or s at 0) f e) v)
+      (r_nt (sees A at ((yield js ++ (yield r ++ d)) ++ x) (chosen_is A (suc i) (get_or s at 0) f e) v)
       (reads-ref p (reads-yield p' ∙ ap (λ (l : List ℕ). yield r ++ l) w ∙ rw append_assoc) z))
 
   -- The tokens are refused at the place p: those before it begin a word of S, and no word of S goes on with the token there, or ends
@@ -202,5 +202,5 @@ module _ (t : Ebnf) (m : List Ex) (g : List Row) (s : List ℕ) where
     pub long-stops : {p : ℕ} {r : Items} → Reads (nt S ∷ []) 0 r p → p < length s → Stops S p
     long-stops {p} {r} k h =
         let l = reads-length k (omega arith) in
-        let z : Ref g [] [] (drop p s) = rw (drop-cons s p 0 h) r-long in
+        let z : Ref g [] [] (drop p s) = rw (drop-cons s p 0 h) r_long in
         stops (yield r) (reads-yield k) (omega arith) (rw (append-nil (yield r)) at (reads-ref k refl z))

@@ -4,15 +4,15 @@
 ghost use Rattle.std.specs.Prelude.{◌≡◌, ◌↔◌, ◌<◌, length};
 ghost use Rattle.load.specs.Load.{load_of, words_of};
 ghost use Rattle.load.specs.Promised.{Loads};
-ghost use Rattle.reader.specs.Listed.{listingOf, usedOf, bytes_of};
-ghost use Rattle.reader.specs.Loading.{recordsLoaded, refusalLoaded, Refusing};
+ghost use Rattle.reader.specs.Listed.{listing_of, used_of, bytes_of};
+ghost use Rattle.reader.specs.Loading.{records_loaded, refusal_loaded, Refusing};
 
 // Lists a draft: its lines, zeros behind them; 0 and zeros alone if the buffer is too short for them.
 #[unsafe(no_mangle)]
 pub extern "C" fn togmelic_list(draft: &[u8], out: &mut [u8]) -> usize
-    ensures used { result ≡ usedOf draft.now (length out.old) }
+    ensures used { result ≡ used_of draft.now (length out.old) }
     ensures bytes { out.new ≡ bytes_of draft.now (length out.old) }
-    ensures nothing { (result ≡ 0) ↔ (length out.old < length (listingOf draft.now)) }
+    ensures nothing { (result ≡ 0) ↔ (length out.old < length (listing_of draft.now)) }
 {
     reader::entry::list_draft(draft, out)
 }
@@ -25,9 +25,9 @@ pub extern "C" fn togmelic_load(
     words: &mut [u32],
     refusal: &mut [usize; 2],
 ) -> usize
-    ensures records { result ≡ recordsLoaded listing.now (length words.old) }
+    ensures records { result ≡ records_loaded listing.now (length words.old) }
     ensures words { words.new ≡ words_of listing.now (length words.old) }
-    ensures refusal { refusal.new ≡ refusalLoaded listing.now (length words.old) }
+    ensures refusal { refusal.new ≡ refusal_loaded listing.now (length words.old) }
     ensures nothing { (result ≡ 0) ↔ Refusing (load_of listing.now (length words.old)) }
     ensures laws { Loads listing.now (length words.old) (load_of listing.now (length words.old)) words.new }
 {

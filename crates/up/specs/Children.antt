@@ -5,8 +5,8 @@ use Rattle.std.specs.Prelude.{Bool, true, false, List, [], ◌∷◌, ◌≡◌,
 use Rattle.std.proofs.Common.{sym, ap, ◌∙◌, subst, arith, ltb-true, ltb-false, get_or-drop, length-drop, drop-cons}
 use Rattle.std.proofs.lemmas.List.{get_or-take, length-take}
 use Rattle.own.specs.Tree.{Rec}
-use Rattle.own.specs.Flat.{blank, row, headChildren, children}
-use Rattle.up.specs.Ways.{back, wayUp, sizeOf}
+use Rattle.own.specs.Flat.{blank, row, head_children, children}
+use Rattle.up.specs.Ways.{back, way_up, size_of}
 use Rattle.up.specs.Laws.{found, passed}
 
 -- The record j is one of the children of the record k.
@@ -59,7 +59,7 @@ module _ (s : ℕ → ℕ) (i : ℕ) where
           less false q = let g : m ≡ p = omega (arith, h, ltb-false p m q) in absurd (omega (arith, l, subst (λ (j : ℕ). j + s j ≤ i) g (ltb-false i (m + s m) e)))
 
 -- Side by side from the front of a list on, records that end before j or with it come to j.
-in-row : (f : ℕ) (l : List Rec) (j : ℕ) → j < length l → length l ≤ f → ((i : ℕ) → i < j → (0 < sizeOf l i) × (i + sizeOf l i ≤ j))
+in-row : (f : ℕ) (l : List Rec) (j : ℕ) → j < length l → length l ≤ f → ((i : ℕ) → i < j → (0 < size_of l i) × (i + size_of l i ≤ j))
     → (m : ℕ) × (m < length (row f l)) × (get_or (row f l) m blank ≡ get_or l j blank)
 in-row zero [] j h k g = absurd (omega (arith, h))
 in-row zero (r ∷ l) j h k g = absurd (omega (arith, k))
@@ -69,20 +69,20 @@ in-row (suc f) (r ∷ l) (suc j) h k g =
     let (some, ends) = g 0 (omega arith) in
     let d : ℕ = r.size - 1 in
     let e : d + (j - d) ≡ j = omega (arith, some, ends) in
-    let sizes : (i : ℕ) → sizeOf (drop d l) i ≡ sizeOf l (d + i) = λ i. ap (λ (x : Rec). x.size) (get_or-drop d l i blank) in
+    let sizes : (i : ℕ) → size_of (drop d l) i ≡ size_of l (d + i) = λ i. ap (λ (x : Rec). x.size) (get_or-drop d l i blank) in
     let next =
     in-row f (drop d l) (j - d) (omega (arith, length-drop d l, some, ends, h)) (omega (arith, length-drop d l, k))
     (λ i b. let (y, z) = g (suc (d + i)) (omega (arith, b)) in (omega (arith, y, sizes i), omega (arith, z, sizes i))) in
     (suc next.0, omega (arith, next.1), next.2 ∙ get_or-drop d l (j - d) blank ∙ ap (λ (i : ℕ). get_or l i blank) e)
 
 -- So is a record among the children of the last before it that reaches over it.
-child-of : (rs : List Rec) (k j : ℕ) → k < j → j < length rs → j < k + sizeOf rs k → ((i : ℕ) → k < i → i < j → (0 < sizeOf rs i) × (i + sizeOf rs i ≤ j)) → ChildOf rs k j
+child-of : (rs : List Rec) (k j : ℕ) → k < j → j < length rs → j < k + size_of rs k → ((i : ℕ) → k < i → i < j → (0 < size_of rs i) × (i + size_of rs i ≤ j)) → ChildOf rs k j
 child-of rs k j a b c g =
     let r : Rec = get_or rs k blank in
     let rest : List Rec = drop (suc k) rs in
     let l : List Rec = take (r.size - 1) rest in
     let split : drop k rs ≡ r ∷ rest = drop-cons rs k blank (omega (arith, a, b)) in
-    let are : children rs k ≡ row r.size l = ap headChildren split in
+    let are : children rs k ≡ row r.size l = ap head_children split in
     let at : (i : ℕ) → i < r.size - 1 → get_or l i blank ≡ get_or rs (suc k + i) blank =
     λ i h. get_or-take (r.size - 1) rest i blank h ∙ get_or-drop (suc k) rs i blank in
     let e : suc k + (j - suc k) ≡ j = omega (arith, a) in
@@ -90,7 +90,7 @@ child-of rs k j a b c g =
     let found =
     in-row r.size l (j - suc k) (omega (arith, long, length-drop (suc k) rs, a, b, c)) (omega (arith, long))
     (λ i h.
-    let q : sizeOf l i ≡ sizeOf rs (suc k + i) = ap (λ (x : Rec). x.size) (at i (omega (arith, h, c))) in
+    let q : size_of l i ≡ size_of rs (suc k + i) = ap (λ (x : Rec). x.size) (at i (omega (arith, h, c))) in
     let (y, z) = g (suc k + i) (omega arith) (omega (arith, h)) in
     (omega (arith, y, q), omega (arith, z, q))) in
     record {
@@ -100,9 +100,9 @@ child-of rs k j a b c g =
     }
 
 -- The law, where every record counts itself.
-pub leads : (rs : List Rec) (j : ℕ) → j < length rs → ((i : ℕ) → i < length rs → 0 < sizeOf rs i) → 0 < wayUp (sizeOf rs) j → ChildOf rs (j - wayUp (sizeOf rs) j) j
+pub leads : (rs : List Rec) (j : ℕ) → j < length rs → ((i : ℕ) → i < length rs → 0 < size_of rs i) → 0 < way_up (size_of rs) j → ChildOf rs (j - way_up (size_of rs) j) j
 leads rs j h some w =
-    let x = back-found (sizeOf rs) j j w in
+    let x = back-found (size_of rs) j j w in
     let b = x.before in
-    let e : x.at ≡ j - wayUp (sizeOf rs) j = omega (arith, x.way, b) in
+    let e : x.at ≡ j - way_up (size_of rs) j = omega (arith, x.way, b) in
     subst (λ (k : ℕ). ChildOf rs k j) e (child-of rs x.at j b h x.over (λ i p q. (some i (omega (arith, q, h)), x.last i p q)))

@@ -3,7 +3,7 @@
 use Rattle.std.specs.Prelude.{Bool, true, false, ◌≡◌, refl, ℕ, zero, suc, ◌+◌, ◌-◌, ◌<◌, ◌≤◌, ltb}
 use Rattle.std.proofs.Common.{sym, ap, ◌∙◌, subst, arith, ltb-true, ltb-false}
 use Rattle.std.proofs.Math.Decide.{dec_lt}
-use Rattle.up.specs.Ways.{back, wayUp}
+use Rattle.up.specs.Ways.{back, way_up}
 use Rattle.up.specs.Laws.{found, passed, back-within}
 
 module _ (s : ℕ → ℕ) where
@@ -34,17 +34,17 @@ module _ (s : ℕ → ℕ) where
 -- On the way from record to record: p is the last before i that may reach over it.
 pub record Climbs (s : ℕ → ℕ) (i p : ℕ) : Type 0 where
   pub before : p < i
-  pub same : back s i (suc p) ≡ wayUp s i
+  pub same : back s i (suc p) ≡ way_up s i
 
 module _ {s : ℕ → ℕ} {i p : ℕ} (c : Climbs s i p) where
-  pub arrives : i - p < s p → i - p ≡ wayUp s i
+  pub arrives : i - p < s p → i - p ≡ way_up s i
   arrives h = let l = c.before in sym (found s i p (omega (arith, h, l))) ∙ c.same
 
-  module _ {u : ℕ} (h : s p ≤ i - p) (e : u ≡ wayUp s p) where
-    next : back s i p ≡ wayUp s i
+  module _ {u : ℕ} (h : s p ≤ i - p) (e : u ≡ way_up s p) where
+    next : back s i p ≡ way_up s i
     next = let l = c.before in sym (passed s i p (omega (arith, h, l))) ∙ c.same
 
-    pub tops : u ≡ 0 → 0 ≡ wayUp s i
+    pub tops : u ≡ 0 → 0 ≡ way_up s i
     tops z = let l = c.before in sym (skips-all s i p p (omega arith) (omega (arith, l)) (sym e ∙ z)) ∙ next
 
     pub less : u ≤ p
@@ -63,23 +63,23 @@ starts s zero n = absurd (n refl)
 starts s (suc i) n = record { before = omega arith; same = ap (λ (k : ℕ). back s (suc i) (suc k)) (omega arith) }
 
 -- Where the record before i ends before it, the way goes on from the parent of that record; from the record itself, if it has none.
-pub resumes : {s : ℕ → ℕ} {i p : ℕ} → 0 < i → s (i - 1) ≤ 1 → p ≡ i - 1 - wayUp s (i - 1) → Climbs s i p
-resumes {s} {i} {p} n h e = go (dec_lt 0 (wayUp s (i - 1)))
+pub resumes : {s : ℕ → ℕ} {i p : ℕ} → 0 < i → s (i - 1) ≤ 1 → p ≡ i - 1 - way_up s (i - 1) → Climbs s i p
+resumes {s} {i} {p} n h e = go (dec_lt 0 (way_up s (i - 1)))
   where
     c : Climbs s i (i - 1)
     c = starts s i (λ z. omega (arith, n, z))
 
-    go : Dec (0 < wayUp s (i - 1)) → Climbs s i p
+    go : Dec (0 < way_up s (i - 1)) → Climbs s i p
     go (yes l) = subst (Climbs s i) (sym e) (climbs c (omega (arith, h, n)) refl (λ z. omega (arith, l, z)))
     go (no k) = let g : i - 1 ≡ p = omega (arith, k, e) in subst (Climbs s i) g c
 
 -- One that is held by the record before it, or by another that the way comes to; and one that is held by none.
 module _ {s : ℕ → ℕ} {i p : ℕ} (c : Climbs s i p) where
-  pub held-by : i - p < s p → p ≡ i - wayUp s i
+  pub held-by : i - p < s p → p ≡ i - way_up s i
   held-by h = let l = c.before in omega (arith, arrives c h)
 
-  pub held-by-none : {u : ℕ} → s p ≤ i - p → u ≡ wayUp s p → u ≡ 0 → i ≡ i - wayUp s i
+  pub held-by-none : {u : ℕ} → s p ≤ i - p → u ≡ way_up s p → u ≡ 0 → i ≡ i - way_up s i
   held-by-none h e z = omega (arith, tops c h e z)
 
-pub held-before : (s : ℕ → ℕ) (i : ℕ) → 0 < i → 1 < s (i - 1) → i - 1 ≡ i - wayUp s i
+pub held-before : (s : ℕ → ℕ) (i : ℕ) → 0 < i → 1 < s (i - 1) → i - 1 ≡ i - way_up s i
 held-before s i n h = held-by (starts s i (λ z. omega (arith, n, z))) (omega (arith, n, h))

@@ -2,12 +2,12 @@
 -- Assumes nothing.
 use Rattle.std.specs.Prelude.{Bool, true, false, cond, List, [], ◌∷◌, ◌++◌, ◌≡◌, refl, ℕ, zero, suc, ◌+◌, ◌-◌, ◌*◌, ◌/◌, ◌<◌, ◌≤◌, ltb, length, get_or, drop, take}
 use Rattle.std.proofs.Common.{ap, ap₂, ◌∙◌, arith, length-append, drop_at, lt-ltb, le-ltb, get_or-drop, sym, take-add}
-use Rattle.text.specs.Widths.{recWide}
+use Rattle.text.specs.Widths.{rec_wide}
 use Rattle.own.specs.Tree.{Rec, concat}
-use Rattle.own.specs.Words.{recs, recWords}
+use Rattle.own.specs.Words.{recs, rec_words}
 use Rattle.own.specs.WordLaws.{record-words-length, recs-words}
-use Rattle.up.specs.Buffer.{upPlace}
-use Rattle.up.specs.Ways.{back, each, waysUp, seven, sevens, rows, upWords, rowsIn, upward, wayUp, sizeOf}
+use Rattle.up.specs.Buffer.{up_place}
+use Rattle.up.specs.Ways.{back, each, ways_up, seven, sevens, rows, up_words, rows_in, upward, way_up, size_of}
 
 module _ (s : ℕ → ℕ) where
   -- A record that reaches over i is the one looked for;
@@ -60,61 +60,61 @@ pub sevens-many : (us : List ℕ) (rs : List Rec) → length (sevens us rs) ≡ 
 sevens-many us [] = refl
 sevens-many us (r ∷ rs) = ap suc (sevens-many (drop 1 us) rs)
 
-pub sevens-long : (us : List ℕ) (rs : List Rec) → length (concat (sevens us rs)) ≡ recWide * length rs
+pub sevens-long : (us : List ℕ) (rs : List Rec) → length (concat (sevens us rs)) ≡ rec_wide * length rs
 sevens-long us [] = refl
 sevens-long us (r ∷ rs) = let h = sevens-long (drop 1 us) rs in omega arith
 
-pub up-words-long : (rs : List Rec) → length (upWords rs) ≡ recWide * length rs
-up-words-long rs = sevens-long (waysUp rs) rs
+pub up-words-long : (rs : List Rec) → length (up_words rs) ≡ rec_wide * length rs
+up-words-long rs = sevens-long (ways_up rs) rs
 
 -- The records are read back, whatever their ways up.
 pub recs-sevens : (us : List ℕ) (rs : List Rec) (z : List ℕ) → recs (length rs) (concat (sevens us rs) ++ z) ≡ rs
 recs-sevens us [] z = refl
 recs-sevens us (r ∷ rs) z = ap (λ (l : List Rec). r ∷ l) (recs-sevens (drop 1 us) rs z)
 
-pub recs-up : (rs : List Rec) (z : List ℕ) → recs (length rs) (upWords rs ++ z) ≡ rs
-recs-up rs z = recs-sevens (waysUp rs) rs z
+pub recs-up : (rs : List Rec) (z : List ℕ) → recs (length rs) (up_words rs ++ z) ≡ rs
+recs-up rs z = recs-sevens (ways_up rs) rs z
 
 -- What becomes of a buffer that has so many records;
-pub upward-held : (n : ℕ) (w : List ℕ) → recWide * n ≤ length w → upward n w ≡ upWords (recs n w) ++ drop (recWide * n) w
+pub upward-held : (n : ℕ) (w : List ℕ) → rec_wide * n ≤ length w → upward n w ≡ up_words (recs n w) ++ drop (rec_wide * n) w
 unfolding upward
-upward-held n w h = ap (λ (b : Bool). cond b w (upWords (recs n w) ++ drop (recWide * n) w)) (le-ltb (length w / recWide) n (omega (arith, h)))
+upward-held n w h = ap (λ (b : Bool). cond b w (up_words (recs n w) ++ drop (rec_wide * n) w)) (le-ltb (length w / rec_wide) n (omega (arith, h)))
 
 -- and of one in which they were written without their ways up.
-pub raised-words : (rs : List Rec) (z : List ℕ) → upward (length rs) (recWords rs ++ z) ≡ upWords rs ++ z
+pub raised-words : (rs : List Rec) (z : List ℕ) → upward (length rs) (rec_words rs ++ z) ≡ up_words rs ++ z
 raised-words rs z =
     let n = length rs in
-    let w = recWords rs ++ z in
-    let long : length (recWords rs) ≡ recWide * n = record-words-length rs in
-    upward-held n w (omega (arith, length-append (recWords rs) z, long))
-    ∙ ap₂ (λ (l : List Rec) (m : List ℕ). upWords l ++ m) (recs-words rs z) (drop_at (recWords rs) z (recWide * n) long)
+    let w = rec_words rs ++ z in
+    let long : length (rec_words rs) ≡ rec_wide * n = record-words-length rs in
+    upward-held n w (omega (arith, length-append (rec_words rs) z, long))
+    ∙ ap₂ (λ (l : List Rec) (m : List ℕ). up_words l ++ m) (recs-words rs z) (drop_at (rec_words rs) z (rec_wide * n) long)
 
 -- The words are read back record by record.
-pub rows-sevens : (us : List ℕ) (rs : List Rec) (z : List ℕ) → rowsIn (length rs) (concat (sevens us rs) ++ z) ≡ sevens us rs
+pub rows-sevens : (us : List ℕ) (rs : List Rec) (z : List ℕ) → rows_in (length rs) (concat (sevens us rs) ++ z) ≡ sevens us rs
 rows-sevens us [] z = refl
 rows-sevens us (r ∷ rs) z = ap (λ (l : List (List ℕ)). seven r (get_or us 0 0) ∷ l) (rows-sevens (drop 1 us) rs z)
 
-pub rows-up : (rs : List Rec) (z : List ℕ) → rowsIn (length rs) (upWords rs ++ z) ≡ rows rs
-rows-up rs z = rows-sevens (waysUp rs) rs z
+pub rows-up : (rs : List Rec) (z : List ℕ) → rows_in (length rs) (up_words rs ++ z) ≡ rows rs
+rows-up rs z = rows-sevens (ways_up rs) rs z
 
-pub rows-words : (n : ℕ) (w : List ℕ) → concat (rowsIn n w) ≡ take (recWide * n) w
+pub rows-words : (n : ℕ) (w : List ℕ) → concat (rows_in n w) ≡ take (rec_wide * n) w
 rows-words zero w = refl
 rows-words (suc n) w =
-    let next : recWide + recWide * n ≡ recWide * suc n = omega arith in
-    ap (λ (l : List ℕ). take recWide w ++ l) (rows-words n (drop recWide w)) ∙ sym (take-add recWide (recWide * n) w) ∙ ap (λ (k : ℕ). take k w) next
+    let next : rec_wide + rec_wide * n ≡ rec_wide * suc n = omega arith in
+    ap (λ (l : List ℕ). take rec_wide w ++ l) (rows-words n (drop rec_wide w)) ∙ sym (take-add rec_wide (rec_wide * n) w) ∙ ap (λ (k : ℕ). take k w) next
 
-pub rows-length : (n : ℕ) (w : List ℕ) → length (rowsIn n w) ≡ n
+pub rows-length : (n : ℕ) (w : List ℕ) → length (rows_in n w) ≡ n
 rows-length zero w = refl
-rows-length (suc n) w = ap suc (rows-length n (drop recWide w))
+rows-length (suc n) w = ap suc (rows-length n (drop rec_wide w))
 
 -- The way up among the words of a record.
-sevens-word : (us : List ℕ) (rs : List Rec) (z : List ℕ) (j : ℕ) → j < length rs → get_or (concat (sevens us rs) ++ z) (recWide * j + upPlace) 0 ≡ get_or us j 0
+sevens-word : (us : List ℕ) (rs : List Rec) (z : List ℕ) (j : ℕ) → j < length rs → get_or (concat (sevens us rs) ++ z) (rec_wide * j + up_place) 0 ≡ get_or us j 0
 sevens-word us [] z j h = absurd (omega (arith, h))
 sevens-word us (r ∷ rs) z zero h = refl
 sevens-word us (r ∷ rs) z (suc j) h =
-    let next : recWide * suc j + upPlace ≡ suc (suc (suc (suc (suc (suc (suc (recWide * j + upPlace))))))) = omega arith in
+    let next : rec_wide * suc j + up_place ≡ suc (suc (suc (suc (suc (suc (suc (rec_wide * j + up_place))))))) = omega arith in
     let one : 1 + j ≡ suc j = omega arith in
     ap (λ (i : ℕ). get_or (concat (sevens us (r ∷ rs)) ++ z) i 0) next ∙ sevens-word (drop 1 us) rs z j (omega (arith, h)) ∙ get_or-drop 1 us j 0 ∙ ap (λ (i : ℕ). get_or us i 0) one
 
-pub up-word : (rs : List Rec) (z : List ℕ) (j : ℕ) → j < length rs → get_or (upWords rs ++ z) (recWide * j + upPlace) 0 ≡ wayUp (sizeOf rs) j
-up-word rs z j h = sevens-word (waysUp rs) rs z j h ∙ each-at (wayUp (sizeOf rs)) (length rs) j h
+pub up-word : (rs : List Rec) (z : List ℕ) (j : ℕ) → j < length rs → get_or (up_words rs ++ z) (rec_wide * j + up_place) 0 ≡ way_up (size_of rs) j
+up-word rs z j h = sevens-word (ways_up rs) rs z j h ∙ each-at (way_up (size_of rs)) (length rs) j h

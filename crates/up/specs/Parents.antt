@@ -4,12 +4,12 @@
 use Rattle.std.specs.Prelude.{Bool, true, false, List, [], ◌∷◌, ◌++◌, map, ◌≡◌, refl, ℕ, zero, suc, ◌+◌, ◌<◌, ◌≤◌, ltb, length}
 use Rattle.std.proofs.Common.{sym, ap, ap₂, ◌∙◌, subst, arith, append-nil, length-append, ltb-true, ltb-false}
 use Rattle.std.proofs.lemmas.List.{length-map}
-use Rattle.own.specs.Tree.{Items, none, mark, sub, Node, node, roots, turned, arrange, exchange, concat, groups, all, Rec, recordOf, records}
+use Rattle.own.specs.Tree.{Items, none, mark, sub, Node, node, roots, turned, arrange, exchange, concat, groups, all, Rec, record_of, records}
 use Rattle.own.specs.File.{filed}
 use Rattle.own.specs.Lists.{arrange-map}
-use Rattle.up.specs.Ways.{back, wayUp, sizeOf, each, waysUp}
+use Rattle.up.specs.Ways.{back, way_up, size_of, each, ways_up}
 use Rattle.up.specs.Laws.{found, passed}
-use Rattle.up.specs.Ups.{under, beneath, tops, ups, fileUps}
+use Rattle.up.specs.Ups.{under, beneath, tops, ups, file_ups}
 
 -- the same on sizes: sizes and ways up of nodes side by side
 data Grove : ℕ → List ℕ → List ℕ → Type 0 where
@@ -26,14 +26,14 @@ data Branch : List ℕ → List ℕ → Type 0 where
   branch : {ss us : List ℕ} → Grove 1 ss us → Branch (suc (length ss) ∷ ss) us
 
 data Branches : List (List ℕ) → List (List ℕ) → Type 0 where
-  no-more : Branches [] []
+  no_more : Branches [] []
   and : {a u : List ℕ} {bs us : List (List ℕ)} → Branch a u → Branches bs us → Branches (a ∷ bs) (u ∷ us)
 
 branches-swap : {bs us : List (List ℕ)} → Branches bs us → Branches (exchange bs) (exchange us)
-branches-swap no-more = no-more
-branches-swap (and a no-more) = and a no-more
-branches-swap (and a (and b no-more)) = and a (and b no-more)
-branches-swap (and a (and b (and c no-more))) = and a (and c (and b no-more))
+branches-swap no_more = no_more
+branches-swap (and a no_more) = and a no_more
+branches-swap (and a (and b no_more)) = and a (and b no_more)
+branches-swap (and a (and b (and c no_more))) = and a (and c (and b no_more))
 branches-swap (and a (and b (and c (and d h)))) = and a (and b (and c (and d h)))
 
 branches-arrange : (b : Bool) {bs us : List (List ℕ)} → Branches bs us → Branches (arrange b bs) (arrange b us)
@@ -41,41 +41,41 @@ branches-arrange true h = branches-swap h
 branches-arrange false h = h
 
 grows : (d : ℕ) {bs us : List (List ℕ)} → Branches bs us → Grove d (concat bs) (under d us)
-grows d no-more = bare
+grows d no_more = bare
 grows d (and (branch {us = us} g) h) = tree g (grove-length g) (grows (d + suc (length us)) h)
 
 -- the sizes of records and of nodes
 abbrev sizes : List Rec → List ℕ
 sizes rs = map (λ r. r.size) rs
 
-abbrev sizesOf : List Node → List ℕ
-sizesOf l = sizes (map recordOf l)
+abbrev sizes_of : List Node → List ℕ
+sizes_of l = sizes (map record_of l)
 
-map_append : (k l : List Node) → sizesOf (k ++ l) ≡ sizesOf k ++ sizesOf l
+map_append : (k l : List Node) → sizes_of (k ++ l) ≡ sizes_of k ++ sizes_of l
 map_append [] l = refl
-map_append (n ∷ k) l = ap (λ m. (recordOf n).size ∷ m) (map_append k l)
+map_append (n ∷ k) l = ap (λ m. (record_of n).size ∷ m) (map_append k l)
 
-map-concat : (gs : List (List Node)) → sizesOf (concat gs) ≡ concat (map sizesOf gs)
+map-concat : (gs : List (List Node)) → sizes_of (concat gs) ≡ concat (map sizes_of gs)
 map-concat [] = refl
-map-concat (g ∷ gs) = map_append g (concat gs) ∙ ap (λ m. sizesOf g ++ m) (map-concat gs)
+map-concat (g ∷ gs) = map_append g (concat gs) ∙ ap (λ m. sizes_of g ++ m) (map-concat gs)
 
-sizes-many : (l : List Node) → length (sizesOf l) ≡ length l
+sizes-many : (l : List Node) → length (sizes_of l) ≡ length l
 sizes-many [] = refl
 sizes-many (n ∷ l) = ap suc (sizes-many l)
 
-node-branch : (k l h : ℕ) (js : Items) → Branches (map sizesOf (groups js)) (beneath js)
-    → Branch (sizesOf (node k l h js ∷ concat (arrange (turned k js) (groups js)))) (under 1 (arrange (turned k js) (beneath js)))
+node-branch : (k l h : ℕ) (js : Items) → Branches (map sizes_of (groups js)) (beneath js)
+    → Branch (sizes_of (node k l h js ∷ concat (arrange (turned k js) (groups js)))) (under 1 (arrange (turned k js) (beneath js)))
 node-branch k l h js b =
     let t : Bool = turned k js in
     let below : List Node = concat (arrange t (groups js)) in
     let us : List ℕ = under 1 (arrange t (beneath js)) in
-    let e : concat (arrange t (map sizesOf (groups js))) ≡ sizesOf below =
-    ap concat (sym (arrange-map sizesOf t (groups js))) ∙ sym (map-concat (arrange t (groups js))) in
-    let g : Grove 1 (sizesOf below) us = subst (λ (zs : List ℕ). Grove 1 zs us) e (grows 1 (branches-arrange t b)) in
-    subst (λ (z : ℕ). Branch (z ∷ sizesOf below) us) (ap suc (sizes-many below)) (branch g)
+    let e : concat (arrange t (map sizes_of (groups js))) ≡ sizes_of below =
+    ap concat (sym (arrange-map sizes_of t (groups js))) ∙ sym (map-concat (arrange t (groups js))) in
+    let g : Grove 1 (sizes_of below) us = subst (λ (zs : List ℕ). Grove 1 zs us) e (grows 1 (branches-arrange t b)) in
+    subst (λ (z : ℕ). Branch (z ∷ sizes_of below) us) (ap suc (sizes-many below)) (branch g)
 
-branches-are : (is : Items) → Branches (map sizesOf (groups is)) (beneath is)
-branches-are none = no-more
+branches-are : (is : Items) → Branches (map sizes_of (groups is)) (beneath is)
+branches-are none = no_more
 branches-are (mark t r) = branches-are r
 branches-are (sub k l h js r) = and (node-branch k l h js (branches-are js)) (branches-are r)
 
@@ -161,65 +161,65 @@ module _ (s : ℕ → ℕ) where
 
   -- Below the record q, that reaches over the whole grove.
   below : {d : ℕ} {ss us : List ℕ} (a q : ℕ) → Grove d ss us → At s a ss → q + d ≡ a → 0 < d → a + length ss ≤ q + s q
-      → ((p : ℕ) → q < p → p < a → p + s p ≤ a) → At (wayUp s) a us
+      → ((p : ℕ) → q < p → p < a → p + s p ≤ a) → At (way_up s) a us
   below a q bare h e z r f = tt
   below a q (tree {d} {ss} {us} {zs} {vs} g k t) h e z r f =
       let n : length (ss ++ zs) ≡ length ss + length zs = length-append ss zs in
       let b : ℕ = suc a + length ss in
-      let mine : wayUp s a ≡ d =
+      let mine : way_up s a ≡ d =
       passes a (suc q) a (omega (arith, e, z)) f ∙ found s a q (omega (arith, r)) ∙ omega (arith, e) in
       let inner = at-left s (suc a) ss zs h.1 in
       let its : s a ≡ suc (length ss) = h.0 in
-      let left : At (wayUp s) (suc a) us = below (suc a) a g inner (omega arith) (omega arith) (omega (arith, its)) (λ p i j. absurd (omega (arith, i, j))) in
-      let right : At (wayUp s) b vs =
+      let left : At (way_up s) (suc a) us = below (suc a) a g inner (omega arith) (omega arith) (omega (arith, its)) (λ p i j. absurd (omega (arith, i, j))) in
+      let right : At (way_up s) b vs =
       below b q t (at-right s (suc a) b ss zs refl h.1) (omega (arith, e, k)) (omega (arith, z)) (omega (arith, r, n)) (λ p i j. past a g inner its p (f p i) j) in
-      (mine, at-join (wayUp s) (suc a) b us vs (omega (arith, k)) left right)
+      (mine, at-join (way_up s) (suc a) b us vs (omega (arith, k)) left right)
 
   -- Trees side by side, with nothing above them.
-  beside : {bs us : List (List ℕ)} (a : ℕ) → Branches bs us → At s a (concat bs) → ((p : ℕ) → p < a → p + s p ≤ a) → At (wayUp s) a (tops us)
-  beside a no-more h f = tt
+  beside : {bs us : List (List ℕ)} (a : ℕ) → Branches bs us → At s a (concat bs) → ((p : ℕ) → p < a → p + s p ≤ a) → At (way_up s) a (tops us)
+  beside a no_more h f = tt
   beside a (and {bs = bs} {us = vs} (branch {ss} {us} g) t) h f =
       let b : ℕ = suc a + length ss in
-      let mine : wayUp s a ≡ 0 = passes a 0 a (omega arith) (λ p i j. f p j) in
+      let mine : way_up s a ≡ 0 = passes a 0 a (omega arith) (λ p i j. f p j) in
       let inner = at-left s (suc a) ss (concat bs) h.1 in
       let its : s a ≡ suc (length ss) = h.0 in
-      let left : At (wayUp s) (suc a) us = below (suc a) a g inner (omega arith) (omega arith) (omega (arith, its)) (λ p i j. absurd (omega (arith, i, j))) in
-      let right : At (wayUp s) b (tops vs) =
+      let left : At (way_up s) (suc a) us = below (suc a) a g inner (omega arith) (omega arith) (omega (arith, its)) (λ p i j. absurd (omega (arith, i, j))) in
+      let right : At (way_up s) b (tops vs) =
       beside b t (at-right s (suc a) b ss (concat bs) refl h.1) (λ p j. past a g inner its p (f p) j) in
-      (mine, at-join (wayUp s) (suc a) b us (tops vs) (omega (arith, grove-length g)) left right)
+      (mine, at-join (way_up s) (suc a) b us (tops vs) (omega (arith, grove-length g)) left right)
 
 ups-length : {bs us : List (List ℕ)} → Branches bs us → length (tops us) ≡ length (concat bs)
-ups-length no-more = refl
+ups-length no_more = refl
 ups-length (and {bs = bs} {us = vs} (branch {ss} {us} g) t) =
     let k = ups-length t in
     omega (arith, k, grove-length g, length-append us (tops vs), length-append ss (concat bs))
 
-at-sizes : (s : ℕ → ℕ) (a : ℕ) (rs : List Rec) → ((j : ℕ) → s (a + j) ≡ sizeOf rs j) → At s a (sizes rs)
+at-sizes : (s : ℕ → ℕ) (a : ℕ) (rs : List Rec) → ((j : ℕ) → s (a + j) ≡ size_of rs j) → At s a (sizes rs)
 at-sizes s a [] h = tt
 at-sizes s a (r ∷ rs) h =
     let g : a ≡ a + 0 = omega arith in
     (ap s g ∙ h 0, at-sizes s (suc a) rs (λ j. let e : suc a + j ≡ a + suc j = omega arith in ap s e ∙ h (suc j)))
 
 -- Records whose sizes are those of nodes side by side, with all beneath them.
-by-branches : (rs : List Rec) {bs us : List (List ℕ)} → sizes rs ≡ concat bs → Branches bs us → waysUp rs ≡ tops us
+by-branches : (rs : List Rec) {bs us : List (List ℕ)} → sizes rs ≡ concat bs → Branches bs us → ways_up rs ≡ tops us
 by-branches rs {bs} {us} e b =
-    let s : ℕ → ℕ = sizeOf rs in
+    let s : ℕ → ℕ = size_of rs in
     let zero-add : (j : ℕ) → 0 + j ≡ j = λ j. omega arith in
     let z : At s 0 (concat bs) = subst (At s 0) e (at-sizes s 0 rs (λ j. ap s (zero-add j))) in
-    let y : At (wayUp s) 0 (tops us) = beside s 0 b z (λ p j. absurd (omega (arith, j))) in
+    let y : At (way_up s) 0 (tops us) = beside s 0 b z (λ p j. absurd (omega (arith, j))) in
     let long : length rs ≡ length (tops us) = sym (length-map rs (λ r. r.size)) ∙ ap length e ∙ sym (ups-length b) in
-    ap (each (wayUp s)) long ∙ sym (λ k. each (λ i. wayUp s (zero-add i k)) (length (tops us))) ∙ at-each (wayUp s) 0 (tops us) y
+    ap (each (way_up s)) long ∙ sym (λ k. each (λ i. way_up s (zero-add i k)) (length (tops us))) ∙ at-each (way_up s) 0 (tops us) y
 
 -- The law for the records of every list of trees,
-pub parents : (ns : List Node) → waysUp (records ns) ≡ ups ns
+pub parents : (ns : List Node) → ways_up (records ns) ≡ ups ns
 parents ns = by-branches (records ns) (map-concat (groups (roots ns))) (branches-are (roots ns))
 
 -- and for those of every file.
-pub file-parents : (len : ℕ) (ns : List Node) → waysUp (filed len (records ns)) ≡ fileUps ns
+pub file-parents : (len : ℕ) (ns : List Node) → ways_up (filed len (records ns)) ≡ file_ups ns
 file-parents len ns =
     let us : List ℕ = under 1 (beneath (roots ns)) in
-    let ss : List ℕ = sizesOf (all ns) in
+    let ss : List ℕ = sizes_of (all ns) in
     let g : Grove 1 ss us = subst (λ (zs : List ℕ). Grove 1 zs us) (sym (map-concat (groups (roots ns)))) (grows 1 (branches-are (roots ns))) in
     let long : 1 + length (records ns) ≡ suc (length ss) = omega (arith, length-map (records ns) (λ r. r.size)) in
-    by-branches (filed len (records ns)) {bs = (suc (length ss) ∷ ss) ∷ []} (ap₂ (λ (n : ℕ) (l : List ℕ). n ∷ l) long (sym (append-nil ss))) (and (branch g) no-more)
+    by-branches (filed len (records ns)) {bs = (suc (length ss) ∷ ss) ∷ []} (ap₂ (λ (n : ℕ) (l : List ℕ). n ∷ l) long (sym (append-nil ss))) (and (branch g) no_more)
     ∙ ap (λ (l : List ℕ). 0 ∷ l) (append-nil us)

@@ -25,5 +25,5 @@ abbrev pub ups : List Node → List ℕ
 ups ns = tops (beneath (roots ns))
 
 -- and of a file, whose first record is the parent of all of them.
-abbrev pub fileUps : List Node → List ℕ
-fileUps ns = 0 ∷ under 1 (beneath (roots ns))
+abbrev pub file_ups : List Node → List ℕ
+file_ups ns = 0 ∷ under 1 (beneath (roots ns))

@@ -2,7 +2,7 @@
 -- line." It is found through the sizes of the records; Ups.antt has that of trees, and Parents.antt proves that both agree.
 -- Assumes nothing: these are definitions.
 use Rattle.std.specs.Prelude.{cond, List, [], ◌∷◌, ◌++◌, ℕ, zero, suc, ◌+◌, ◌-◌, ◌*◌, ◌/◌, ltb, length, get_or, take, drop}
-use Rattle.text.specs.Widths.{recWide}
+use Rattle.text.specs.Widths.{rec_wide}
 use Rattle.own.specs.Tree.{Rec, concat}
 use Rattle.own.specs.Flat.{blank}
 use Rattle.own.specs.Words.{recs}
@@ -13,12 +13,12 @@ abbrev pub back : (ℕ → ℕ) → ℕ → ℕ → ℕ
 back s i zero = 0
 back s i (suc p) = cond (ltb i (p + s p)) (i - p) (back s i p)
 
-abbrev pub wayUp : (ℕ → ℕ) → ℕ → ℕ
-wayUp s i = back s i i
+abbrev pub way_up : (ℕ → ℕ) → ℕ → ℕ
+way_up s i = back s i i
 
 -- The size of the record of this number.
-abbrev pub sizeOf : List Rec → ℕ → ℕ
-sizeOf rs i = (get_or rs i blank).size
+abbrev pub size_of : List Rec → ℕ → ℕ
+size_of rs i = (get_or rs i blank).size
 
 -- What f gives from 0 on.
 abbrev pub each : (ℕ → ℕ) → ℕ → List ℕ
@@ -26,8 +26,8 @@ each f zero = []
 each f (suc n) = f 0 ∷ each (λ i. f (suc i)) n
 
 -- The way up of every record.
-abbrev pub waysUp : List Rec → List ℕ
-waysUp rs = each (wayUp (sizeOf rs)) (length rs)
+abbrev pub ways_up : List Rec → List ℕ
+ways_up rs = each (way_up (size_of rs)) (length rs)
 
 -- The first six words of a record; and all seven, the way up as the last.
 abbrev pub six : Rec → List ℕ
@@ -43,17 +43,17 @@ sevens us (r ∷ rs) = seven r (get_or us 0 0) ∷ sevens (drop 1 us) rs
 
 -- and with its own;
 abbrev pub rows : List Rec → List (List ℕ)
-rows rs = sevens (waysUp rs) rs
+rows rs = sevens (ways_up rs) rs
 
 -- one record after the other.
-abbrev pub upWords : List Rec → List ℕ
-upWords rs = concat (rows rs)
+abbrev pub up_words : List Rec → List ℕ
+up_words rs = concat (rows rs)
 
 -- Of a buffer: the words of each of its first n records.
-abbrev pub rowsIn : ℕ → List ℕ → List (List ℕ)
-rowsIn zero w = []
-rowsIn (suc n) w = take recWide w ∷ rowsIn n (drop recWide w)
+abbrev pub rows_in : ℕ → List ℕ → List (List ℕ)
+rows_in zero w = []
+rows_in (suc n) w = take rec_wide w ∷ rows_in n (drop rec_wide w)
 
 -- A buffer whose first n records are given their ways up, where it has so many; all other words are as they were.
 unfoldable pub upward : ℕ → List ℕ → List ℕ
-upward n w = cond (ltb (length w / recWide) n) w (upWords (recs n w) ++ drop (recWide * n) w)
+upward n w = cond (ltb (length w / rec_wide) n) w (up_words (recs n w) ++ drop (rec_wide * n) w)

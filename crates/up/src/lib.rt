@@ -3,9 +3,9 @@
 
 ghost use Rattle.std.specs.Prelude.{◌≡◌, ◌≤◌, ◌<◌, ◌*◌, ◌+◌, ◌-◌, ℕ, length, get_or};
 ghost use Rattle.std.proofs.Common.{Fits, w32};
-ghost use Rattle.text.specs.Widths.{recWide};
-ghost use Rattle.up.specs.Ways.{wayUp, upward};
-ghost use Rattle.up.specs.Buffer.{upPlace, sizeIn};
+ghost use Rattle.text.specs.Widths.{rec_wide};
+ghost use Rattle.up.specs.Ways.{way_up, upward};
+ghost use Rattle.up.specs.Buffer.{up_place, size_in};
 
 use text::RECORD_WORDS;
 
@@ -19,11 +19,11 @@ pub const UP: usize = 6;
 // reaches over i. Each record is passed at most once in all, since it is no parent of what comes after.
 fn above(tree: &[u32], before: usize, i: usize, w: usize) -> usize
     requires i_nonzero { 0 < i }
-    requires w_value { w ≡ recWide * i }
+    requires w_value { w ≡ rec_wide * i }
     requires w_in_bounds { w ≤ length tree.now }
-    requires before_value { before ≡ i - 1 - wayUp (sizeIn tree.now) (i - 1) }
-    requires raised { (q : ℕ) → q < i → get_or tree.now (recWide * q + upPlace) 0 ≡ wayUp (sizeIn tree.now) q }
-    ensures is { result ≡ i - wayUp (sizeIn tree.now) i }
+    requires before_value { before ≡ i - 1 - way_up (size_in tree.now) (i - 1) }
+    requires raised { (q : ℕ) → q < i → get_or tree.now (rec_wide * q + up_place) 0 ≡ way_up (size_in tree.now) q }
+    ensures is { result ≡ i - way_up (size_in tree.now) i }
     ensures small { Fits w32 (i - result) }
 {
     if tree[w - RECORD_WORDS + SIZE] > 1 {

@@ -14,8 +14,8 @@ use Rattle.text.specs.Same.{differ}
 use Rattle.text.specs.Table.{every, at, is_true}
 use Rattle.text.specs.Ranges.{Range, bytes, of}
 use Rattle.text.specs.Rest.{rest-cons}
-use Rattle.utf8.specs.Utf8.{utf8Char, tail, fits, sequence, charLength}
-use Rattle.utf8.specs.Second.{outsideOf, leastSecond, mostSecond}
+use Rattle.utf8.specs.Utf8.{utf8_char, tail, fits, sequence, char_length}
+use Rattle.utf8.specs.Second.{outside_of, least_second, most_second}
 
 -- ---- equal lists by a test
 
@@ -36,10 +36,10 @@ module _ {A : Type 0} (f : A → A → Bool) (sound : (x y : A) → f x y ≡ tr
       go true p e r = ap₂ (λ a l. a ∷ l) (sound x y p) (r e)
       go false p e r = differ e
 
-abbrev sameRange : Range → Range → Bool
-sameRange g h = eqb g.least h.least && eqb g.most h.most
+abbrev same_range : Range → Range → Bool
+same_range g h = eqb g.least h.least && eqb g.most h.most
 
-same-range : (g h : Range) → sameRange g h ≡ true → g ≡ h
+same-range : (g h : Range) → same_range g h ≡ true → g ≡ h
 same-range g h e = go (eqb g.least h.least) refl e
   where
     go : (t : Bool) → eqb g.least h.least ≡ t → (t && eqb g.most h.most) ≡ true → g ≡ h
@@ -76,42 +76,42 @@ first-apart ((g ∷ gs) ∷ others) e b r = go (of g b) (first-apart others e b 
 
 -- the alternative behind each byte over 127
 abbrev second : ℕ → Range
-second b = bytes (leastSecond b) (mostSecond b)
+second b = bytes (least_second b) (most_second b)
 
-abbrev leftOver : ℕ → List (List Range)
-leftOver b =
+abbrev left_over : ℕ → List (List Range)
+left_over b =
     cond (ltb b 0xC2) []
     (cond (ltb b 0xE0) ((tail ∷ []) ∷ [])
     (cond (ltb 0xF4 b) []
     (cond (ltb b 0xF0) ((second b ∷ tail ∷ []) ∷ [])
     ((second b ∷ tail ∷ tail ∷ []) ∷ []))))
 
-abbrev sameLeft : ℕ → Bool
-sameLeft b = equal (equal sameRange same-range) (equal-sound sameRange same-range) (left utf8Char b) (leftOver b)
+abbrev same_left : ℕ → Bool
+same_left b = equal (equal same_range same-range) (equal-sound same_range same-range) (left utf8_char b) (left_over b)
 
-left-passes : T (every {A = ℕ} (λ k x. sameLeft (128 + k)) 0 (replicate 128 0))
-unfolding left utf8Char
+left-passes : T (every {A = ℕ} (λ k x. same_left (128 + k)) 0 (replicate 128 0))
+unfolding left utf8_char
 left-passes = tt
 
-left_at : (b : ℕ) → 128 ≤ b → b < 256 → left utf8Char b ≡ leftOver b
+left_at : (b : ℕ) → 128 ≤ b → b < 256 → left utf8_char b ≡ left_over b
 left_at b h l =
-    let k = at {A = ℕ} (λ k x. sameLeft (128 + k)) (replicate 128 0) 0 left-passes (b - 128) (omega (arith, length-replicate {A = ℕ} 128 0)) in
+    let k = at {A = ℕ} (λ k x. same_left (128 + k)) (replicate 128 0) 0 left-passes (b - 128) (omega (arith, length-replicate {A = ℕ} 128 0)) in
     let e : 128 + (b - 128) ≡ b = omega arith in
-    ap (left utf8Char) (sym e)
-    ∙ equal-sound (equal sameRange same-range) (equal-sound sameRange same-range) (left utf8Char (128 + (b - 128))) (leftOver (128 + (b - 128))) (is_true _ k)
-    ∙ ap leftOver e
+    ap (left utf8_char) (sym e)
+    ∙ equal-sound (equal same_range same-range) (equal-sound same_range same-range) (left utf8_char (128 + (b - 128))) (left_over (128 + (b - 128))) (is_true _ k)
+    ∙ ap left_over e
 
 -- ---- one byte behind the other
 
 -- a byte outside the range, or in it
-out_of : (least most c : ℕ) → outsideOf least most c ≡ true → of (bytes least most) c ≡ false
+out_of : (least most c : ℕ) → outside_of least most c ≡ true → of (bytes least most) c ≡ false
 out_of least most c e = go (ltb c least) refl e
   where
     go : (t : Bool) → ltb c least ≡ t → (t || ltb most c) ≡ true → (leb least c && leb c most) ≡ false
     go true p q = rw (lt-leb least c (ltb-true c least p)) refl
     go false p q = rw (lt-leb c most (ltb-true most c q)) (and-false (leb least c))
 
-in-range : (least most c : ℕ) → outsideOf least most c ≡ false → of (bytes least most) c ≡ true
+in-range : (least most c : ℕ) → outside_of least most c ≡ false → of (bytes least most) c ≡ true
 in-range least most c e = go (ltb c least) refl e
   where
     go : (t : Bool) → ltb c least ≡ t → (t || ltb most c) ≡ false → (leb least c && leb c most) ≡ true
@@ -130,7 +130,7 @@ fits_next g gs s i k h e = go (leb (length s) i) refl
     go false q =
         ap (fits (g ∷ gs)) (drop-cons s i 0 (leb-false _ _ q)) ∙ ap (λ n. of g (get_or s i 0) && fits gs (drop n s)) (sym (add-one i) ∙ e)
 
-second-some : (b : ℕ) → 1 ≤ leastSecond b
+second-some : (b : ℕ) → 1 ≤ least_second b
 second-some b = go (eqb b 0xE0) (eqb b 0xF0)
   where
     go : (t u : Bool) → 1 ≤ cond t 0xA0 (cond u 0x90 0x80)
@@ -153,17 +153,17 @@ pub led : (s : List ℕ) (i b : ℕ) → (i < length s) × (b ≡ get_or s i 0) 
 led s i b p m = record { within = p.0; first = p.1; over = p.2; byte = m }
 
 module _ (s : List ℕ) (i b : ℕ) (w : Lead s i b) where
-  base : charLength (drop i s) ≡ tried (leftOver b) (drop (i + 1) s)
-  unfolding utf8Char
+  base : char_length (drop i s) ≡ tried (left_over b) (drop (i + 1) s)
+  unfolding utf8_char
   base =
-      ap (λ l. charLength l) (rest-cons s i b w.within (sym w.first)) ∙ first-apart utf8Char refl b (drop (suc i) s)
+      ap (λ l. char_length l) (rest-cons s i b w.within (sym w.first)) ∙ first-apart utf8_char refl b (drop (suc i) s)
       ∙ ap₂ (λ x n. tried x (drop n s)) (left_at b w.over w.byte) (sym (add-one i))
 
-  pub lead-under : b < 0xC2 → 0 ≡ charLength (drop i s)
+  pub lead-under : b < 0xC2 → 0 ≡ char_length (drop i s)
   unfolding tried
   lead-under x = sym (base ∙ simp (lt-ltb b 0xC2 x))
 
-  pub lead-over : 0xE0 ≤ b → 0xF4 < b → 0 ≡ charLength (drop i s)
+  pub lead-over : 0xE0 ≤ b → 0xF4 < b → 0 ≡ char_length (drop i s)
   unfolding tried
   lead-over y x = sym (base ∙ simp (le-ltb b 0xC2 (omega arith), le-ltb b 0xE0 (omega arith), lt-ltb 0xF4 b x))
 
@@ -187,19 +187,19 @@ module _ (s : List ℕ) (i b : ℕ) (w : Lead s i b) where
       ∙ ap (λ t. of tail (get_or s (i + 2) 0) && t) (fits_next tail [] s (i + 3) (i + 4) (omega arith) (omega arith)))
 
   -- two bytes
-  two : 0xC2 ≤ b → b < 0xE0 → charLength (drop i s) ≡ cond (of tail (get_or s (i + 1) 0) && true) 2 0
+  two : 0xC2 ≤ b → b < 0xE0 → char_length (drop i s) ≡ cond (of tail (get_or s (i + 1) 0) && true) 2 0
   unfolding tried
   two x y = base ∙ simp (le-ltb b 0xC2 x, lt-ltb b 0xE0 y, one_more tail (omega arith))
 
-  pub two-not : 0xC2 ≤ b → b < 0xE0 → outsideOf 0x80 0xBF (get_or s (i + 1) 0) ≡ true → 0 ≡ charLength (drop i s)
+  pub two-not : 0xC2 ≤ b → b < 0xE0 → outside_of 0x80 0xBF (get_or s (i + 1) 0) ≡ true → 0 ≡ char_length (drop i s)
   two-not x y o = sym (two x y ∙ ap (λ t. cond (t && true) 2 0) (out_of 0x80 0xBF (get_or s (i + 1) 0) o))
 
-  pub two-yes : 0xC2 ≤ b → b < 0xE0 → outsideOf 0x80 0xBF (get_or s (i + 1) 0) ≡ false → 2 ≡ charLength (drop i s)
+  pub two-yes : 0xC2 ≤ b → b < 0xE0 → outside_of 0x80 0xBF (get_or s (i + 1) 0) ≡ false → 2 ≡ char_length (drop i s)
   two-yes x y o = sym (two x y ∙ ap (λ t. cond (t && true) 2 0) (in-range 0x80 0xBF (get_or s (i + 1) 0) o))
 
   -- three or four
   module _ (x : 0xE0 ≤ b) (y : b ≤ 0xF4) where
-    long : charLength (drop i s) ≡ cond (ltb b 0xF0)
+    long : char_length (drop i s) ≡ cond (ltb b 0xF0)
         (cond (of (second b) (get_or s (i + 1) 0) && (of tail (get_or s (i + 2) 0) && true)) 3 0)
         (cond (of (second b) (get_or s (i + 1) 0) && (of tail (get_or s (i + 2) 0) && (of tail (get_or s (i + 3) 0) && true))) 4 0)
     unfolding tried
@@ -211,23 +211,23 @@ module _ (s : List ℕ) (i b : ℕ) (w : Lead s i b) where
         go true = ap (λ t. cond t 3 0) (two-more (second b) (second-some b))
         go false = ap (λ t. cond t 4 0) (three-more (second b) (second-some b))
 
-    pub second-not : outsideOf (leastSecond b) (mostSecond b) (get_or s (i + 1) 0) ≡ true → 0 ≡ charLength (drop i s)
-    second-not o = sym (long ∙ simp (out_of (leastSecond b) (mostSecond b) (get_or s (i + 1) 0) o) (cond_both (ltb b 0xF0)))
+    pub second-not : outside_of (least_second b) (most_second b) (get_or s (i + 1) 0) ≡ true → 0 ≡ char_length (drop i s)
+    second-not o = sym (long ∙ simp (out_of (least_second b) (most_second b) (get_or s (i + 1) 0) o) (cond_both (ltb b 0xF0)))
 
-    module _ (o : outsideOf (leastSecond b) (mostSecond b) (get_or s (i + 1) 0) ≡ false) where
-      pub third-not : outsideOf 0x80 0xBF (get_or s (i + 2) 0) ≡ true → 0 ≡ charLength (drop i s)
-      third-not p = sym (long ∙ simp (in-range (leastSecond b) (mostSecond b) (get_or s (i + 1) 0) o, out_of 0x80 0xBF (get_or s (i + 2) 0) p) (cond_both (ltb b 0xF0)))
+    module _ (o : outside_of (least_second b) (most_second b) (get_or s (i + 1) 0) ≡ false) where
+      pub third-not : outside_of 0x80 0xBF (get_or s (i + 2) 0) ≡ true → 0 ≡ char_length (drop i s)
+      third-not p = sym (long ∙ simp (in-range (least_second b) (most_second b) (get_or s (i + 1) 0) o, out_of 0x80 0xBF (get_or s (i + 2) 0) p) (cond_both (ltb b 0xF0)))
 
-      module _ (p : outsideOf 0x80 0xBF (get_or s (i + 2) 0) ≡ false) where
-        pub three-yes : b < 0xF0 → 3 ≡ charLength (drop i s)
-        three-yes q = sym (long ∙ simp (lt-ltb b 0xF0 q, in-range (leastSecond b) (mostSecond b) (get_or s (i + 1) 0) o, in-range 0x80 0xBF (get_or s (i + 2) 0) p))
+      module _ (p : outside_of 0x80 0xBF (get_or s (i + 2) 0) ≡ false) where
+        pub three-yes : b < 0xF0 → 3 ≡ char_length (drop i s)
+        three-yes q = sym (long ∙ simp (lt-ltb b 0xF0 q, in-range (least_second b) (most_second b) (get_or s (i + 1) 0) o, in-range 0x80 0xBF (get_or s (i + 2) 0) p))
 
-        pub fourth-not : 0xF0 ≤ b → outsideOf 0x80 0xBF (get_or s (i + 3) 0) ≡ true → 0 ≡ charLength (drop i s)
-        fourth-not q r = sym (long ∙ simp (le-ltb b 0xF0 q, in-range (leastSecond b) (mostSecond b) (get_or s (i + 1) 0) o, in-range 0x80 0xBF (get_or s (i + 2) 0) p, out_of 0x80 0xBF (get_or s (i + 3) 0) r))
+        pub fourth-not : 0xF0 ≤ b → outside_of 0x80 0xBF (get_or s (i + 3) 0) ≡ true → 0 ≡ char_length (drop i s)
+        fourth-not q r = sym (long ∙ simp (le-ltb b 0xF0 q, in-range (least_second b) (most_second b) (get_or s (i + 1) 0) o, in-range 0x80 0xBF (get_or s (i + 2) 0) p, out_of 0x80 0xBF (get_or s (i + 3) 0) r))
 
-        pub four-yes : 0xF0 ≤ b → outsideOf 0x80 0xBF (get_or s (i + 3) 0) ≡ false → 4 ≡ charLength (drop i s)
-        four-yes q r = sym (long ∙ simp (le-ltb b 0xF0 q, in-range (leastSecond b) (mostSecond b) (get_or s (i + 1) 0) o, in-range 0x80 0xBF (get_or s (i + 2) 0) p, in-range 0x80 0xBF (get_or s (i + 3) 0) r))
+        pub four-yes : 0xF0 ≤ b → outside_of 0x80 0xBF (get_or s (i + 3) 0) ≡ false → 4 ≡ char_length (drop i s)
+        four-yes q r = sym (long ∙ simp (le-ltb b 0xF0 q, in-range (least_second b) (most_second b) (get_or s (i + 1) 0) o, in-range 0x80 0xBF (get_or s (i + 2) 0) p, in-range 0x80 0xBF (get_or s (i + 3) 0) r))
 
 -- a byte looked at and judged, as the code has it
-pub seen : (least least' most most' c x : ℕ) (r t : Bool) → least ≡ least' → most ≡ most' → c ≡ x → r ≡ outsideOf least most c → r ≡ t → outsideOf least' most' x ≡ t
+pub seen : (least least' most most' c x : ℕ) (r t : Bool) → least ≡ least' → most ≡ most' → c ≡ x → r ≡ outside_of least most c → r ≡ t → outside_of least' most' x ≡ t
 seen least least' most most' c x r t a b d e f = rw (← a, ← b, ← d) (sym e ∙ f)

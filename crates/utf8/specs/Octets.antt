@@ -2,7 +2,7 @@
 -- Assumes nothing.
 use Rattle.std.specs.Prelude.{Bool, true, false, ◌&&◌, ◌||◌, List, [], ◌∷◌, ◌++◌, ◌≡◌, ℕ, ◌≤◌, ◌<◌, length, take, drop}
 use Rattle.text.specs.Ranges.{Range, of}
-use Rattle.utf8.specs.Utf8.{utf8Char}
+use Rattle.utf8.specs.Utf8.{utf8_char}
 
 -- a text is one byte of each range, and no more
 unfoldable pub spells : List Range → List ℕ → Bool
@@ -12,17 +12,17 @@ spells (g ∷ gs) [] = false
 spells (g ∷ gs) (b ∷ c) = of g b && spells gs c
 
 -- it is one of the alternatives
-unfoldable pub isOne : List (List Range) → List ℕ → Bool
-isOne [] c = false
-isOne (a ∷ others) c = spells a c || isOne others c
+unfoldable pub is_one : List (List Range) → List ℕ → Bool
+is_one [] c = false
+is_one (a ∷ others) c = spells a c || is_one others c
 
 -- "UTF8-char"
 abbrev pub is_char : List ℕ → Bool
-is_char c = isOne utf8Char c
+is_char c = is_one utf8_char c
 
-abbrev pub allChars : List (List ℕ) → Bool
-allChars [] = true
-allChars (c ∷ cs) = is_char c && allChars cs
+abbrev pub all_chars : List (List ℕ) → Bool
+all_chars [] = true
+all_chars (c ∷ cs) = is_char c && all_chars cs
 
 abbrev pub joined : List (List ℕ) → List ℕ
 joined [] = []
@@ -30,7 +30,7 @@ joined (c ∷ cs) = c ++ joined cs
 
 -- "UTF8-octets": the text is these sequences, one behind the other
 pub record Octets (r : List ℕ) (cs : List (List ℕ)) : Type 0 where
-  pub chars : allChars cs ≡ true
+  pub chars : all_chars cs ≡ true
   pub whole : joined cs ≡ r
 
 -- a text is well-formed: it is some such sequences

@@ -3,12 +3,12 @@
 use Rattle.std.specs.Prelude.{Bool, cond, ◌||◌, ℕ, eqb, ltb}
 
 -- a byte is not from one to another
-abbrev pub outsideOf : ℕ → ℕ → ℕ → Bool
-outsideOf least most b = ltb b least || ltb most b
+abbrev pub outside_of : ℕ → ℕ → ℕ → Bool
+outside_of least most b = ltb b least || ltb most b
 
 -- the least and the most second byte behind the first byte of a sequence of three or four
-abbrev pub leastSecond : ℕ → ℕ
-leastSecond b = cond (eqb b 0xE0) 0xA0 (cond (eqb b 0xF0) 0x90 0x80)
+abbrev pub least_second : ℕ → ℕ
+least_second b = cond (eqb b 0xE0) 0xA0 (cond (eqb b 0xF0) 0x90 0x80)
 
-abbrev pub mostSecond : ℕ → ℕ
-mostSecond b = cond (eqb b 0xED) 0x9F (cond (eqb b 0xF4) 0x8F 0xBF)
+abbrev pub most_second : ℕ → ℕ
+most_second b = cond (eqb b 0xED) 0x9F (cond (eqb b 0xF4) 0x8F 0xBF)

@@ -13,31 +13,31 @@ abbrev pub tail : Range
 tail = bytes 0x80 0xBF
 
 -- "UTF8-1 = %x00-7F"
-abbrev pub utf8-1 : List (List Range)
-utf8-1 = (bytes 0x00 0x7F ∷ []) ∷ []
+abbrev pub utf8_1 : List (List Range)
+utf8_1 = (bytes 0x00 0x7F ∷ []) ∷ []
 
 -- "UTF8-2 = %xC2-DF UTF8-tail"
-abbrev pub utf8-2 : List (List Range)
-utf8-2 = (bytes 0xC2 0xDF ∷ tail ∷ []) ∷ []
+abbrev pub utf8_2 : List (List Range)
+utf8_2 = (bytes 0xC2 0xDF ∷ tail ∷ []) ∷ []
 
 -- "UTF8-3 = %xE0 %xA0-BF UTF8-tail / %xE1-EC 2( UTF8-tail ) / %xED %x80-9F UTF8-tail / %xEE-EF 2( UTF8-tail )"
-abbrev pub utf8-3 : List (List Range)
-utf8-3 =
+abbrev pub utf8_3 : List (List Range)
+utf8_3 =
     (byte 0xE0 ∷ bytes 0xA0 0xBF ∷ tail ∷ []) ∷
     (bytes 0xE1 0xEC ∷ tail ∷ tail ∷ []) ∷
     (byte 0xED ∷ bytes 0x80 0x9F ∷ tail ∷ []) ∷
     (bytes 0xEE 0xEF ∷ tail ∷ tail ∷ []) ∷ []
 
 -- "UTF8-4 = %xF0 %x90-BF 2( UTF8-tail ) / %xF1-F3 3( UTF8-tail ) / %xF4 %x80-8F 2( UTF8-tail )"
-abbrev pub utf8-4 : List (List Range)
-utf8-4 =
+abbrev pub utf8_4 : List (List Range)
+utf8_4 =
     (byte 0xF0 ∷ bytes 0x90 0xBF ∷ tail ∷ tail ∷ []) ∷
     (bytes 0xF1 0xF3 ∷ tail ∷ tail ∷ tail ∷ []) ∷
     (byte 0xF4 ∷ bytes 0x80 0x8F ∷ tail ∷ tail ∷ []) ∷ []
 
 -- "UTF8-char = UTF8-1 / UTF8-2 / UTF8-3 / UTF8-4"
-unfoldable pub utf8Char : List (List Range)
-utf8Char = utf8-1 ++ utf8-2 ++ utf8-3 ++ utf8-4
+unfoldable pub utf8_char : List (List Range)
+utf8_char = utf8_1 ++ utf8_2 ++ utf8_3 ++ utf8_4
 
 -- a text begins with one byte of each range
 unfoldable pub fits : List Range → List ℕ → Bool
@@ -51,8 +51,8 @@ sequence [] r = 0
 sequence (a ∷ others) r = cond (fits a r) (length a) (sequence others r)
 
 -- how many bytes the UTF8-char at the front of a text has, 0 if none stands there
-abbrev pub charLength : List ℕ → ℕ
-charLength r = sequence utf8Char r
+abbrev pub char_length : List ℕ → ℕ
+char_length r = sequence utf8_char r
 
 -- what is found behind a sequence of so many bytes; where there is none, the place itself
 abbrev pub behind : ℕ → (ℕ → Option ℕ) → Option ℕ
@@ -60,11 +60,11 @@ behind zero go = some 0
 behind (suc n) go = more (go n)
 
 -- the first place of a text at which no sequence stands, behind the k bytes that are still part of the last one
-unfoldable pub badFrom : List ℕ → ℕ → Option ℕ
-badFrom [] k = none
-badFrom (b ∷ r) zero = behind (charLength (b ∷ r)) (badFrom r)
-badFrom (b ∷ r) (suc k) = more (badFrom r k)
+unfoldable pub bad_from : List ℕ → ℕ → Option ℕ
+bad_from [] k = none
+bad_from (b ∷ r) zero = behind (char_length (b ∷ r)) (bad_from r)
+bad_from (b ∷ r) (suc k) = more (bad_from r k)
 
 -- "UTF8-octets = *( UTF8-char )": the first place, sequence by sequence, at which none stands; none where the text is well-formed
-unfoldable pub badAt : List ℕ → Option ℕ
-badAt r = badFrom r 0
+unfoldable pub bad_at : List ℕ → Option ℕ
+bad_at r = bad_from r 0

@@ -3,8 +3,8 @@
 
 ghost use Rattle.std.specs.Prelude.{◌≡◌, ◌≤◌, ◌<◌, length, get_or, drop};
 ghost use Rattle.utf8.specs.Octets.{Told};
-ghost use Rattle.utf8.specs.Second.{outsideOf, leastSecond, mostSecond};
-ghost use Rattle.utf8.specs.Utf8.{charLength};
+ghost use Rattle.utf8.specs.Second.{outside_of, least_second, most_second};
+ghost use Rattle.utf8.specs.Utf8.{char_length};
 
 use text::peek;
 
@@ -27,7 +27,7 @@ const LAST_TAIL: u8 = 0xbf;
 
 // Whether a byte is not from the least to the most.
 fn outside(b: u8, least: u8, most: u8) -> bool
-    ensures { result ≡ outsideOf least most b }
+    ensures { result ≡ outside_of least most b }
 {
     if b < least {
         return true;
@@ -37,7 +37,7 @@ fn outside(b: u8, least: u8, most: u8) -> bool
 
 // The least second byte of a sequence of three or four, by its first: a smaller one would write what fewer bytes write.
 fn least_second(b: u8) -> u8
-    ensures { result ≡ leastSecond b }
+    ensures { result ≡ least_second b }
 {
     if b == THREE {
         return 0xa0;
@@ -50,7 +50,7 @@ fn least_second(b: u8) -> u8
 
 // The most: a larger one would write a surrogate, or a number over 10FFFF.
 fn most_second(b: u8) -> u8
-    ensures { result ≡ mostSecond b }
+    ensures { result ≡ most_second b }
 {
     if b == 0xed {
         return 0x9f;
@@ -64,7 +64,7 @@ fn most_second(b: u8) -> u8
 // How many bytes the sequence at i has, whose first byte b is over 127; 0 if none stands there.
 fn wide(s: &[u8], i: usize, b: u8) -> usize
     requires { (i < length s.now) × (b ≡ get_or s.now i 0) × (128 ≤ b) }
-    ensures { result ≡ charLength (drop i s.now) }
+    ensures { result ≡ char_length (drop i s.now) }
 {
     if b < TWO {
         return 0;
@@ -96,7 +96,7 @@ fn wide(s: &[u8], i: usize, b: u8) -> usize
 
 // The answer of `sequence`, whose law is proved once, of whatever is answered.
 fn length_at(s: &[u8], i: usize) -> usize
-    ensures { result ≡ charLength (drop i s.now) }
+    ensures { result ≡ char_length (drop i s.now) }
 {
     if i >= s.len() {
         return 0;
@@ -110,7 +110,7 @@ fn length_at(s: &[u8], i: usize) -> usize
 
 // How many bytes the sequence at i has, 0 if none stands there: nor does one at the end of the text, or past it.
 pub fn sequence(s: &[u8], i: usize) -> usize
-    ensures answer { result ≡ charLength (drop i s.now) }
+    ensures answer { result ≡ char_length (drop i s.now) }
     ensures law { Told (drop i s.now) result }
 {
     length_at(s, i)

@@ -9,7 +9,7 @@ use borrow.Author.Tests.{lt-leb, leb-true}
 use lib.Dec.{T, eqb, leb, eqb→eq, leb→le}
 use lib.ListN.{length, get_or, take, drop, length-take, length-drop}
 use lib.Seq.{length-take-le}
-use Rattle.text.specs.Ascii.{ascii, asciiFrom}
+use Rattle.text.specs.Ascii.{ascii, ascii_from}
 use Rattle.text.specs.Part.{part_of}
 use Rattle.text.specs.Same.{same, differ}
 use Rattle.text.specs.Table.{every, at, table_at, all, each, is_true}
@@ -19,15 +19,15 @@ use Rattle.words.specs.Layout.{tables, entries, letters, slot_of, Hash, hashes}
 use Rattle.words.specs.Lies.{Lies, Only, AtMost}
 use Rattle.words.specs.Right.{Says}
 use Rattle.words.specs.declared.Found.TheVariants.{Plain}
-use Rattle.words.proofs.Constants.{starts, sizes, bases, counts, longest, slots, function-reserved-slots, keywords-slots, macros-slots, module-reserved-slots, rule-words-slots}
+use Rattle.words.proofs.Constants.{starts, sizes, bases, counts, longest, slots, function_reserved_slots, keywords_slots, macros_slots, module_reserved_slots, rule_words_slots}
 
 -- ---- one test for each word of each table
 
 -- the test passes at each table's number, each word's number and the word
-abbrev everyWord : (ℕ → ℕ → List ℕ → Bool) → Bool
-everyWord f = every (λ t ws. every (f t) 0 ws) 0 tables
+abbrev every_word : (ℕ → ℕ → List ℕ → Bool) → Bool
+every_word f = every (λ t ws. every (f t) 0 ws) 0 tables
 
-word_at : (f : ℕ → ℕ → List ℕ → Bool) → T (everyWord f) → (t k : ℕ) → t < length tables → k < length (get_or tables t []) → T (f t k (get_or (get_or tables t []) k []))
+word_at : (f : ℕ → ℕ → List ℕ → Bool) → T (every_word f) → (t k : ℕ) → t < length tables → k < length (get_or tables t []) → T (f t k (get_or (get_or tables t []) k []))
 word_at f test t k h l = at (f t) (get_or tables t []) [] (at (λ t ws. every (f t) 0 ws) tables [] test t h) k l
 
 table-count : length tables ≡ 5
@@ -50,8 +50,8 @@ tests t k w =
     leb (get_or bases t 0 + k + 1) 77 ∷
     same (get_or entries (get_or bases t 0 + k) []) w ∷ []
 
-words-pass : T (everyWord (λ t k w. all (tests t k w)))
-unfolding same tables entries slot_of hashes slots function-reserved-slots keywords-slots macros-slots module-reserved-slots rule-words-slots longest bases FUNCTION_RESERVED KEYWORDS MACROS MODULE_RESERVED RULE_NAMES BOOLEANS RULE_WORDS UINT_TYPES BUILTIN_ALIASES BOOL TYPE_NAMES ascii asciiFrom
+words-pass : T (every_word (λ t k w. all (tests t k w)))
+unfolding same tables entries slot_of hashes slots function_reserved_slots keywords_slots macros_slots module_reserved_slots rule_words_slots longest bases FUNCTION_RESERVED KEYWORDS MACROS MODULE_RESERVED RULE_NAMES BOOLEANS RULE_WORDS UINT_TYPES BUILTIN_ALIASES BOOL TYPE_NAMES ascii ascii_from
 words-pass = tt
 
 module _ (t k : ℕ) (h : t < 5) (l : k < length (get_or tables t [])) where
@@ -129,7 +129,7 @@ count_at = table_at (λ t. length (get_or tables t [])) counts 5 refl tt
 -- ---- one test for each entry
 
 pub letter-count : length letters ≡ 359
-unfolding letters ascii asciiFrom
+unfolding letters ascii ascii_from
 letter-count = refl
 
 entry-count : length entries ≡ 77
@@ -137,19 +137,19 @@ unfolding entries FUNCTION_RESERVED KEYWORDS MACROS MODULE_RESERVED RULE_NAMES B
 entry-count = refl
 
 -- what is tested of entry e, whose bytes are w: its size, and that it stands among the letters
-abbrev entry-tests : ℕ → List ℕ → List Bool
-entry-tests e w =
+abbrev entry_tests : ℕ → List ℕ → List Bool
+entry_tests e w =
     eqb (get_or sizes e 0) (length w) ∷
     leb (get_or starts e 0 + length w) 359 ∷
     same (take (length w) (drop (get_or starts e 0) letters)) w ∷ []
 
-entries-pass : T (every (λ e w. all (entry-tests e w)) 0 entries)
-unfolding same entries letters sizes starts FUNCTION_RESERVED KEYWORDS MACROS MODULE_RESERVED RULE_NAMES BOOLEANS RULE_WORDS UINT_TYPES BUILTIN_ALIASES BOOL TYPE_NAMES ascii asciiFrom
+entries-pass : T (every (λ e w. all (entry_tests e w)) 0 entries)
+unfolding same entries letters sizes starts FUNCTION_RESERVED KEYWORDS MACROS MODULE_RESERVED RULE_NAMES BOOLEANS RULE_WORDS UINT_TYPES BUILTIN_ALIASES BOOL TYPE_NAMES ascii ascii_from
 entries-pass = tt
 
 module _ (e : ℕ) (h : e < 77) where
-  entry-pass : (i : ℕ) → T (get_or (entry-tests e (get_or entries e [])) i true)
-  entry-pass = each (entry-tests e (get_or entries e [])) (at (λ e w. all (entry-tests e w)) entries [] entries-pass e (omega (arith, entry-count)))
+  entry-pass : (i : ℕ) → T (get_or (entry_tests e (get_or entries e [])) i true)
+  entry-pass = each (entry_tests e (get_or entries e [])) (at (λ e w. all (entry_tests e w)) entries [] entries-pass e (omega (arith, entry-count)))
 
   pub size-at : get_or sizes e 0 ≡ length (get_or entries e [])
   size-at = eqb→eq _ _ (entry-pass 0)

@@ -1,13 +1,13 @@
 -- Each way out is a case of the definition.
 -- Assumes nothing.
 use Rattle.std.proofs.Common.{rules}
-use Rattle.num.specs.Bound.{lengthOk}
+use Rattle.num.specs.Bound.{length_ok}
 use Rattle.num.proofs.is_length.Goals as goal
 
 pub returns-in_default : goal.returns-in_default
-unfolding lengthOk
+unfolding length_ok
 returns-in_default c = search rules
 
 pub returns : goal.returns
-unfolding lengthOk
+unfolding length_ok
 returns c = search rules

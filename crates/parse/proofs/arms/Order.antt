@@ -3,12 +3,12 @@
 use Rattle.std.proofs.Common.{◌≡◌, ℕ, ◌+◌, ◌*◌, Bool, true, false, ◌&&◌, T, eqb, sym, refl, ◌∙◌, ap₂, arith, eqb→eq, ne_eqb, eqb-true}
 use Rattle.own.specs.Tree.{partner}
 use Rattle.own.specs.Arms as arm
-use Rattle.parse.specs.Infos.{pairArm}
+use Rattle.parse.specs.Infos.{pair_arm}
 use Rattle.parse.specs.Orders as order
 
 -- The order of two built-in arms with these lows.
-pub pair_is : (a b : ℕ) {v : ℕ} (x y : ℕ) → T (eqb v (pairArm x y)) → a ≡ x → b ≡ y → v ≡ pairArm a b
-pair_is a b {v} x y t e f = eqb→eq v (pairArm x y) t ∙ ap₂ pairArm (sym e) (sym f)
+pub pair_is : (a b : ℕ) {v : ℕ} (x y : ℕ) → T (eqb v (pair_arm x y)) → a ≡ x → b ≡ y → v ≡ pair_arm a b
+pair_is a b {v} x y t e f = eqb→eq v (pair_arm x y) t ∙ ap₂ pair_arm (sym e) (sym f)
 
 -- Not both.
 pub both-no : (a x b y : ℕ) → (a ≡ x → b ≡ y → ⊥) → (eqb a x && eqb b y) ≡ false
@@ -23,8 +23,8 @@ abbrev pub together : ℕ → ℕ → ℕ
 together a b = 8 * a + b
 
 -- Lows that are no partners.
-pub pair-no : (a b : ℕ) → (together a b ≡ together arm.Left arm.Right → ⊥) → (together a b ≡ together arm.None arm.Some → ⊥) → (together a b ≡ together arm.False arm.True → ⊥) → (together a b ≡ together arm.Right arm.Left → ⊥) → (together a b ≡ together arm.Some arm.None → ⊥) → (together a b ≡ together arm.True arm.False → ⊥) → order.Unpaired ≡ pairArm a b
-unfolding pairArm partner
+pub pair-no : (a b : ℕ) → (together a b ≡ together arm.Left arm.Right → ⊥) → (together a b ≡ together arm.None arm.Some → ⊥) → (together a b ≡ together arm.False arm.True → ⊥) → (together a b ≡ together arm.Right arm.Left → ⊥) → (together a b ≡ together arm.Some arm.None → ⊥) → (together a b ≡ together arm.True arm.False → ⊥) → order.Unpaired ≡ pair_arm a b
+unfolding pair_arm partner
 pair-no a b n₁ n₂ n₃ n₄ n₅ n₆ =
     rw (
       both-no a arm.Left b arm.Right (λ e f. n₁ (omega arith)),

@@ -6,105 +6,105 @@ use Rattle.text.specs.Lists.{has}
 use Rattle.lexer.specs.Classes as t
 use Rattle.theory.specs.Grammar.{look, row}
 use Rattle.theory.specs.Machine.{choose}
-use Rattle.grammar.specs.shapes.Tables.{table}
-use Rattle.grammar.specs.shapes.TablesIndex.{n-type, n-pattern, n-single, n-arm, n-aliasName}
+use Rattle.grammar.specs.Shapes.Tables.{table}
+use Rattle.grammar.specs.Shapes.TablesIndex.{n-type, n-pattern, n-single, n-arm, n-alias_name}
 use Rattle.parse.specs.Choice as choice
-use Rattle.parse.specs.Contract.{nameSort, headSort}
-use Rattle.parse.proofs.choice.Tables.{type-choices, pattern-choices, single-choices, name-choices, alias-choices, head-choices}
-use Rattle.parse.proofs.rule.ByClass.{pastClasses, run, run_at, low-all, beyond, has-past}
+use Rattle.parse.specs.Contract.{name_sort, head_sort}
+use Rattle.parse.proofs.choice.Tables.{type_choices, pattern_choices, single_choices, name_choices, alias_choices, head_choices}
+use Rattle.parse.proofs.Rule.ByClass.{past_classes, run, run_at, low_all, beyond, has-past}
 
 -- An entry of a list of small numbers is small.
-small : (xs : List ℕ) → T (low-all xs) → (k : ℕ) → get_or xs k 0 < pastClasses
+small : (xs : List ℕ) → T (low_all xs) → (k : ℕ) → get_or xs k 0 < past_classes
 small [] t k = omega arith
-small (x ∷ xs) t zero = ltb→lt x pastClasses (first-of (ltb x pastClasses) (low-all xs) t)
-small (x ∷ xs) t (suc k) = small xs (second-of (ltb x pastClasses) (low-all xs) t) k
+small (x ∷ xs) t zero = ltb→lt x past_classes (first-of (ltb x past_classes) (low_all xs) t)
+small (x ∷ xs) t (suc k) = small xs (second-of (ltb x past_classes) (low_all xs) t) k
 
 -- The names of types, the classes from `bool` on, lead to one alternative: one test over them.
 abbrev many : ℕ
-many = length t.typeNames
+many = length t.type_names
 
-named : (f : ℕ → ℕ) (v : ℕ) → T (run (λ c. eqb v (f c)) many t.bool) → (c : ℕ) → t.bool ≤ c → c < pastClasses → v ≡ f c
+named : (f : ℕ → ℕ) (v : ℕ) → T (run (λ c. eqb v (f c)) many t.bool) → (c : ℕ) → t.bool ≤ c → c < past_classes → v ≡ f c
 named f v u c l h = eqb→eq v (f c) (run_at (λ c. eqb v (f c)) many t.bool c u l (omega arith))
 
-pub type_at : (c : ℕ) → c < t.bool → get_or type-choices c 0 ≡ choose table n-type c
-unfolding type-choices choose row look table
-type_at = table_at (choose table n-type) type-choices t.bool refl tt
+pub type_at : (c : ℕ) → c < t.bool → get_or type_choices c 0 ≡ choose table n-type c
+unfolding type_choices choose row look table
+type_at = table_at (choose table n-type) type_choices t.bool refl tt
 
-pub type-named : (c : ℕ) → t.bool ≤ c → c < pastClasses → choice.NamedType ≡ choose table n-type c
+pub type-named : (c : ℕ) → t.bool ≤ c → c < past_classes → choice.NamedType ≡ choose table n-type c
 unfolding choose row look table
 type-named = named (choose table n-type) choice.NamedType tt
 
-pub type-past : (c : ℕ) → pastClasses ≤ c → 0 ≡ choose table n-type c
+pub type-past : (c : ℕ) → past_classes ≤ c → 0 ≡ choose table n-type c
 unfolding row table
 type-past c h = sym (beyond n-type c h)
 
-pub pattern-at : (c : ℕ) → c < t.bool → get_or pattern-choices c 0 ≡ choose table n-pattern c
-unfolding pattern-choices choose row look table
-pattern-at = table_at (choose table n-pattern) pattern-choices t.bool refl tt
+pub pattern-at : (c : ℕ) → c < t.bool → get_or pattern_choices c 0 ≡ choose table n-pattern c
+unfolding pattern_choices choose row look table
+pattern-at = table_at (choose table n-pattern) pattern_choices t.bool refl tt
 
-pub pattern-named : (c : ℕ) → t.bool ≤ c → c < pastClasses → choice.NamePattern ≡ choose table n-pattern c
+pub pattern-named : (c : ℕ) → t.bool ≤ c → c < past_classes → choice.NamePattern ≡ choose table n-pattern c
 unfolding choose row look table
 pattern-named = named (choose table n-pattern) choice.NamePattern tt
 
-pub pattern-past : (c : ℕ) → pastClasses ≤ c → 0 ≡ choose table n-pattern c
+pub pattern-past : (c : ℕ) → past_classes ≤ c → 0 ≡ choose table n-pattern c
 unfolding row table
 pattern-past c h = sym (beyond n-pattern c h)
 
-pub single-at : (c : ℕ) → c < t.bool → get_or single-choices c 0 ≡ choose table n-single c
-unfolding single-choices choose row look table
-single-at = table_at (choose table n-single) single-choices t.bool refl tt
+pub single-at : (c : ℕ) → c < t.bool → get_or single_choices c 0 ≡ choose table n-single c
+unfolding single_choices choose row look table
+single-at = table_at (choose table n-single) single_choices t.bool refl tt
 
-pub single-named : (c : ℕ) → t.bool ≤ c → c < pastClasses → choice.Named ≡ choose table n-single c
+pub single-named : (c : ℕ) → t.bool ≤ c → c < past_classes → choice.Named ≡ choose table n-single c
 unfolding choose row look table
 single-named = named (choose table n-single) choice.Named tt
 
-pub single-past : (c : ℕ) → pastClasses ≤ c → 0 ≡ choose table n-single c
+pub single-past : (c : ℕ) → past_classes ≤ c → 0 ≡ choose table n-single c
 unfolding row table
 single-past c h = sym (beyond n-single c h)
 
-pub name-at : (c : ℕ) → c < t.bool → get_or name-choices c 0 ≡ nameSort c
-unfolding name-choices nameSort has
-name-at = table_at nameSort name-choices t.bool refl tt
+pub name-at : (c : ℕ) → c < t.bool → get_or name_choices c 0 ≡ name_sort c
+unfolding name_choices name_sort has
+name-at = table_at name_sort name_choices t.bool refl tt
 
-pub name-named : (c : ℕ) → t.bool ≤ c → c < pastClasses → choice.FunctionName ≡ nameSort c
-unfolding nameSort has
-name-named = named (nameSort) choice.FunctionName tt
+pub name-named : (c : ℕ) → t.bool ≤ c → c < past_classes → choice.FunctionName ≡ name_sort c
+unfolding name_sort has
+name-named = named (name_sort) choice.FunctionName tt
 
-pub name-past : (c : ℕ) → pastClasses ≤ c → 0 ≡ nameSort c
-unfolding nameSort
-name-past c h = rw (has-past t.functionNames c tt h, has-past t.identifiers c tt h) refl
+pub name-past : (c : ℕ) → past_classes ≤ c → 0 ≡ name_sort c
+unfolding name_sort
+name-past c h = rw (has-past t.function_names c tt h, has-past t.identifiers c tt h) refl
 
-pub alias-at : (c : ℕ) → c < t.bool → get_or alias-choices c 0 ≡ choose table n-aliasName c
-unfolding alias-choices choose row look table
-alias-at = table_at (choose table n-aliasName) alias-choices t.bool refl tt
+pub alias-at : (c : ℕ) → c < t.bool → get_or alias_choices c 0 ≡ choose table n-alias_name c
+unfolding alias_choices choose row look table
+alias-at = table_at (choose table n-alias_name) alias_choices t.bool refl tt
 
-alias-named : (c : ℕ) → t.bool ≤ c → c < pastClasses → choice.Absent ≡ choose table n-aliasName c
+alias-named : (c : ℕ) → t.bool ≤ c → c < past_classes → choice.Absent ≡ choose table n-alias_name c
 unfolding choose row look table
-alias-named = named (choose table n-aliasName) choice.Absent tt
+alias-named = named (choose table n-alias_name) choice.Absent tt
 
-no-alias : (c : ℕ) → pastClasses ≤ c → choice.Absent ≡ choose table n-aliasName c
+no-alias : (c : ℕ) → past_classes ≤ c → choice.Absent ≡ choose table n-alias_name c
 unfolding row table
-no-alias c h = sym (beyond n-aliasName c h)
+no-alias c h = sym (beyond n-alias_name c h)
 
-pub alias-past : (c : ℕ) → t.bool ≤ c → choice.Absent ≡ choose table n-aliasName c
-alias-past c l = go (ltb c pastClasses) refl
+pub alias-past : (c : ℕ) → t.bool ≤ c → choice.Absent ≡ choose table n-alias_name c
+alias-past c l = go (ltb c past_classes) refl
   where
-    go : (b : Bool) → ltb c pastClasses ≡ b → choice.Absent ≡ choose table n-aliasName c
-    go true e = alias-named c l (ltb-true c pastClasses e)
-    go false e = no-alias c (ltb-false c pastClasses e)
+    go : (b : Bool) → ltb c past_classes ≡ b → choice.Absent ≡ choose table n-alias_name c
+    go true e = alias-named c l (ltb-true c past_classes e)
+    go false e = no-alias c (ltb-false c past_classes e)
 
-pub head_at : (c : ℕ) → c < t.bool → get_or head-choices c 0 ≡ headSort c
-unfolding head-choices headSort choose row look table
-head_at = table_at headSort head-choices t.bool refl tt
+pub head_at : (c : ℕ) → c < t.bool → get_or head_choices c 0 ≡ head_sort c
+unfolding head_choices head_sort choose row look table
+head_at = table_at head_sort head_choices t.bool refl tt
 
-no_arm : (c : ℕ) → pastClasses ≤ c → choose table n-arm c ≡ 0
+no_arm : (c : ℕ) → past_classes ≤ c → choose table n-arm c ≡ 0
 unfolding row table
 no_arm c h = beyond n-arm c h
 
-pub head-named : (c : ℕ) → t.bool ≤ c → c < pastClasses → choice.NamedHead ≡ headSort c
-unfolding headSort choose row look table
-head-named = named (headSort) choice.NamedHead tt
+pub head-named : (c : ℕ) → t.bool ≤ c → c < past_classes → choice.NamedHead ≡ head_sort c
+unfolding head_sort choose row look table
+head-named = named (head_sort) choice.NamedHead tt
 
-pub head-past : (c : ℕ) → pastClasses ≤ c → 0 ≡ headSort c
-unfolding headSort
+pub head-past : (c : ℕ) → past_classes ≤ c → 0 ≡ head_sort c
+unfolding head_sort
 head-past c h = rw (no_arm c h) refl

@@ -5,23 +5,23 @@ use mathlib.Core.Option.{Option, none, some}
 use Rattle.text.specs.Table.{implied}
 use Rattle.theory.specs.Grammar.{Sym, tok, nt, Case, on, look, row, alt}
 use Rattle.theory.specs.Machine.{choose, expand}
-use Rattle.grammar.specs.shapes.Tables.{table}
-use Rattle.parse.proofs.rule.ByClass.{pastClasses, run, sweep, beyond}
+use Rattle.grammar.specs.Shapes.Tables.{table}
+use Rattle.parse.proofs.Rule.ByClass.{past_classes, run, sweep, beyond}
 
 same_number : (a b : ℕ) → a ≡ b → T (eqb a b)
 same_number a b e = rw (eq-eqb a b e) tt
 
 -- Where the table chooses the alternative i of A, the test f passes: one computation.
-pub where-chosen : (A i : ℕ) (f : ℕ → Bool) → T (not (eqb (row table A).other i)) → T (run (λ c. not (eqb (choose table A c) i) || f c) pastClasses 0) → (c : ℕ) → choose table A c ≡ i → T (f c)
-where-chosen A i f o t c e = go (ltb c pastClasses) refl
+pub where-chosen : (A i : ℕ) (f : ℕ → Bool) → T (not (eqb (row table A).other i)) → T (run (λ c. not (eqb (choose table A c) i) || f c) past_classes 0) → (c : ℕ) → choose table A c ≡ i → T (f c)
+where-chosen A i f o t c e = go (ltb c past_classes) refl
   where
     no : (b : Bool) → T (not b) → T b → T (f c)
     no true u v = absurd u
     no false u v = absurd v
 
-    go : (b : Bool) → ltb c pastClasses ≡ b → T (f c)
-    go true h = implied (eqb (choose table A c) i) (f c) (sweep (λ c. not (eqb (choose table A c) i) || f c) t c (ltb-true c pastClasses h)) (same_number (choose table A c) i e)
-    go false h = no (eqb (row table A).other i) o (same_number (row table A).other i (sym (beyond A c (ltb-false c pastClasses h)) ∙ e))
+    go : (b : Bool) → ltb c past_classes ≡ b → T (f c)
+    go true h = implied (eqb (choose table A c) i) (f c) (sweep (λ c. not (eqb (choose table A c) i) || f c) t c (ltb-true c past_classes h)) (same_number (choose table A c) i e)
+    go false h = no (eqb (row table A).other i) o (same_number (row table A).other i (sym (beyond A c (ltb-false c past_classes h)) ∙ e))
 
 -- The alternative is this one class.
 abbrev pub alone : Option (List Sym) → ℕ → Bool

@@ -5,13 +5,13 @@ use Rattle.text.specs.Answers as paper
 use Rattle.text.specs.Front.{Held, front-cleared}
 use Rattle.text.specs.Refusals as refusal
 use Rattle.text.specs.Same.{differ}
-use Rattle.text.specs.Widths.{recWide}
-use Rattle.own.specs.Words.{recWords}
+use Rattle.text.specs.Widths.{rec_wide}
+use Rattle.own.specs.Words.{rec_words}
 use Rattle.own.specs.WordLaws.{record-words-length}
-use Rattle.lexer.specs.Buffer.{tokensIn}
+use Rattle.lexer.specs.Buffer.{tokens_in}
 use Rattle.grammar.specs.Entry.{Entry}
-use Rattle.grammar.specs.answers.Answer.{Reading, unread, read, fitted, content, recordsIn}
-use Rattle.parse.specs.Entry.{tooMany, tooLong, reading_of, meant, answered, answer_of, tree_of}
+use Rattle.grammar.specs.Answers.Answer.{Reading, unread, read, fitted, content, records_in}
+use Rattle.parse.specs.Entry.{too_many, too_long, reading_of, meant, answered, answer_of, tree_of}
 use Rattle.parse.specs.declared.Answer.{Answer}
 use Rattle.parse.specs.declared.Answer.TheVariants.{Records, Refused}
 
@@ -26,36 +26,36 @@ many (Refused c p) = 0
 -- What is read, into k words.
 module _ (k : ℕ) where
   abbrev kept : Reading → List ℕ
-  kept r = recWords (recordsIn r)
+  kept r = rec_words (records_in r)
 
   -- Too many tokens, then too long a file, then what is read: the answer, and the words.
-  abbrev answer-by : Bool → Bool → Reading → paper.Answer
-  answer-by b c r = cond b (paper.refused refusal.TooMany 0) (cond c (paper.refused refusal.TooLong 0) (fitted k r))
+  abbrev answer_by : Bool → Bool → Reading → paper.Answer
+  answer_by b c r = cond b (paper.refused refusal.TooMany 0) (cond c (paper.refused refusal.TooLong 0) (fitted k r))
 
-  abbrev words-by : Bool → Bool → Reading → List ℕ
-  words-by b c r = cond b (replicate k 0) (cond c (replicate k 0) (content (fitted k r) (kept r) k))
+  abbrev words_by : Bool → Bool → Reading → List ℕ
+  words_by b c r = cond b (replicate k 0) (cond c (replicate k 0) (content (fitted k r) (kept r) k))
 
   record Fitting (m : ℕ) (r : Reading) (l : List ℕ) : Type 0 where
-    room : recWide * m ≤ k
-    long : length (kept r) ≡ recWide * m
+    room : rec_wide * m ≤ k
+    long : length (kept r) ≡ rec_wide * m
     words_are : kept r ++ replicate (k - length (kept r)) 0 ≡ l
 
-  fitting : (b c : Bool) (r : Reading) {m : ℕ} → Records m ≡ answered (answer-by b c r) → Fitting m r (words-by b c r)
+  fitting : (b c : Bool) (r : Reading) {m : ℕ} → Records m ≡ answered (answer_by b c r) → Fitting m r (words_by b c r)
   fitting true c r e = absurd (differ (sym (ap recording e)))
   fitting false true r e = absurd (differ (sym (ap recording e)))
   fitting false false (unread c p) e = absurd (differ (sym (ap recording e)))
-  fitting false false (read ts rs) {m} e = go (ltb k (recWide * length rs)) refl e
+  fitting false false (read ts rs) {m} e = go (ltb k (rec_wide * length rs)) refl e
     where
       answer-if : Bool → paper.Answer
       answer-if b = cond b (paper.refused refusal.NoRoom 0) (paper.accepted (length ts) (length rs))
 
-      go : (b : Bool) → ltb k (recWide * length rs) ≡ b → Records m ≡ answered (answer-if b) → Fitting m (read ts rs) (content (answer-if b) (recWords rs) k)
+      go : (b : Bool) → ltb k (rec_wide * length rs) ≡ b → Records m ≡ answered (answer-if b) → Fitting m (read ts rs) (content (answer-if b) (rec_words rs) k)
       go true q f = absurd (differ (sym (ap recording f)))
       go false q f =
           let n : m ≡ length rs = ap many f in
-          record { room = omega (arith, n, ltb-false k (recWide * length rs) q); long = omega (arith, n, record-words-length rs); words_are = refl }
+          record { room = omega (arith, n, ltb-false k (rec_wide * length rs) q); long = omega (arith, n, record-words-length rs); words_are = refl }
 
-  zeros : (b c : Bool) (r : Reading) {d p : ℕ} → Refused d p ≡ answered (answer-by b c r) → replicate k 0 ≡ words-by b c r
+  zeros : (b c : Bool) (r : Reading) {d p : ℕ} → Refused d p ≡ answered (answer_by b c r) → replicate k 0 ≡ words_by b c r
   zeros true c r e = refl
   zeros false true r e = refl
   zeros false false r {d} {p} e = go (fitted k r) e
@@ -68,19 +68,19 @@ module _ (en : Entry) (most : ℕ) (draft words' o : List ℕ) (n : ℕ) {a : An
   -- On a refusal;
   pub refused-tree : {d p : ℕ} → a ≡ Refused d p → replicate (length o) 0 ≡ tree_of en most draft words' n (length o)
   unfolding answer_of tree_of
-  refused-tree q = zeros (length o) (tooMany most n (length words')) (tooLong en (length draft)) (reading_of en draft (tokensIn n words')) (sym q ∙ e)
+  refused-tree q = zeros (length o) (too_many most n (length words')) (too_long en (length draft)) (reading_of en draft (tokens_in n words')) (sym q ∙ e)
 
   -- and of so many records, which fit.
   module _ {m : ℕ} (q : a ≡ Records m) where
-    fits : Fitting (length o) m (reading_of en draft (tokensIn n words')) (tree_of en most draft words' n (length o))
+    fits : Fitting (length o) m (reading_of en draft (tokens_in n words')) (tree_of en most draft words' n (length o))
     unfolding answer_of tree_of
-    fits = fitting (length o) (tooMany most n (length words')) (tooLong en (length draft)) (reading_of en draft (tokensIn n words')) (sym q ∙ e)
+    fits = fitting (length o) (too_many most n (length words')) (too_long en (length draft)) (reading_of en draft (tokens_in n words')) (sym q ∙ e)
 
-    pub records-fit : recWide * m ≤ length o
+    pub records-fit : rec_wide * m ≤ length o
     records-fit = fits.room
 
-    pub cleared-tree : (out : List ℕ) → Held (meant n a) (recWords (recordsIn (reading_of en draft (tokensIn n words')))) o out → take (recWide * m) out ++ replicate (length out - recWide * m) 0 ≡ tree_of en most draft words' n (length o)
+    pub cleared-tree : (out : List ℕ) → Held (meant n a) (rec_words (records_in (reading_of en draft (tokens_in n words')))) o out → take (rec_wide * m) out ++ replicate (length out - rec_wide * m) 0 ≡ tree_of en most draft words' n (length o)
     cleared-tree out h =
-        ap (λ (z : List ℕ). take (recWide * m) z ++ replicate (length z - recWide * m) 0) (h.holds n m (ap (meant n) q))
-        ∙ front-cleared (recWords (recordsIn (reading_of en draft (tokensIn n words')))) o (recWide * m) fits.long fits.room
+        ap (λ (z : List ℕ). take (rec_wide * m) z ++ replicate (length z - rec_wide * m) 0) (h.holds n m (ap (meant n) q))
+        ∙ front-cleared (rec_words (records_in (reading_of en draft (tokens_in n words')))) o (rec_wide * m) fits.long fits.room
         ∙ fits.words_are

@@ -6,58 +6,58 @@ use lib.Seq.{sets, sets-eq}
 use Rattle.own.specs.WordLaws.{record-words-length}
 use Rattle.text.specs.Same.{differ}
 use Rattle.lexer.specs.Lexemes.{Token}
-use Rattle.lexer.specs.Buffer.{tokensIn}
+use Rattle.lexer.specs.Buffer.{tokens_in}
 use Rattle.lexer.specs.Fits.{not-both}
-use Rattle.lexer.specs.Limits.{noToken}
+use Rattle.lexer.specs.Limits.{no_token}
 use Rattle.theory.specs.Grammar.{nt}
 use Rattle.theory.specs.Ebnf as shape
 use Rattle.theory.specs.Parse.{Found, found, stuck}
-use Rattle.own.specs.Tree.{Tok, Items, Node, Each, Rec, roots, records, concat, classesOf}
+use Rattle.own.specs.Tree.{Tok, Items, Node, Each, Rec, roots, records, concat, classes_of}
 use Rattle.own.specs.Law.{Keeps}
 use Rattle.own.specs.Rules.{each_map}
-use Rattle.own.specs.Flat.{no-token}
-use Rattle.text.specs.Widths.{tokWide, recWide}
+use Rattle.own.specs.Flat.{blank_tok}
+use Rattle.text.specs.Widths.{tok_wide, rec_wide}
 use Rattle.text.specs.Front.{front, Held}
 use Rattle.text.specs.Answers as paper
 use Rattle.text.specs.Refusals as refusal
-use Rattle.own.specs.Words.{toks, wordGroups, recWords}
+use Rattle.own.specs.Words.{toks, word_groups, rec_words}
 use Rattle.own.specs.WordLaws.{words_are}
 use Rattle.kinds.specs.Class.{class_of}
 use Rattle.kinds.specs.Spelled.{Spelled}
-use Rattle.grammar.specs.Entry.{Entry, oneFunction, wholeFile, startNt, recordsOf}
-use Rattle.grammar.specs.shapes.WellShaped.{shape_of}
-use Rattle.grammar.specs.shapes.WellShapedLaws.{reads-shape, reads-too-few, sticks-shape}
-use Rattle.grammar.specs.spelled.TreeTokens.{length-classes, whole-trees, is-shape}
-use Rattle.grammar.specs.spelled.RecordLaws.{all-spelled}
-use Rattle.grammar.specs.records.Records.{recordItems}
-use Rattle.grammar.specs.records.Faults.{Fault, faults, earliest, faultOf}
-use Rattle.grammar.specs.answers.Answer.{toks_of, start_of, treesOf, recordsFor, Reading, unread, read, faulty, shaped, fitted, recordsIn}
+use Rattle.grammar.specs.Entry.{Entry, single_function, whole_file, start_nt, records_of}
+use Rattle.grammar.specs.Shapes.WellShaped.{shape_of}
+use Rattle.grammar.specs.Shapes.WellShapedLaws.{reads-shape, reads-too-few, sticks-shape}
+use Rattle.grammar.specs.Spelled.TreeTokens.{length-classes, whole-trees, is_shape}
+use Rattle.grammar.specs.Spelled.RecordLaws.{all-spelled}
+use Rattle.grammar.specs.Records.Records.{record_items}
+use Rattle.grammar.specs.Records.Faults.{Fault, faults, earliest, fault_of}
+use Rattle.grammar.specs.Answers.Answer.{toks_of, start_of, trees_of, records_for, Reading, unread, read, faulty, shaped, fitted, records_in}
 use Rattle.parse.specs.Contract as contract
-use Rattle.parse.specs.Contract.{Text, text, countable, classes, tokAt, Read, Stuck, raw, faultIn, sooner, kept, fault, Holds, Info, asItems, Went}
-use Rattle.parse.specs.Infos.{file-read, file-stuck}
-use Rattle.parse.specs.Entry.{tooMany, tooLong, WholeRead, one-read, all_read, reading_of, meant, answered, answer_of, Starts, ended, judged}
+use Rattle.parse.specs.Contract.{Text, text, countable, classes, tok_at, Read, Stuck, raw, fault_in, sooner, kept, fault, Holds, Info, as_items, Went}
+use Rattle.parse.specs.Infos.{file_read, file_stuck}
+use Rattle.parse.specs.Entry.{too_many, too_long, WholeRead, one_read, all_read, reading_of, meant, answered, answer_of, Starts, ended, judged}
 use Rattle.parse.specs.declared.State.{State}
 use Rattle.parse.specs.declared.Step.{Step}
 use Rattle.parse.specs.declared.Answer.{Answer}
 use Rattle.parse.specs.declared.Answer.TheVariants.{Records, Refused}
-use Rattle.parse.proofs.rule.Lists.{length-words}
+use Rattle.parse.proofs.Rule.Lists.{length-words}
 use Rattle.parse.proofs.token.Tokens.{length-toks}
 use Rattle.parse.proofs.entry.Holds.{spelled_holds}
 use Rattle.parse.proofs.entry.Closed.{Closed, closed-function, closed-file}
 
 -- Tokens as the code reads them are those of the paper.
-pub toks-of : (draft : List ℕ) (n : ℕ) (w : List ℕ) → toks_of draft (tokensIn n w) ≡ toks (class_of draft) n w
-unfolding toks_of tokensIn
+pub toks-of : (draft : List ℕ) (n : ℕ) (w : List ℕ) → toks_of draft (tokens_in n w) ≡ toks (class_of draft) n w
+unfolding toks_of tokens_in
 toks-of draft zero w = refl
 toks-of draft (suc n) w =
-    ap (λ (l : List Tok). record { class = class_of draft (get_or w 0 0) (get_or w 1 0) (get_or w 2 0); start = get_or w 1 0; stop = get_or w 2 0 } ∷ l) (toks-of draft n (drop tokWide w))
+    ap (λ (l : List Tok). record { class = class_of draft (get_or w 0 0) (get_or w 1 0) (get_or w 2 0); start = get_or w 1 0; stop = get_or w 2 0 } ∷ l) (toks-of draft n (drop tok_wide w))
 
-length-in : (n : ℕ) (w : List ℕ) → length (tokensIn n w) ≡ n
-unfolding tokensIn
+length-in : (n : ℕ) (w : List ℕ) → length (tokens_in n w) ≡ n
+unfolding tokens_in
 length-in zero w = refl
-length-in (suc n) w = ap suc (length-in n (drop tokWide w))
+length-in (suc n) w = ap suc (length-in n (drop tok_wide w))
 
-start-toks : (draft : List ℕ) (ts : List Token) (i : ℕ) → (get_or ts i noToken).start ≡ (get_or (toks_of draft ts) i no-token).start
+start-toks : (draft : List ℕ) (ts : List Token) (i : ℕ) → (get_or ts i no_token).start ≡ (get_or (toks_of draft ts) i blank_tok).start
 unfolding toks_of
 start-toks draft [] i = refl
 start-toks draft (t ∷ ts) zero = refl
@@ -67,34 +67,34 @@ abbrev taken : Answer → Bool
 taken (Records m) = true
 taken (Refused c p) = false
 
-module _ (draft words' : List ℕ) (n : ℕ) (h : tokWide * n ≤ length words') where
+module _ (draft words' : List ℕ) (n : ℕ) (h : tok_wide * n ≤ length words') where
   abbrev x : Text
   x = text draft words' n
 
   abbrev ts : List Token
-  ts = tokensIn n words'
+  ts = tokens_in n words'
 
-  all_held : (b : Bool) → ltb n (length words' / tokWide) ≡ b → cond b n (length words' / tokWide) ≡ n
+  all_held : (b : Bool) → ltb n (length words' / tok_wide) ≡ b → cond b n (length words' / tok_wide) ≡ n
   all_held true e = refl
-  all_held false e = omega (arith, ltb-false n (length words' / tokWide) e)
+  all_held false e = omega (arith, ltb-false n (length words' / tok_wide) e)
 
   text-is : x.ts ≡ toks_of draft ts
   unfolding text
-  text-is = ap (λ k. toks (class_of draft) k words') (all_held (ltb n (length words' / tokWide)) refl) ∙ sym (toks-of draft n words')
+  text-is = ap (λ k. toks (class_of draft) k words') (all_held (ltb n (length words' / tok_wide)) refl) ∙ sym (toks-of draft n words')
 
   pub length-is : length x.ts ≡ n
   length-is = ap length (text-is ∙ toks-of draft n words') ∙ length-toks (class_of draft) n words'
 
   -- Where a token starts, or the length at the end.
-  pub place_in : (at : ℕ) → at < n → (tokAt x at).start ≡ start_of draft ts at
+  pub place_in : (at : ℕ) → at < n → (tok_at x at).start ≡ start_of draft ts at
   unfolding start_of
   place_in at i =
-      ap (λ (l : List Tok). (get_or l at no-token).start) text-is ∙ sym (start-toks draft ts at)
-      ∙ sym (ap (λ (b : Bool). cond b (get_or ts at noToken).start (length draft)) (lt-ltb at (length ts) (omega (arith, length-in n words'))))
+      ap (λ (l : List Tok). (get_or l at blank_tok).start) text-is ∙ sym (start-toks draft ts at)
+      ∙ sym (ap (λ (b : Bool). cond b (get_or ts at no_token).start (length draft)) (lt-ltb at (length ts) (omega (arith, length-in n words'))))
 
   pub place_out : (at : ℕ) → n ≤ at → length draft ≡ start_of draft ts at
   unfolding start_of
-  place_out at i = sym (ap (λ (b : Bool). cond b (get_or ts at noToken).start (length draft)) (le-ltb at (length ts) (omega (arith, length-in n words'))))
+  place_out at i = sym (ap (λ (b : Bool). cond b (get_or ts at no_token).start (length draft)) (le-ltb at (length ts) (omega (arith, length-in n words'))))
 
   -- What is read of the draft, at any entry.
   module _ (en : Entry) where
@@ -103,12 +103,12 @@ module _ (draft words' : List ℕ) (n : ℕ) (h : tokWide * n ≤ length words')
 
     reading-is : (f : Found) → shape_of en (classes x) ≡ f → R ≡ shaped en draft ts f
     unfolding reading_of
-    reading-is f e = ap (shaped en draft ts) (ap (λ (u : List Tok). shape_of en (classesOf u)) (sym text-is) ∙ e)
+    reading-is f e = ap (shaped en draft ts) (ap (λ (u : List Tok). shape_of en (classes_of u)) (sym text-is) ∙ e)
 
     module _ (o : List ℕ) where
       -- What a step says, of the buffer that it makes of o.
       abbrev Says : List ℕ → Answer → Type 0
-      Says l a = (answered (fitted (length o) R) ≡ a) × Held (meant n a) (recWords (recordsIn R)) o l
+      Says l a = (answered (fitted (length o) R) ≡ a) × Held (meant n a) (rec_words (records_in R)) o l
 
       refuses : {l : List ℕ} (c p : ℕ) → R ≡ unread c p → Says l (Refused c p)
       refuses c p e = (ap (λ r. answered (fitted (length o) r)) e, record { holds = λ i m q. absurd (not-both q) })
@@ -117,13 +117,13 @@ module _ (draft words' : List ℕ) (n : ℕ) (h : tokWide * n ≤ length words')
       sticks p e = refuses refusal.Misshapen (start_of draft ts p) (reading-is (stuck p) e)
 
   -- What is read at an entry from the first state on, into a buffer l; each token of what is laid is as it was.
-  module _ (en : Entry) {st : State} (s : Starts x st) {l l' : List ℕ} {I : Info} {z : State} {a b : ℕ} (w : Went x (nt (startNt en) ∷ []) asItems I st l z l' a b)
+  module _ (en : Entry) {st : State} (s : Starts x st) {l l' : List ℕ} {I : Info} {z : State} {a b : ℕ} (w : Went x (nt (start_nt en) ∷ []) as_items I st l z l' a b)
       (same : w.L ≡ raw x st.at w.items) where
     abbrev r : shape.Items
     r = w.items
 
-    its-read : Read x (nt (startNt en) ∷ []) 0 r z.at
-    its-read = subst (λ i. Read x (nt (startNt en) ∷ []) i r z.at) s.at-is w.reads
+    its-read : Read x (nt (start_nt en) ∷ []) 0 r z.at
+    its-read = subst (λ i. Read x (nt (start_nt en) ∷ []) i r z.at) s.at_is w.reads
 
     its-length : length (classes x) ≡ n
     its-length = length-classes x.ts ∙ length-is
@@ -131,38 +131,38 @@ module _ (draft words' : List ℕ) (n : ℕ) (h : tokWide * n ≤ length words')
     -- Read to the end: the shape tree, its refusal and its records.
     module _ (e : z.at ≡ n) where
       its_shape : shape_of en (classes x) ≡ found r
-      its_shape = reads-shape en (classes x) r (subst (λ j. Read x (nt (startNt en) ∷ []) 0 r j) (e ∙ sym its-length) its-read)
+      its_shape = reads-shape en (classes x) r (subst (λ j. Read x (nt (start_nt en) ∷ []) 0 r j) (e ∙ sym its-length) its-read)
 
-      shape-of : shape_of en (classesOf (toks_of draft ts)) ≡ found r
-      shape-of = ap (λ (u : List Tok). shape_of en (classesOf u)) (sym text-is) ∙ its_shape
+      shape-of : shape_of en (classes_of (toks_of draft ts)) ≡ found r
+      shape-of = ap (λ (u : List Tok). shape_of en (classes_of u)) (sym text-is) ∙ its_shape
 
-      fault-is : faultOf draft (toks_of draft ts) r ≡ kept z
-      unfolding faultOf faultIn text
-      fault-is =
+      fault_is : fault_of draft (toks_of draft ts) r ≡ kept z
+      unfolding fault_of fault_in text
+      fault_is =
           ap (λ (u : List Tok). earliest (faults draft r u)) (sym text-is)
-          ∙ sym (w.lays.worst ∙ ap₂ (λ (f : Option Fault) (i : ℕ). sooner f (faultIn x i r)) s.kept-is s.at-is)
+          ∙ sym (w.lays.worst ∙ ap₂ (λ (f : Option Fault) (i : ℕ). sooner f (fault_in x i r)) s.kept_is s.at_is)
 
       abbrev ns : List Node
-      ns = treesOf draft ts r
+      ns = trees_of draft ts r
 
-      laid-is : w.L ≡ roots ns
+      laid_is : w.L ≡ roots ns
       unfolding raw text
-      laid-is =
-          same ∙ ap (λ (i : ℕ). raw x i r) s.at-is ∙ ap (λ (u : List Tok). recordItems draft r u) text-is
-          ∙ sym (whole-trees en draft (toks_of draft ts) (is-shape en draft (toks_of draft ts) r shape-of))
+      laid_is =
+          same ∙ ap (λ (i : ℕ). raw x i r) s.at_is ∙ ap (λ (u : List Tok). record_items draft r u) text-is
+          ∙ sym (whole-trees en draft (toks_of draft ts) (is_shape en draft (toks_of draft ts) r shape-of))
 
-      its-words : concat (wordGroups w.L) ≡ recWords (records ns)
-      its-words = ap (λ (u : Items). concat (wordGroups u)) laid-is ∙ sym (words_are ns)
+      its-words : concat (word_groups w.L) ≡ rec_words (records ns)
+      its-words = ap (λ (u : Items). concat (word_groups u)) laid_is ∙ sym (words_are ns)
 
       its-count : length (records ns) ≡ z.out
-      its-count = omega (arith, length-words w.L, ap length its-words, record-words-length (records ns), w.lays.sized, s.out-is)
+      its-count = omega (arith, length-words w.L, ap length its-words, record-words-length (records ns), w.lays.sized, s.out_is)
 
-      its-fit : Each Holds w.L → recWide * z.out ≤ length l → l' ≡ front (recWords (records ns)) l
+      its-fit : Each Holds w.L → rec_wide * z.out ≤ length l → l' ≡ front (rec_words (records ns)) l
       its-fit hold g =
-          let ws : List ℕ = concat (wordGroups w.L) in
+          let ws : List ℕ = concat (word_groups w.L) in
           let v = length-words w.L in
           let t₀ : 0 + length ws ≡ length ws = omega arith in
-          w.lays.laid hold g ∙ ap (λ (o : ℕ). sets l (recWide * o) ws) s.out-is ∙ sets-eq ws l 0 (omega (arith, w.lays.sized, s.out-is))
+          w.lays.laid hold g ∙ ap (λ (o : ℕ). sets l (rec_wide * o) ws) s.out_is ∙ sets-eq ws l 0 (omega (arith, w.lays.sized, s.out_is))
           ∙ ap (λ (i : ℕ). ws ++ drop i l) t₀ ∙ ap (λ (u : List ℕ). front u l) its-words
 
       its-kept : (d : Bool) → eqb z.fault 0 ≡ d → kept z ≡ cond d none (some (record { number = z.fault; place = z.place }))
@@ -170,16 +170,16 @@ module _ (draft words' : List ℕ) (n : ℕ) (h : tokWide * n ≤ length words')
       its-kept d f = ap (λ (b : Bool). cond b none (some (record { number = z.fault; place = z.place }))) f
 
       abbrev rs : List Rec
-      rs = recordsOf en (length draft) ns
+      rs = records_of en (length draft) ns
 
       reading-faulty : (o : Option Fault) → kept z ≡ o → R en ≡ faulty o ts rs
-      reading-faulty o f = reading-is en (found r) its_shape ∙ ap (λ (p : Option Fault). faulty p ts rs) (fault-is ∙ f)
+      reading-faulty o f = reading-is en (found r) its_shape ∙ ap (λ (p : Option Fault). faulty p ts rs) (fault_is ∙ f)
 
       -- No number is too large where nothing is refused.
       numbers_fit : eqb z.fault 0 ≡ true → Each Holds w.L
       numbers_fit f =
-          let clear : faultOf draft (toks_of draft ts) r ≡ none = fault-is ∙ its-kept true f in
-          subst (Each Holds) (sym laid-is) (each_map (Keeps Spelled) Holds spelled_holds (roots ns) (all-spelled en draft (toks_of draft ts) r shape-of clear))
+          let clear : fault_of draft (toks_of draft ts) r ≡ none = fault_is ∙ its-kept true f in
+          subst (Each Holds) (sym laid_is) (each_map (Keeps Spelled) Holds spelled_holds (roots ns) (all-spelled en draft (toks_of draft ts) r shape-of clear))
 
     -- The last state z' and the whole buffer l'', made of o, that are made of these.
     module _ {z' : State} {o l'' : List ℕ} (c : Closed en (length draft) z l l' z' o l'') where
@@ -187,25 +187,25 @@ module _ (draft words' : List ℕ) (n : ℕ) (h : tokWide * n ≤ length words')
       k = length o
 
       abbrev end_of : Answer
-      end_of = cond (ltb k (recWide * z'.out)) (Refused refusal.NoRoom 0) (Records z'.out)
+      end_of = cond (ltb k (rec_wide * z'.out)) (Refused refusal.NoRoom 0) (Records z'.out)
 
       module _ (e : z.at ≡ n) (f : eqb z.fault 0 ≡ true) where
         read_all : R en ≡ read ts (rs e)
         read_all = reading-faulty e none (its-kept e true f)
 
-        fitted-is : (b : Bool) → ltb k (recWide * z'.out) ≡ b → fitted k (R en) ≡ cond b (paper.refused refusal.NoRoom 0) (paper.accepted (length ts) z'.out)
+        fitted-is : (b : Bool) → ltb k (rec_wide * z'.out) ≡ b → fitted k (R en) ≡ cond b (paper.refused refusal.NoRoom 0) (paper.accepted (length ts) z'.out)
         fitted-is b g =
-            ap (fitted k) read_all ∙ ap (λ (m : ℕ). cond (ltb k (recWide * m)) (paper.refused refusal.NoRoom 0) (paper.accepted (length ts) m)) (c.counts (ns e) (its-count e))
+            ap (fitted k) read_all ∙ ap (λ (m : ℕ). cond (ltb k (rec_wide * m)) (paper.refused refusal.NoRoom 0) (paper.accepted (length ts) m)) (c.counts (ns e) (its-count e))
             ∙ ap (λ (b : Bool). cond b (paper.refused refusal.NoRoom 0) (paper.accepted (length ts) z'.out)) g
 
-        says-read : (b : Bool) → ltb k (recWide * z'.out) ≡ b → Says en o l'' (cond b (Refused refusal.NoRoom 0) (Records z'.out))
+        says-read : (b : Bool) → ltb k (rec_wide * z'.out) ≡ b → Says en o l'' (cond b (Refused refusal.NoRoom 0) (Records z'.out))
         says-read true g = (ap answered (fitted-is true g), record { holds = λ i m q. absurd (not-both q) })
         says-read false g = (
           ap answered (fitted-is false g),
           record {
             holds = λ i m q.
-                c.words_are (ns e) (its-count e) (ltb-false k (recWide * z'.out) g) (its-fit e (numbers_fit e f))
-                ∙ sym (ap (λ (q : Reading). front (recWords (recordsIn q)) o) read_all);
+                c.words_are (ns e) (its-count e) (ltb-false k (rec_wide * z'.out) g) (its-fit e (numbers_fit e f))
+                ∙ sym (ap (λ (q : Reading). front (rec_words (records_in q)) o) read_all);
           },
         )
 
@@ -214,31 +214,31 @@ module _ (draft words' : List ℕ) (n : ℕ) (h : tokWide * n ≤ length words')
 
       by_state : (b : Bool) → ltb z.at n ≡ b → (d : Bool) → eqb z.fault 0 ≡ d → Says en o l'' (cond b (Refused refusal.Misshapen (start_of draft ts z.at)) (cond d end_of (Refused z.fault z.place)))
       by_state true e d f = sticks en o z.at (reads-too-few en (classes x) r z.at its-read (omega (arith, ltb-true z.at n e, its-length)))
-      by_state false e true f = says-read (its-end e) f (ltb k (recWide * z'.out)) refl
+      by_state false e true f = says-read (its-end e) f (ltb k (rec_wide * z'.out)) refl
       by_state false e false f = refuses en o z.fault z.place (reading-faulty (its-end e) (some (record { number = z.fault; place = z.place })) (its-kept (its-end e) false f))
 
       says-ended : Says en o l'' (ended draft words' n k z')
       unfolding ended
       says-ended =
-          subst (λ (i : ℕ). Says en o l'' (cond (ltb i n) (Refused refusal.Misshapen (start_of draft ts i)) (cond (eqb z'.fault 0) end_of (Refused z'.fault z'.place)))) (sym c.at-is)
-          (subst (λ (i : ℕ). Says en o l'' (cond (ltb z.at n) (Refused refusal.Misshapen (start_of draft ts z.at)) (cond (eqb i 0) end_of (Refused i z'.place)))) (sym c.fault-is)
+          subst (λ (i : ℕ). Says en o l'' (cond (ltb i n) (Refused refusal.Misshapen (start_of draft ts i)) (cond (eqb z'.fault 0) end_of (Refused z'.fault z'.place)))) (sym c.at_is)
+          (subst (λ (i : ℕ). Says en o l'' (cond (ltb z.at n) (Refused refusal.Misshapen (start_of draft ts z.at)) (cond (eqb i 0) end_of (Refused i z'.place)))) (sym c.fault_is)
           (subst (λ (i : ℕ). Says en o l'' (cond (ltb z.at n) (Refused refusal.Misshapen (start_of draft ts z.at)) (cond (eqb z.fault 0) end_of (Refused z.fault i)))) (sym c.place_is)
           (by_state (ltb z.at n) refl (eqb z.fault 0) refl)))
 
   -- What a whole draft says is the reader's answer, and the buffer holds what the reader says.
   module _ {st : State} (s : Starts x st) (l : List ℕ) (few : n ≤ countable) where
-    stuck_at : (en : Entry) {l' : List ℕ} {p : ℕ} → Stuck x (nt (startNt en) ∷ []) st.at p → Says en l l' (Refused refusal.Misshapen (start_of draft ts p))
-    stuck_at en {p = p} g = sticks en l p (sticks-shape en (classes x) p (subst (λ i. Stuck x (nt (startNt en) ∷ []) i p) s.at-is g))
+    stuck_at : (en : Entry) {l' : List ℕ} {p : ℕ} → Stuck x (nt (start_nt en) ∷ []) st.at p → Says en l l' (Refused refusal.Misshapen (start_of draft ts p))
+    stuck_at en {p = p} g = sticks en l p (sticks-shape en (classes x) p (subst (λ i. Stuck x (nt (start_nt en) ∷ []) i p) s.at_is g))
 
     says : {en : Entry} {l' : List ℕ} {p : Step} → WholeRead x (length draft) st l l' p en → Says en l l' (judged draft words' n (length l) p)
-    says {l' = l'} (one-read (contract.read {st' = z} w)) = says-ended oneFunction s w (w.info.laid-is ∙ sym w.info.raw-is) (closed-function (length draft) z l l')
-    says (one-read (contract.stuck h g)) = stuck_at oneFunction (g [])
-    says {l' = l'} (all_read (file-read {l₁ = l₁} (contract.read {st' = z} w) p)) =
-        says-ended wholeFile s w w.info.same
-        (closed-file (length draft) l l₁ l' z (omega (arith, w.lays.few, s.out-is, s.at-is, w.lays.stands.within, length-is)) w.lays.long p)
-    says (all_read (file-stuck (contract.stuck h g))) = stuck_at wholeFile (g [])
+    says {l' = l'} (one_read (contract.read {st' = z} w)) = says-ended single_function s w (w.info.laid_is ∙ sym w.info.raw_is) (closed-function (length draft) z l l')
+    says (one_read (contract.stuck h g)) = stuck_at single_function (g [])
+    says {l' = l'} (all_read (file_read {l₁ = l₁} (contract.read {st' = z} w) p)) =
+        says-ended whole_file s w w.info.same
+        (closed-file (length draft) l l₁ l' z (omega (arith, w.lays.few, s.out_is, s.at_is, w.lays.stands.within, length-is)) w.lays.long p)
+    says (all_read (file_stuck (contract.stuck h g))) = stuck_at whole_file (g [])
 
-    module _ (en : Entry) (most : ℕ) (fewer : tooMany most n (length words') ≡ false) (short : tooLong en (length draft) ≡ false) {l' : List ℕ} {p : Step} (v : WholeRead x (length draft) st l l' p en)
+    module _ (en : Entry) (most : ℕ) (fewer : too_many most n (length words') ≡ false) (short : too_long en (length draft) ≡ false) {l' : List ℕ} {p : Step} (v : WholeRead x (length draft) st l l' p en)
         {a : Answer} (e : a ≡ judged draft words' n (length l) p) where
       pub said-answer : a ≡ answered (answer_of en most draft words' n (length l))
       unfolding answer_of
@@ -246,45 +246,45 @@ module _ (draft words' : List ℕ) (n : ℕ) (h : tokWide * n ≤ length words')
           e ∙ sym (says v).0
           ∙ sym (ap₂ (λ (b c : Bool). answered (cond b (paper.refused refusal.TooMany 0) (cond c (paper.refused refusal.TooLong 0) (fitted (length l) (R en))))) fewer short)
 
-      pub said-held : Held (meant n a) (recWords (recordsIn (R en))) l l'
-      said-held = subst (λ (a : Answer). Held (meant n a) (recWords (recordsIn (R en))) l l') (sym e) (says v).1
+      pub said-held : Held (meant n a) (rec_words (records_in (R en))) l l'
+      said-held = subst (λ (a : Answer). Held (meant n a) (rec_words (records_in (R en))) l l') (sym e) (says v).1
 
 -- Too many tokens, or a file that is too long.
-pub too-many-answer : (en : Entry) (most : ℕ) (draft words' : List ℕ) (n k : ℕ) → tooMany most n (length words') ≡ true → Refused refusal.TooMany 0 ≡ answered (answer_of en most draft words' n k)
+pub too-many-answer : (en : Entry) (most : ℕ) (draft words' : List ℕ) (n k : ℕ) → too_many most n (length words') ≡ true → Refused refusal.TooMany 0 ≡ answered (answer_of en most draft words' n k)
 unfolding answer_of
 too-many-answer en most draft words' n k e =
-    sym (ap (λ (b : Bool). answered (cond b (paper.refused refusal.TooMany 0) (cond (tooLong en (length draft)) (paper.refused refusal.TooLong 0) (fitted k (reading_of en draft (tokensIn n words')))))) e)
+    sym (ap (λ (b : Bool). answered (cond b (paper.refused refusal.TooMany 0) (cond (too_long en (length draft)) (paper.refused refusal.TooLong 0) (fitted k (reading_of en draft (tokens_in n words')))))) e)
 
-pub too-long-answer : (en : Entry) (most : ℕ) (draft words' : List ℕ) (n k : ℕ) → tooMany most n (length words') ≡ false → tooLong en (length draft) ≡ true
+pub too-long-answer : (en : Entry) (most : ℕ) (draft words' : List ℕ) (n k : ℕ) → too_many most n (length words') ≡ false → too_long en (length draft) ≡ true
     → Refused refusal.TooLong 0 ≡ answered (answer_of en most draft words' n k)
 unfolding answer_of
 too-long-answer en most draft words' n k fewer e =
-    sym (ap₂ (λ (b c : Bool). answered (cond b (paper.refused refusal.TooMany 0) (cond c (paper.refused refusal.TooLong 0) (fitted k (reading_of en draft (tokensIn n words')))))) fewer e)
+    sym (ap₂ (λ (b c : Bool). answered (cond b (paper.refused refusal.TooMany 0) (cond c (paper.refused refusal.TooLong 0) (fitted k (reading_of en draft (tokens_in n words')))))) fewer e)
 
 -- What the code's answer means is the paper's, whose tokens are the n that were handed in.
 shaped-count : (en : Entry) (draft : List ℕ) (ts : List Token) (rw' : ℕ) (f : Found) → meant (length ts) (answered (fitted rw' (shaped en draft ts f))) ≡ fitted rw' (shaped en draft ts f)
 shaped-count en draft ts rw' (stuck p) = refl
-shaped-count en draft ts rw' (found r) = go (faultOf draft (toks_of draft ts) r) (recordsFor en draft ts r)
+shaped-count en draft ts rw' (found r) = go (fault_of draft (toks_of draft ts) r) (records_for en draft ts r)
   where
     held : (m : ℕ) (b : Bool) → meant (length ts) (answered (cond b (paper.refused refusal.NoRoom 0) (paper.accepted (length ts) m))) ≡ cond b (paper.refused refusal.NoRoom 0) (paper.accepted (length ts) m)
     held m true = refl
     held m false = refl
 
     go : (o : Option Fault) (rs : List Rec) → meant (length ts) (answered (fitted rw' (faulty o ts rs))) ≡ fitted rw' (faulty o ts rs)
-    go none rs = held (length rs) (ltb rw' (recWide * length rs))
+    go none rs = held (length rs) (ltb rw' (rec_wide * length rs))
     go (some f) rs = refl
 
 pub means : (en : Entry) (most : ℕ) (draft words' : List ℕ) (n k : ℕ) {a : Answer} → a ≡ answered (answer_of en most draft words' n k) → meant n a ≡ answer_of en most draft words' n k
 unfolding answer_of reading_of
-means en most draft words' n k e = ap (meant n) e ∙ go (tooMany most n (length words')) (tooLong en (length draft))
+means en most draft words' n k e = ap (meant n) e ∙ go (too_many most n (length words')) (too_long en (length draft))
   where
     ts : List Token
-    ts = tokensIn n words'
+    ts = tokens_in n words'
 
     its : paper.Answer
-    its = fitted k (shaped en draft ts (shape_of en (classesOf (toks_of draft ts))))
+    its = fitted k (shaped en draft ts (shape_of en (classes_of (toks_of draft ts))))
 
     go : (b c : Bool) → meant n (answered (cond b (paper.refused refusal.TooMany 0) (cond c (paper.refused refusal.TooLong 0) its))) ≡ cond b (paper.refused refusal.TooMany 0) (cond c (paper.refused refusal.TooLong 0) its)
     go true c = refl
     go false true = refl
-    go false false = subst (λ (m : ℕ). meant m (answered its) ≡ its) (length-in n words') (shaped-count en draft ts k (shape_of en (classesOf (toks_of draft ts))))
+    go false false = subst (λ (m : ℕ). meant m (answered its) ≡ its) (length-in n words') (shaped-count en draft ts k (shape_of en (classes_of (toks_of draft ts))))

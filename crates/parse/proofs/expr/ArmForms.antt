@@ -12,43 +12,43 @@ use Rattle.lexer.specs.Classes as t
 use Rattle.theory.specs.Grammar.{Sym, tok, nt, look, row, alt, pick}
 use Rattle.theory.specs.Machine.{choose, expand}
 use Rattle.theory.specs.Ebnf as shape
-use Rattle.theory.specs.Ebnf.{sortOf}
+use Rattle.theory.specs.Ebnf.{sort_of}
 use Rattle.theory.specs.Same.{ex}
-use Rattle.theory.specs.Walk.{n-flat, n-sub, k-nt, k-in}
+use Rattle.theory.specs.Walk.{n-flat, n-sub, k_nt, k_in}
 use Rattle.own.specs.Tree.{Tok, marks, arrange, concat}
-use Rattle.text.specs.Widths.{recWide}
+use Rattle.text.specs.Widths.{rec_wide}
 use Rattle.text.specs.Lists.{has}
-use Rattle.own.specs.Words.{wordGroups}
+use Rattle.own.specs.Words.{word_groups}
 use Rattle.own.specs.Law.{Sort, word, child, sorts}
 use Rattle.own.specs.Arms as arm
 use Rattle.own.specs.Kinds as kind
-use Rattle.grammar.specs.shapes.Shapes.{shapes}
-use Rattle.grammar.specs.shapes.Tables.{means, table}
-use Rattle.grammar.specs.records.Records.{head, sees, nameCount, lone, head_of, form_of, armHead, roleOf}
-use Rattle.grammar.specs.records.Faults.{Fault, earliest}
-use Rattle.grammar.specs.shapes.ShapeKind.{ArmShape}
-use Rattle.grammar.specs.shapes.TablesIndex.{n-arguments, n-arm, n-arm-choice, n-arm-choice-optional-Comma, n-block, n-head, n-headPath, n-list-expression, n-otherName, n-single}
+use Rattle.grammar.specs.Shapes.Shapes.{shapes}
+use Rattle.grammar.specs.Shapes.Tables.{means, table}
+use Rattle.grammar.specs.Records.Records.{head, sees, name_count, lone, head_of, form_of, arm_head, role_of}
+use Rattle.grammar.specs.Records.Faults.{Fault, earliest}
+use Rattle.grammar.specs.Shapes.ShapeKind.{ArmShape}
+use Rattle.grammar.specs.Shapes.TablesIndex.{n-arguments, n-arm, n-arm-choice, n-arm-choice-optional-Comma, n-block, n-head, n-head_path, n-list-expression, n-other_name, n-single}
 use Rattle.parse.specs.contracts.Step.{the_type}
-use Rattle.parse.specs.Contract.{Text, classes, raw, faultIn, sooner, Read, Stuck, kept, Stands, Ready, Near, Put, Info, asItems, asNode, Went, Parsed, read, stuck, ExprKind, Only}
-use Rattle.parse.specs.Infos.{Args, Quiet, Body, ArmHead, Arm, ArmKind, armKind, armLow, armHigh}
+use Rattle.parse.specs.Contract.{Text, classes, raw, fault_in, sooner, Read, Stuck, kept, Stands, Ready, Near, Put, Info, as_items, as_node, Went, Parsed, read, stuck, ExprKind, Only}
+use Rattle.parse.specs.Infos.{Args, Quiet, Body, ArmHead, Arm, ArmKind, arm_kind, arm_low, arm_high}
 use Rattle.parse.specs.declared.State.{State}
 use Rattle.parse.specs.declared.Step.{Step}
 use Rattle.parse.specs.declared.Step.TheVariants.{Next}
 use Rattle.parse.specs.Choice as choice
-use Rattle.parse.proofs.rule.ByClass.{sweep, beyond, pastClasses}
+use Rattle.parse.proofs.Rule.ByClass.{sweep, beyond, past_classes}
 use Rattle.parse.proofs.choice.Chosen.{hit, miss, goes}
-use Rattle.parse.proofs.rule.Marks.{sign-mark}
-use Rattle.parse.proofs.rule.Amid.{Amid, starts, then-passed, then-went, went}
-use Rattle.parse.proofs.rule.Steps.{decided}
-use Rattle.parse.proofs.rule.Closing.{Opened, Rule, shuts-as, its-raw, its-fault, enters}
-use Rattle.parse.proofs.rule.Commas.{AnyN, arranged-zero, comma-mark, finish}
-use Rattle.parse.proofs.rule.Heads.{no-fault, unturned}
-use Rattle.parse.proofs.rule.Pieces.{Marks, marks-append, arranged-marks, expr-uncounted}
+use Rattle.parse.proofs.Rule.Marks.{sign-mark}
+use Rattle.parse.proofs.Rule.Amid.{Amid, starts, then-passed, then-went, went}
+use Rattle.parse.proofs.Rule.Steps.{decided}
+use Rattle.parse.proofs.Rule.Closing.{Opened, Rule, shuts-as, its-raw, its-fault, enters}
+use Rattle.parse.proofs.Rule.Commas.{AnyN, arranged-zero, comma-mark, finish}
+use Rattle.parse.proofs.Rule.Heads.{no_fault, unturned}
+use Rattle.parse.proofs.Rule.Pieces.{Marks, marks-append, arranged-marks, expr-uncounted}
 use Rattle.parse.proofs.expr.Elements.{Told}
 
 -- An argument list.
-pub flat-args : sortOf (ex means (nt n-arguments)) ≡ shape.flat
-unfolding sortOf ex means
+pub flat-args : sort_of (ex means (nt n-arguments)) ≡ shape.flat
+unfolding sort_of ex means
 flat-args = refl
 
 pub args-rule : (a : ℕ) → expand table n-arguments a ≡ some (tok t.LParen ∷ nt n-list-expression ∷ tok t.RParen ∷ [])
@@ -57,11 +57,11 @@ args-rule a = refl
 
 only-marks : (K : ℕ) (w : List Sort) → Only t.Comma w → Marks K w
 only-marks K [] o = tt
-only-marks K (word c ∷ w) o = (ap (roleOf K) o.0 ∙ comma-mark K, only-marks K w o.1)
+only-marks K (word c ∷ w) o = (ap (role_of K) o.0 ∙ comma-mark K, only-marks K w o.1)
 only-marks K (child k l h c ∷ w) o = only-marks K w o
 
 pub args_are : {x : Text} {full : List Sym} {st : State} {l : List ℕ} {ms : List Tok} {m : ℕ} {st₁ : State} {l₁ : List ℕ} (W : List Sort) {a : ℕ}
-    → Amid x 0 AnyN full [] st l (word t.LParen ∷ (W ++ (word t.RParen ∷ []))) ms m st₁ l₁ → 1 ≤ m → Only t.Comma W → lone W ≡ eqb a 1 → Went x full asItems Args st l st₁ l₁ a 0
+    → Amid x 0 AnyN full [] st l (word t.LParen ∷ (W ++ (word t.RParen ∷ []))) ms m st₁ l₁ → 1 ≤ m → Only t.Comma W → lone W ≡ eqb a 1 → Went x full as_items Args st l st₁ l₁ a 0
 args_are {x} {st = st} W d one o e =
     let same : d.L ≡ raw x st.at d.pre = sym (d.roles 0 tt) ∙ arranged-zero 0 (raw x st.at d.pre) in
     finish d (record {
@@ -69,7 +69,7 @@ args_are {x} {st = st} W d one o e =
           arranged-marks K n (raw x st.at d.pre) (subst (Marks K) (sym d.sorted) (sign-mark K t.LParen tt, marks-append K W (word t.RParen ∷ []) (only-marks K W o) (sign-mark K t.RParen tt, tt)))
           ∙ sym same;
       W = W;
-      sorts-is = d.sorted;
+      sorts_is = d.sorted;
       commas = o;
       lone_is = e;
       own = one;
@@ -81,12 +81,12 @@ pub near-onward : {x : Text} {K : ℕ} {N : ℕ → Type 0} {full left : List Sy
 near-onward y d h = record { stands = d.lays.stands; short = y.short; few = omega (arith, d.lays.few, y.few) }
 
 -- The body of an arm.
-pub flat-body : sortOf (ex means (nt n-arm-choice)) ≡ shape.flat
-unfolding sortOf ex means
+pub flat-body : sort_of (ex means (nt n-arm-choice)) ≡ shape.flat
+unfolding sort_of ex means
 flat-body = refl
 
-pub flat-comma : sortOf (ex means (nt n-arm-choice-optional-Comma)) ≡ shape.flat
-unfolding sortOf ex means
+pub flat-comma : sort_of (ex means (nt n-arm-choice-optional-Comma)) ≡ shape.flat
+unfolding sort_of ex means
 flat-comma = refl
 
 module _ {a : ℕ} where
@@ -107,16 +107,16 @@ module _ {a : ℕ} where
   a-comma h = goes n-arm-choice-optional-Comma 2 a (hit t.Comma 2 [] 1 h) refl
 
 body-quiet : (k l h c : ℕ) (v : List Sort) → ExprKind k → (v ≡ []) ⊎ (v ≡ word t.Comma ∷ []) → Quiet (child k l h c ∷ v)
-unfolding sees nameCount counted has
+unfolding sees name_count counted has
 body-quiet k l h c v p e = record { paths = seen e; names = named e; patterns = let f : ◌≡◌ {A = ℕ} (cond (has family.patterns k) 1 0) 0 = ap (λ (b : Bool). cond b 1 0) (expr-uncounted k p) in omega (arith, f, none_in e) }
   where
     seen : (v ≡ []) ⊎ (v ≡ word t.Comma ∷ []) → sees t.DoubleColon v ≡ false
     seen (inl q) = ap (sees t.DoubleColon) q
     seen (inr q) = ap (sees t.DoubleColon) q
 
-    named : (v ≡ []) ⊎ (v ≡ word t.Comma ∷ []) → nameCount v ≡ 0
-    named (inl q) = ap nameCount q
-    named (inr q) = ap nameCount q
+    named : (v ≡ []) ⊎ (v ≡ word t.Comma ∷ []) → name_count v ≡ 0
+    named (inl q) = ap name_count q
+    named (inr q) = ap name_count q
 
     none_in : (v ≡ []) ⊎ (v ≡ word t.Comma ∷ []) → counted family.patterns v ≡ 0
     none_in (inl q) = ap (counted family.patterns) q
@@ -127,7 +127,7 @@ body-marks K v (inl q) = subst (Marks K) (sym q) tt
 body-marks K v (inr q) = subst (Marks K) (sym q) (comma-mark K, tt)
 
 pub body_is : {x : Text} {full : List Sym} {st : State} {l : List ℕ} {ms : List Tok} {m : ℕ} {st₁ : State} {l₁ : List ℕ} (k i h c : ℕ) (v : List Sort)
-    → Amid x 0 AnyN full [] st l (child k i h c ∷ v) ms m st₁ l₁ → ExprKind k → (v ≡ []) ⊎ (v ≡ word t.Comma ∷ []) → Went x full asItems Body st l st₁ l₁ 0 0
+    → Amid x 0 AnyN full [] st l (child k i h c ∷ v) ms m st₁ l₁ → ExprKind k → (v ≡ []) ⊎ (v ≡ word t.Comma ∷ []) → Went x full as_items Body st l st₁ l₁ 0 0
 body_is {x} {st = st} k i h c v d p e =
     let same : d.L ≡ raw x st.at d.pre = sym (d.roles 0 tt) ∙ arranged-zero 0 (raw x st.at d.pre) in
     finish d (record {
@@ -138,42 +138,42 @@ body_is {x} {st = st} k i h c v d p e =
 -- An arm begins with a name or a boolean; at any other token its head is stuck at once.
 pub data Begins (c : ℕ) : Type 0 where
   begins : choose table n-arm c ≡ 1 → Begins c
-  lacks : expand table n-arm c ≡ none → expand table n-head c ≡ some (nt n-otherName ∷ nt n-headPath ∷ []) → expand table n-otherName c ≡ none → Begins c
+  lacks : expand table n-arm c ≡ none → expand table n-head c ≡ some (nt n-other_name ∷ nt n-head_path ∷ []) → expand table n-other_name c ≡ none → Begins c
 
 unfoldable lacking : ℕ → Bool
-lacking c = eqb (choose table n-arm c) 1 || (eqb (choose table n-arm c) 0 && (eqb (choose table n-head c) choice.NamedHead && eqb (choose table n-otherName c) 0))
+lacking c = eqb (choose table n-arm c) 1 || (eqb (choose table n-arm c) 0 && (eqb (choose table n-head c) choice.NamedHead && eqb (choose table n-other_name c) 0))
 
-lacks-by : (c : ℕ) → choose table n-arm c ≡ 0 → choose table n-head c ≡ choice.NamedHead → choose table n-otherName c ≡ 0 → Begins c
+lacks-by : (c : ℕ) → choose table n-arm c ≡ 0 → choose table n-head c ≡ choice.NamedHead → choose table n-other_name c ≡ 0 → Begins c
 unfolding row table alt pick
-lacks-by c p q r = lacks (goes n-arm 0 c p refl) (goes n-head choice.NamedHead c q refl) (goes n-otherName 0 c r refl)
+lacks-by c p q r = lacks (goes n-arm 0 c p refl) (goes n-head choice.NamedHead c q refl) (goes n-other_name 0 c r refl)
 
 pub arm-begins : (c : ℕ) → Begins c
 unfolding lacking choose row table look
-arm-begins c = go (ltb c pastClasses) refl
+arm-begins c = go (ltb c past_classes) refl
   where
     and_both : (a b : Bool) → T (a && b) → T a × T b
     and_both true b t = (tt, t)
     and_both false b t = absurd t
 
-    split : (a b : Bool) → eqb (choose table n-arm c) 1 ≡ a → b ≡ (eqb (choose table n-arm c) 0 && (eqb (choose table n-head c) choice.NamedHead && eqb (choose table n-otherName c) 0)) → T (a || b) → Begins c
+    split : (a b : Bool) → eqb (choose table n-arm c) 1 ≡ a → b ≡ (eqb (choose table n-arm c) 0 && (eqb (choose table n-head c) choice.NamedHead && eqb (choose table n-other_name c) 0)) → T (a || b) → Begins c
     split true b e f u = begins (eqb→eq (choose table n-arm c) 1 (rw e tt))
     split false b e f u =
-        let v = and_both (eqb (choose table n-arm c) 0) (eqb (choose table n-head c) choice.NamedHead && eqb (choose table n-otherName c) 0) (subst T f u) in
-        let v₁ = and_both (eqb (choose table n-head c) choice.NamedHead) (eqb (choose table n-otherName c) 0) v.1 in
-        lacks-by c (eqb→eq (choose table n-arm c) 0 v.0) (eqb→eq (choose table n-head c) choice.NamedHead v₁.0) (eqb→eq (choose table n-otherName c) 0 v₁.1)
+        let v = and_both (eqb (choose table n-arm c) 0) (eqb (choose table n-head c) choice.NamedHead && eqb (choose table n-other_name c) 0) (subst T f u) in
+        let v₁ = and_both (eqb (choose table n-head c) choice.NamedHead) (eqb (choose table n-other_name c) 0) v.1 in
+        lacks-by c (eqb→eq (choose table n-arm c) 0 v.0) (eqb→eq (choose table n-head c) choice.NamedHead v₁.0) (eqb→eq (choose table n-other_name c) 0 v₁.1)
 
-    go : (b : Bool) → ltb c pastClasses ≡ b → Begins c
-    go true e = split (eqb (choose table n-arm c) 1) (eqb (choose table n-arm c) 0 && (eqb (choose table n-head c) choice.NamedHead && eqb (choose table n-otherName c) 0)) refl refl (sweep lacking tt c (ltb-true c pastClasses e))
-    go false e = let h = ltb-false c pastClasses e in lacks-by c (beyond n-arm c h) (beyond n-head c h) (beyond n-otherName c h)
+    go : (b : Bool) → ltb c past_classes ≡ b → Begins c
+    go true e = split (eqb (choose table n-arm c) 1) (eqb (choose table n-arm c) 0 && (eqb (choose table n-head c) choice.NamedHead && eqb (choose table n-other_name c) 0)) refl refl (sweep lacking tt c (ltb-true c past_classes e))
+    go false e = let h = ltb-false c past_classes e in lacks-by c (beyond n-arm c h) (beyond n-head c h) (beyond n-other_name c h)
 
 abbrev there : Option (List Sym) → Bool
 there none = false
 there (some a) = true
 
-abbrev isFlat : shape.Sort → Bool
-isFlat (shape.token c) = false
-isFlat (shape.node c) = false
-isFlat shape.flat = true
+abbrev is_flat : shape.Sort → Bool
+is_flat (shape.token c) = false
+is_flat (shape.node c) = false
+is_flat shape.flat = true
 
 no-some : {o : Option (List Sym)} {a : List Sym} → o ≡ none → o ≡ some a → ⊥
 no-some e f = differ (ap there (sym e ∙ f))
@@ -186,43 +186,43 @@ reads-some : (x : Text) {A : ℕ} {σ : List Sym} {at : ℕ} {r : shape.Items} {
 reads-some x (n-flat {rhs = rhs} f e p) = (rhs, e)
 reads-some x {A} (n-sub {rhs = rhs} C i k c y f e p p') = (rhs, ap (alt table A) f ∙ e)
 
-reads_in : (x : Text) {A : ℕ} {σ rhs : List Sym} {at : ℕ} {r : shape.Items} {j : ℕ} → sortOf (ex means (nt A)) ≡ shape.flat → expand table A (get_or (classes x) at 0) ≡ some rhs → Read x (nt A ∷ σ) at r j
+reads_in : (x : Text) {A : ℕ} {σ rhs : List Sym} {at : ℕ} {r : shape.Items} {j : ℕ} → sort_of (ex means (nt A)) ≡ shape.flat → expand table A (get_or (classes x) at 0) ≡ some rhs → Read x (nt A ∷ σ) at r j
     → Read x (rhs ++ σ) at r j
-unfolding sortOf
+unfolding sort_of
 reads_in x {σ = σ} {at = at} {r = r} {j = j} g h (n-flat f e p) = subst (λ ρ. Read x (ρ ++ σ) at r j) (same_some e h) p
-reads_in x g h (n-sub C i k c y f e p p') = absurd (differ (ap isFlat (sym (ap sortOf c) ∙ g)))
+reads_in x g h (n-sub C i k c y f e p p') = absurd (differ (ap is_flat (sym (ap sort_of c) ∙ g)))
 
 -- and where it is stuck.
 sticks-in : (x : Text) {A : ℕ} {σ rhs : List Sym} {at p : ℕ} → expand table A (get_or (classes x) at 0) ≡ some rhs → Stuck x (nt A ∷ σ) at p → Stuck x (rhs ++ σ) at p
-sticks-in x h (k-nt e) = absurd (no-some e h)
-sticks-in x {σ = σ} {at = at} {p = p} h (k-in e k) = subst (λ ρ. Stuck x (ρ ++ σ) at p) (same_some e h) k
+sticks-in x h (k_nt e) = absurd (no-some e h)
+sticks-in x {σ = σ} {at = at} {p = p} h (k_in e k) = subst (λ ρ. Stuck x (ρ ++ σ) at p) (same_some e h) k
 
 sticks-none : (x : Text) {A : ℕ} {σ : List Sym} {at p : ℕ} → expand table A (get_or (classes x) at 0) ≡ none → Stuck x (nt A ∷ σ) at p → p ≡ at
-sticks-none x h (k-nt e) = refl
-sticks-none x h (k-in e k) = absurd (no-some h e)
+sticks-none x h (k_nt e) = refl
+sticks-none x h (k_in e k) = absurd (no-some h e)
 
-flat-head : sortOf (ex means (nt n-head)) ≡ shape.flat
-unfolding sortOf ex means
+flat-head : sort_of (ex means (nt n-head)) ≡ shape.flat
+unfolding sort_of ex means
 flat-head = refl
 
 -- Where no arm begins, its head is refused at that token, and so is the arm.
-module _ {x : Text} {st : State} (y : Stands x st) (p : expand table n-arm st.class ≡ none) (q : expand table n-head st.class ≡ some (nt n-otherName ∷ nt n-headPath ∷ [])) (r : expand table n-otherName st.class ≡ none) where
+module _ {x : Text} {st : State} (y : Stands x st) (p : expand table n-arm st.class ≡ none) (q : expand table n-head st.class ≡ some (nt n-other_name ∷ nt n-head_path ∷ [])) (r : expand table n-other_name st.class ≡ none) where
   here : (A : ℕ) {o : Option (List Sym)} → expand table A st.class ≡ o → expand table A (get_or (classes x) st.at 0) ≡ o
-  here A e = ap (expand table A) (sym y.class-is) ∙ e
+  here A e = ap (expand table A) (sym y.class_is) ∙ e
 
-  pub none_read : {I : Info} {l l' : List ℕ} {a b : ℕ} {st' : State} → Went x (nt n-head ∷ []) asItems I st l st' l' a b → ⊥
-  none_read w = let z = reads-some x (reads_in x flat-head (here n-head q) w.reads) in no-some (here n-otherName r) z.1
+  pub none_read : {I : Info} {l l' : List ℕ} {a b : ℕ} {st' : State} → Went x (nt n-head ∷ []) as_items I st l st' l' a b → ⊥
+  none_read w = let z = reads-some x (reads_in x flat-head (here n-head q) w.reads) in no-some (here n-other_name r) z.1
 
-  pub none_stuck : {I J : Info} {l l' l₀ l₁ : List ℕ} {s : Step} → OneOf (1 ∷ []) (tag_of the_type s) → Parsed x (nt n-head ∷ []) asItems I st l l' s → Parsed x (nt n-arm ∷ []) asItems J st l₀ l₁ s
+  pub none_stuck : {I J : Info} {l l' l₀ l₁ : List ℕ} {s : Step} → OneOf (1 ∷ []) (tag_of the_type s) → Parsed x (nt n-head ∷ []) as_items I st l l' s → Parsed x (nt n-arm ∷ []) as_items J st l₀ l₁ s
   none_stuck k (read h) = absurd (omega arith)
   none_stuck k (stuck {p = i} h g) =
-      let e : i ≡ st.at = sticks-none x (here n-otherName r) (sticks-in x (here n-head q) (g [])) in
-      stuck h (λ τ. subst (λ j. Stuck x (nt n-arm ∷ τ) st.at j) (sym e) (k-nt (here n-arm p)))
+      let e : i ≡ st.at = sticks-none x (here n-other_name r) (sticks-in x (here n-head q) (g [])) in
+      stuck h (λ τ. subst (λ j. Stuck x (nt n-arm ∷ τ) st.at j) (sym e) (k_nt (here n-arm p)))
 
 -- The steps of an arm: its head, and its body.
 module _ {x : Text} {K : ℕ} {N : ℕ → Type 0} {full left : List Sym} {st : State} {l : List ℕ} {w : List Sort} {ms : List Tok} {m : ℕ} {st₁ : State} {l₁ : List ℕ} {s : Sym} {st₂ : State} {l₂ : List ℕ} {a b : ℕ} {r : Step}
     (d : Amid x K N full (s ∷ left) st l w ms m st₁ l₁) where
-  pub then-body : Parsed x (s ∷ []) asItems Body st₁ l₁ l₂ r → r ≡ Next st₂ a b → Told x K N full left st l w ms m Quiet st₂ l₂
+  pub then-body : Parsed x (s ∷ []) as_items Body st₁ l₁ l₂ r → r ≡ Next st₂ a b → Told x K N full left st l w ms m Quiet st₂ l₂
   then-body p e =
       let q = went e p in
       record {
@@ -234,8 +234,8 @@ module _ {x : Text} {K : ℕ} {N : ℕ → Type 0} {full left : List Sym} {st : 
       }
 
 module _ {x : Text} {N : ℕ → Type 0} {full left : List Sym} {st : State} {l : List ℕ} {w : List Sort} {ms : List Tok} {m : ℕ} {st₁ : State} {l₁ : List ℕ} {s : Sym} {st₂ : State} {l₂ : List ℕ} {a b : ℕ} {r : Step} where
-  pub then-head : Amid x (armKind a) N full (s ∷ left) st l w ms m st₁ l₁ → Parsed x (s ∷ []) asItems ArmHead st₁ l₁ l₂ r → r ≡ Next st₂ a b
-      → Told x (armKind a) N full left st l w ms m (λ W. (v : List Sort) → Quiet v → armHead (W ++ v) ≡ head (armKind a) (armLow a b) (armHigh a b)) st₂ l₂
+  pub then-head : Amid x (arm_kind a) N full (s ∷ left) st l w ms m st₁ l₁ → Parsed x (s ∷ []) as_items ArmHead st₁ l₁ l₂ r → r ≡ Next st₂ a b
+      → Told x (arm_kind a) N full left st l w ms m (λ W. (v : List Sort) → Quiet v → arm_head (W ++ v) ≡ head (arm_kind a) (arm_low a b) (arm_high a b)) st₂ l₂
   then-head d p e =
       let q = went e p in
       record {
@@ -246,92 +246,92 @@ module _ {x : Text} {N : ℕ → Type 0} {full left : List Sym} {st : State} {l 
         amid = then-went d q (λ n g. q.info.roles n);
       }
 
-pub head-low : {x : Text} {σ : List Sym} {st : State} {l l' : List ℕ} {r : Step} {st' : State} {a b : ℕ} → Parsed x σ asItems ArmHead st l l' r → r ≡ Next st' a b → a ≡ 0 → (arm.Left ≤ b) × (b ≤ arm.True)
-head-low p e = (went e p).info.low-is
+pub head-low : {x : Text} {σ : List Sym} {st : State} {l l' : List ℕ} {r : Step} {st' : State} {a b : ℕ} → Parsed x σ as_items ArmHead st l l' r → r ≡ Next st' a b → a ≡ 0 → (arm.Left ≤ b) × (b ≤ arm.True)
+head-low p e = (went e p).info.low_is
 
 arrow-quiet : (v : List Sort) → Quiet v → Quiet (word t.FatArrow ∷ v)
-unfolding sees nameCount counted has
+unfolding sees name_count counted has
 arrow-quiet v q = record { paths = q.paths; names = omega (arith, q.names); patterns = q.patterns }
 
-kinds-of : (a : ℕ) → (armKind a ≡ kind.BuiltinArm) ⊎ (armKind a ≡ kind.EnumArm)
-unfolding armKind
+kinds-of : (a : ℕ) → (arm_kind a ≡ kind.BuiltinArm) ⊎ (arm_kind a ≡ kind.EnumArm)
+unfolding arm_kind
 kinds-of a = go (eqb a 0)
   where
     go : (b : Bool) → (◌≡◌ {A = ℕ} (cond b kind.BuiltinArm kind.EnumArm) kind.BuiltinArm) ⊎ (◌≡◌ {A = ℕ} (cond b kind.BuiltinArm kind.EnumArm) kind.EnumArm)
     go true = inl refl
     go false = inr refl
 
-pub arm-unturned : (a : ℕ) → T (not (eqb (armKind a) kind.Match))
+pub arm-unturned : (a : ℕ) → T (not (eqb (arm_kind a) kind.Match))
 arm-unturned a = go (kinds-of a)
   where
-    go : (armKind a ≡ kind.BuiltinArm) ⊎ (armKind a ≡ kind.EnumArm) → T (not (eqb (armKind a) kind.Match))
+    go : (arm_kind a ≡ kind.BuiltinArm) ⊎ (arm_kind a ≡ kind.EnumArm) → T (not (eqb (arm_kind a) kind.Match))
     go (inl e) = rw e tt
     go (inr e) = rw e tt
 
-pub arm-kinds : (a b : ℕ) → (a ≡ 0 → (arm.Left ≤ b) × (b ≤ arm.True)) → ArmKind (armKind a) (armLow a b)
-unfolding armKind armLow
+pub arm-kinds : (a b : ℕ) → (a ≡ 0 → (arm.Left ≤ b) × (b ≤ arm.True)) → ArmKind (arm_kind a) (arm_low a b)
+unfolding arm_kind arm_low
 arm-kinds a b h = go (eqb a 0) refl
   where
     go : (c : Bool) → eqb a 0 ≡ c → ArmKind (cond c kind.BuiltinArm kind.EnumArm) (cond c b a)
     go true e = let z = h (eqb→eq a 0 (rw e tt)) in inl (refl, z.0, z.1)
     go false e = inr refl
 
-arm-decides : (x : Text) (a b : ℕ) (W U : List Sort) (ms : List Tok) → ((v : List Sort) → Quiet v → armHead (W ++ v) ≡ head (armKind a) (armLow a b) (armHigh a b)) → Quiet U
-    → decided x ArmShape (W ++ (word t.FatArrow ∷ U)) ms ≡ head (armKind a) (armLow a b) (armHigh a b)
+arm-decides : (x : Text) (a b : ℕ) (W U : List Sort) (ms : List Tok) → ((v : List Sort) → Quiet v → arm_head (W ++ v) ≡ head (arm_kind a) (arm_low a b) (arm_high a b)) → Quiet U
+    → decided x ArmShape (W ++ (word t.FatArrow ∷ U)) ms ≡ head (arm_kind a) (arm_low a b) (arm_high a b)
 unfolding head_of form_of
 arm-decides x a b W U ms h q = h (word t.FatArrow ∷ U) (arrow-quiet U q)
 
 -- The record of an arm.
 pub arm-shut : {x : Text} {st r : State} {rhs : List Sym} {l : List ℕ} {ms : List Tok} {m : ℕ} {st₁ : State} {l₁ l' : List ℕ} (a b : ℕ) (W U : List Sort) {kind low high : ℕ}
-    → Ready x st → (o : Opened x st r (kept st)) → (d : Amid x (armKind a) AnyN rhs [] r l (W ++ (word t.FatArrow ∷ U)) ms m st₁ l₁) → 1 ≤ m
-    → ((v : List Sort) → Quiet v → armHead (W ++ v) ≡ head (armKind a) (armLow a b) (armHigh a b)) → Quiet U → (a ≡ 0 → (arm.Left ≤ b) × (b ≤ arm.True))
-    → (kind ≡ armKind a) × (low ≡ armLow a b) × (high ≡ armHigh a b) → Put l₁ st.out kind st.start st₁.end low high (st₁.out - st.out) l'
-    → Went x rhs (asNode ArmShape) Arm st l st₁ l' kind low
+    → Ready x st → (o : Opened x st r (kept st)) → (d : Amid x (arm_kind a) AnyN rhs [] r l (W ++ (word t.FatArrow ∷ U)) ms m st₁ l₁) → 1 ≤ m
+    → ((v : List Sort) → Quiet v → arm_head (W ++ v) ≡ head (arm_kind a) (arm_low a b) (arm_high a b)) → Quiet U → (a ≡ 0 → (arm.Left ≤ b) × (b ≤ arm.True))
+    → (kind ≡ arm_kind a) × (low ≡ arm_low a b) × (high ≡ arm_high a b) → Put l₁ st.out kind st.start st₁.end low high (st₁.out - st.out) l'
+    → Went x rhs (as_node ArmShape) Arm st l st₁ l' kind low
 unfolding earliest
 arm-shut {x} {st} {r} {rhs} {l} {ms} {m} {st₁} {l₁} {l'} a b W U {kind} {low} {high} y o d one h q i e put =
     let hd = arm-decides x a b W U ms h q in
-    let put' : Put l₁ st.out (armKind a) st.start st₁.end (armLow a b) (armHigh a b) (st₁.out - st.out) l' =
-    subst (λ u. Put l₁ st.out (armKind a) st.start st₁.end (armLow a b) u (st₁.out - st.out) l') e.2
-    (subst (λ u. Put l₁ st.out (armKind a) st.start st₁.end u high (st₁.out - st.out) l') e.1
+    let put' : Put l₁ st.out (arm_kind a) st.start st₁.end (arm_low a b) (arm_high a b) (st₁.out - st.out) l' =
+    subst (λ u. Put l₁ st.out (arm_kind a) st.start st₁.end (arm_low a b) u (st₁.out - st.out) l') e.2
+    (subst (λ u. Put l₁ st.out (arm_kind a) st.start st₁.end u high (st₁.out - st.out) l') e.1
     (subst (λ u. Put l₁ st.out u st.start st₁.end low high (st₁.out - st.out) l') e.0 put)) in
-    let base : Went x rhs (asNode ArmShape) Arm st l st₁ l' (armKind a) (armLow a b) =
+    let base : Went x rhs (as_node ArmShape) Arm st l st₁ l' (arm_kind a) (arm_low a b) =
     shuts-as ArmShape y o d one hd tt
-    (record { high = armHigh a b; js = d.L; raw-is = its-raw ArmShape y o d one hd tt; laid-is = refl; none_left = refl; its-kind = arm-kinds a b i })
+    (record { high = arm_high a b; js = d.L; raw_is = its-raw ArmShape y o d one hd tt; laid_is = refl; none_left = refl; its_kind = arm-kinds a b i })
     d.lays.long
-    (λ n k. d.lays.laid n k ∙ ap (λ u. sets l (recWide * r.out) (concat (arrange u (wordGroups d.L)))) (sym (unturned (armKind a) d.L (arm-unturned a))))
-    put' refl (record { at-is = refl; out-is = refl }) d.lays.stands
-    (d.lays.worst ∙ ap₂ sooner o.kept-is (sym (its-fault ArmShape y o d one hd tt ∙ ap (λ u. sooner (earliest u) (faultIn x r.at d.pre)) (no-fault x.draft ArmShape (raw x r.at d.pre) tt)))) in
-    subst (λ u. Went x rhs (asNode ArmShape) Arm st l st₁ l' kind u) (sym e.1) (subst (λ u. Went x rhs (asNode ArmShape) Arm st l st₁ l' u (armLow a b)) (sym e.0) base)
+    (λ n k. d.lays.laid n k ∙ ap (λ u. sets l (rec_wide * r.out) (concat (arrange u (word_groups d.L)))) (sym (unturned (arm_kind a) d.L (arm-unturned a))))
+    put' refl (record { at_is = refl; out_is = refl }) d.lays.stands
+    (d.lays.worst ∙ ap₂ sooner o.kept_is (sym (its-fault ArmShape y o d one hd tt ∙ ap (λ u. sooner (earliest u) (fault_in x r.at d.pre)) (no_fault x.draft ArmShape (raw x r.at d.pre) tt)))) in
+    subst (λ u. Went x rhs (as_node ArmShape) Arm st l st₁ l' kind u) (sym e.1) (subst (λ u. Went x rhs (as_node ArmShape) Arm st l st₁ l' u (arm_low a b)) (sym e.0) base)
 
 -- The rule of an arm.
-abbrev pub armSymbols : List Sym
-armSymbols = nt n-head ∷ tok t.FatArrow ∷ nt n-arm-choice ∷ []
+abbrev pub arm_symbols : List Sym
+arm_symbols = nt n-head ∷ tok t.FatArrow ∷ nt n-arm-choice ∷ []
 
-pub arm_is : Rule n-arm 1 ArmShape armSymbols
-unfolding ex means shape.kindsOf shapes row table alt pick
+pub arm_is : Rule n-arm 1 ArmShape arm_symbols
+unfolding ex means shape.kinds_of shapes row table alt pick
 arm_is = record { category = refl; from_one = refl; kind = refl; rule = refl }
 
 -- The head of an arm refuses, and so the arm does.
-pub head-refused : {x : Text} {st r : State} {F : Option Fault} {I J : Info} {l l₁ l₀ l' : List ℕ} {s : Step} → Ready x st → Opened x st r F → OneOf (1 ∷ []) (tag_of the_type s) → Parsed x (nt n-head ∷ []) asItems I r l l₁ s
-    → Parsed x (nt n-arm ∷ []) asItems J st l₀ l' s
+pub head-refused : {x : Text} {st r : State} {F : Option Fault} {I J : Info} {l l₁ l₀ l' : List ℕ} {s : Step} → Ready x st → Opened x st r F → OneOf (1 ∷ []) (tag_of the_type s) → Parsed x (nt n-head ∷ []) as_items I r l l₁ s
+    → Parsed x (nt n-arm ∷ []) as_items J st l₀ l' s
 head-refused {x} {st} {r} {I = I} {J = J} {l = l} {l₁ = l₁} {l₀ = l₀} {l' = l'} {s = s} y o k p = go (arm-begins st.class) p
   where
-    moved : {I : Info} {l l₁ : List ℕ} {s : Step} {J : Info} {l₀ l' : List ℕ} → OneOf (1 ∷ []) (tag_of the_type s) → Parsed x (nt n-arm ∷ []) asItems I r l l₁ s → Parsed x (nt n-arm ∷ []) asItems J st l₀ l' s
+    moved : {I : Info} {l l₁ : List ℕ} {s : Step} {J : Info} {l₀ l' : List ℕ} → OneOf (1 ∷ []) (tag_of the_type s) → Parsed x (nt n-arm ∷ []) as_items I r l l₁ s → Parsed x (nt n-arm ∷ []) as_items J st l₀ l' s
     moved k (read h) = absurd (omega arith)
-    moved k (stuck {p = i} h g) = stuck h (λ τ. subst (λ j. Stuck x (nt n-arm ∷ τ) j i) o.at-is (g τ))
+    moved k (stuck {p = i} h g) = stuck h (λ τ. subst (λ j. Stuck x (nt n-arm ∷ τ) j i) o.at_is (g τ))
 
-    go : Begins st.class → Parsed x (nt n-head ∷ []) asItems I r l l₁ s → Parsed x (nt n-arm ∷ []) asItems J st l₀ l' s
-    go (begins e) q = then-passed (starts kind.BuiltinArm AnyN armSymbols l o.stands) k (enters arm_is y e o) q
-    go (lacks a b c) q = moved {I = J} {l = l₀} {l₁ = l'} k (none_stuck o.stands (ap (expand table n-arm) o.class-is ∙ a) (ap (expand table n-head) o.class-is ∙ b) (ap (expand table n-otherName) o.class-is ∙ c) k q)
+    go : Begins st.class → Parsed x (nt n-head ∷ []) as_items I r l l₁ s → Parsed x (nt n-arm ∷ []) as_items J st l₀ l' s
+    go (begins e) q = then-passed (starts kind.BuiltinArm AnyN arm_symbols l o.stands) k (enters arm_is y e o) q
+    go (lacks a b c) q = moved {I = J} {l = l₀} {l₁ = l'} k (none_stuck o.stands (ap (expand table n-arm) o.class_is ∙ a) (ap (expand table n-head) o.class_is ∙ b) (ap (expand table n-other_name) o.class_is ∙ c) k q)
 
 -- Where it was read an arm begins.
-pub begins-there : {x : Text} {st r : State} {F : Option Fault} {I : Info} {l l₁ : List ℕ} {s : Step} {st' : State} {a b : ℕ} → Ready x st → Opened x st r F → Parsed x (nt n-head ∷ []) asItems I r l l₁ s → s ≡ Next st' a b
+pub begins-there : {x : Text} {st r : State} {F : Option Fault} {I : Info} {l l₁ : List ℕ} {s : Step} {st' : State} {a b : ℕ} → Ready x st → Opened x st r F → Parsed x (nt n-head ∷ []) as_items I r l l₁ s → s ≡ Next st' a b
     → choose table n-arm st.class ≡ 1
 begins-there {x} {st} {r} y o p e = go (arm-begins st.class)
   where
     go : Begins st.class → choose table n-arm st.class ≡ 1
     go (begins f) = f
-    go (lacks f g h) = absurd (none_read o.stands (ap (expand table n-arm) o.class-is ∙ f) (ap (expand table n-head) o.class-is ∙ g) (ap (expand table n-otherName) o.class-is ∙ h) (went e p))
+    go (lacks f g h) = absurd (none_read o.stands (ap (expand table n-arm) o.class_is ∙ f) (ap (expand table n-head) o.class_is ∙ g) (ap (expand table n-other_name) o.class_is ∙ h) (went e p))
 
 -- The pieces of an arm, bracketed to the right.
 pub shifted : {x : Text} {K : ℕ} {N : ℕ → Type 0} {full left : List Sym} {st : State} {l : List ℕ} {ms : List Tok} {m : ℕ} {st₁ : State} {l₁ : List ℕ} (W U : List Sort)

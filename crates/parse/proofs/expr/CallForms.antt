@@ -6,7 +6,7 @@ use Rattle.text.specs.Refusals as refusal
 use Rattle.text.specs.Lists.{has}
 use Rattle.num.specs.Value.{fitted, number_of}
 use Rattle.num.specs.declared.Value.{Value}
-use Rattle.num.specs.Bound.{boundOk, sizeOk}
+use Rattle.num.specs.Bound.{bound_ok, size_ok}
 use Rattle.kinds.specs.Rules.{wrappers}
 use Rattle.lexer.specs.Classes as t
 use Rattle.theory.specs.Grammar.{Sym}
@@ -14,24 +14,24 @@ use Rattle.own.specs.Tree.{Tok, Items, marks}
 use Rattle.own.specs.Law.{Sort, word, child, sorts}
 use Rattle.own.specs.Calls as call
 use Rattle.own.specs.Kinds as kind
-use Rattle.grammar.specs.shapes.Row.{Form, aName}
-use Rattle.grammar.specs.records.Records.{Head, head, plain, form_of, head_of, sees, opening, nameCount, part_count, lone, place_in, callHead, wrapperHead, calledHead, aloneHead, nameHead, text_of, firstTok, first_of, decimal}
-use Rattle.grammar.specs.records.Faults.{Fault, unless, faultsAt, earliest}
-use Rattle.grammar.specs.shapes.ShapeKind.{BareShape, CastCallShape, FoldingShape, ForWhileShape, NamedShape, SimpleCallShape, TypedShape}
+use Rattle.grammar.specs.Shapes.Row.{Form, aName}
+use Rattle.grammar.specs.Records.Records.{Head, head, plain, form_of, head_of, sees, opening, name_count, part_count, lone, place_in, call_head, wrapper_head, called_head, alone_head, name_head, text_of, first_tok, first_of, decimal}
+use Rattle.grammar.specs.Records.Faults.{Fault, unless, faults_at, earliest}
+use Rattle.grammar.specs.Shapes.ShapeKind.{BareShape, CastCallShape, FoldingShape, ForWhileShape, NamedShape, SimpleCallShape, TypedShape}
 use Rattle.parse.specs.declared.State.{State}
-use Rattle.parse.proofs.rule.Amid.{Amid}
-use Rattle.parse.specs.Contract.{Text, fault, boundFault, sizeFault, ExprKind, Only, callees}
-use Rattle.parse.proofs.rule.Marks.{keeping, keeps-between}
-use Rattle.parse.proofs.rule.Steps.{number_in, decided}
-use Rattle.parse.proofs.rule.Heads.{unless-is}
+use Rattle.parse.proofs.Rule.Amid.{Amid}
+use Rattle.parse.specs.Contract.{Text, fault, bound_fault, size_fault, ExprKind, Only, callees}
+use Rattle.parse.proofs.Rule.Marks.{keeping, keeps-between}
+use Rattle.parse.proofs.Rule.Steps.{number_in, decided}
+use Rattle.parse.proofs.Rule.Heads.{unless-is}
 pub use Rattle.parse.proofs.expr.CallRows.{
-  simpleRhs,
-  castRhs,
-  namedRhs,
-  bareRhs,
-  typedRhs,
-  foldingRhs,
-  whilesRhs,
+  simple_rhs,
+  cast_rhs,
+  named_rhs,
+  bare_rhs,
+  typed_rhs,
+  folding_rhs,
+  whiles_rhs,
   simple-rule,
   cast-rule,
   named_rule,
@@ -99,7 +99,7 @@ pub use Rattle.parse.proofs.expr.CallRows.{
   folding-path,
   whiles-path,
 }
-use Rattle.parse.proofs.rule.Pieces.{sees-append}
+use Rattle.parse.proofs.Rule.Pieces.{sees-append}
 
 -- Kinds of the records.
 pub call-kind : ExprKind kind.Call
@@ -154,27 +154,27 @@ module _ (c : ℕ) (W : List Sort) where
 
 -- and what they decide.
 name-head : (w : List Sort) {a b d : Bool} → sees t.LAngle w ≡ a → sees t.DoubleColon w ≡ b → sees t.LParen w ≡ d
-    → nameHead w ≡ cond a (callHead (opening w)) (cond b (head kind.EnumConstruction (nameCount w) 0) (cond d (calledHead w) (aloneHead (opening w))))
-unfolding nameHead
-name-head w p q r = λ i. cond (p i) (callHead (opening w)) (cond (q i) (head kind.EnumConstruction (nameCount w) 0) (cond (r i) (calledHead w) (aloneHead (opening w))))
+    → name_head w ≡ cond a (call_head (opening w)) (cond b (head kind.EnumConstruction (name_count w) 0) (cond d (called_head w) (alone_head (opening w))))
+unfolding name_head
+name-head w p q r = λ i. cond (p i) (call_head (opening w)) (cond (q i) (head kind.EnumConstruction (name_count w) 0) (cond (r i) (called_head w) (alone_head (opening w))))
 
-pub called_is : (c : ℕ) (W : List Sort) → Apart c → Only t.Comma W → nameHead (calling c W) ≡ cond (has wrappers c && lone W) (wrapperHead c) (callHead c)
-unfolding calledHead opening
+pub called_is : (c : ℕ) (W : List Sort) → Apart c → Only t.Comma W → name_head (calling c W) ≡ cond (has wrappers c && lone W) (wrapper_head c) (call_head c)
+unfolding called_head opening
 called_is c W h o =
     name-head (calling c W) (unseen c W t.LAngle h.angle refl (only-unseen t.Comma t.LAngle (λ e. omega arith) W o) refl)
     (unseen c W t.DoubleColon h.colons refl (only-unseen t.Comma t.DoubleColon (λ e. omega arith) W o) refl) (sees-paren c W)
-    ∙ ap (λ (b : Bool). cond (has wrappers c && b) (wrapperHead c) (callHead c)) (lone-call c W h)
+    ∙ ap (λ (b : Bool). cond (has wrappers c && b) (wrapper_head c) (call_head c)) (lone-call c W h)
 
 -- no wrapper,
-pub unwrapped-is : (c : ℕ) (W : List Sort) → Apart c → has wrappers c ≡ false → Only t.Comma W → nameHead (calling c W) ≡ callHead c
-unwrapped-is c W h g o = called_is c W h o ∙ ap (λ (b : Bool). cond (b && lone W) (wrapperHead c) (callHead c)) g
+pub unwrapped-is : (c : ℕ) (W : List Sort) → Apart c → has wrappers c ≡ false → Only t.Comma W → name_head (calling c W) ≡ call_head c
+unwrapped-is c W h g o = called_is c W h o ∙ ap (λ (b : Bool). cond (b && lone W) (wrapper_head c) (call_head c)) g
 
-pub angled-is : (c : ℕ) (w : List Sort) → nameHead (word c ∷ word t.DoubleColon ∷ word t.LAngle ∷ w) ≡ callHead c
+pub angled-is : (c : ℕ) (w : List Sort) → name_head (word c ∷ word t.DoubleColon ∷ word t.LAngle ∷ w) ≡ call_head c
 unfolding sees opening
 angled-is c w = name-head (word c ∷ word t.DoubleColon ∷ word t.LAngle ∷ w) (or-true (eqb c t.LAngle)) refl refl
 
-pub cast_is : (w : List Sort) → nameHead (word t.LAngle ∷ w) ≡ head kind.Call call.TypeCast 0
-unfolding nameHead sees opening callHead place_in
+pub cast_is : (w : List Sort) → name_head (word t.LAngle ∷ w) ≡ head kind.Call call.TypeCast 0
+unfolding name_head sees opening call_head place_in
 cast_is w = refl
 
 -- A name is no `<`, `::`, `(`.
@@ -193,14 +193,14 @@ no-name-paren : has t.identifiers t.LParen ≡ false
 unfolding has
 no-name-paren = refl
 
-pub alone-is : (c : ℕ) → has t.identifiers c ≡ true → nameHead (word c ∷ []) ≡ aloneHead c
+pub alone-is : (c : ℕ) → has t.identifiers c ≡ true → name_head (word c ∷ []) ≡ alone_head c
 unfolding sees opening
 alone-is c h =
     name-head (word c ∷ []) (ap (λ (b : Bool). b || false) (name-not c t.LAngle h no-name-angle)) (ap (λ (b : Bool). b || false) (name-not c t.DoubleColon h no-name-colons))
     (ap (λ (b : Bool). b || false) (name-not c t.LParen h no-name-paren))
 
-pub variable-is : (c : ℕ) → has t.identifiers c ≡ true → eqb c t.None ≡ false → nameHead (word c ∷ []) ≡ head kind.Variable 0 0
-unfolding aloneHead
+pub variable-is : (c : ℕ) → has t.identifiers c ≡ true → eqb c t.None ≡ false → name_head (word c ∷ []) ≡ head kind.Variable 0 0
+unfolding alone_head
 variable-is c h g = alone-is c h ∙ ap (λ (b : Bool). cond b (plain kind.None) (plain kind.Variable)) g
 
 enum-angle : (c : ℕ) (W : List Sort) → has t.identifiers c ≡ true → sees t.LAngle W ≡ false → sees t.LAngle (word c ∷ word t.DoubleColon ∷ W) ≡ false
@@ -211,46 +211,46 @@ enum-colons : (c : ℕ) (W : List Sort) → sees t.DoubleColon (word c ∷ word 
 unfolding sees
 enum-colons c W = or-true (eqb c t.DoubleColon)
 
-enum-count : (c a : ℕ) (W : List Sort) → has t.identifiers c ≡ true → nameCount W ≡ a → nameCount (word c ∷ word t.DoubleColon ∷ W) ≡ a + 1
-unfolding nameCount has
+enum-count : (c a : ℕ) (W : List Sort) → has t.identifiers c ≡ true → name_count W ≡ a → name_count (word c ∷ word t.DoubleColon ∷ W) ≡ a + 1
+unfolding name_count has
 enum-count c a W h e =
-    let f : 1 + (0 + nameCount W) ≡ a + 1 = omega (arith, e) in
-    ap (λ (b : Bool). cond b 1 0 + (0 + nameCount W)) h ∙ f
+    let f : 1 + (0 + name_count W) ≡ a + 1 = omega (arith, e) in
+    ap (λ (b : Bool). cond b 1 0 + (0 + name_count W)) h ∙ f
 
-pub enum_is : (c : ℕ) {a : ℕ} (W : List Sort) → has t.identifiers c ≡ true → sees t.LAngle W ≡ false → nameCount W ≡ a → nameHead (word c ∷ word t.DoubleColon ∷ W) ≡ head kind.EnumConstruction (a + 1) 0
+pub enum_is : (c : ℕ) {a : ℕ} (W : List Sort) → has t.identifiers c ≡ true → sees t.LAngle W ≡ false → name_count W ≡ a → name_head (word c ∷ word t.DoubleColon ∷ W) ≡ head kind.EnumConstruction (a + 1) 0
 enum_is c {a} W h g e = name-head (word c ∷ word t.DoubleColon ∷ W) (enum-angle c W h g) (enum-colons c W) refl ∙ ap (λ (n : ℕ). head kind.EnumConstruction n 0) (enum-count c a W h e)
 
 -- The form of these seven shapes is that of a name.
 module _ {x : Text} {K : ℕ} {N : ℕ → Type 0} {full left : List Sym} {st : State} {l : List ℕ} {w : List Sort} {ms : List Tok} {m : ℕ} {st₁ : State} {l₁ : List ℕ} where
-  pub by_form : (k : ℕ) → form_of k ≡ aName → Amid x K N full left st l w ms m st₁ l₁ → decided x k w ms ≡ nameHead w
+  pub by_form : (k : ℕ) → form_of k ≡ aName → Amid x K N full left st l w ms m st₁ l₁ → decided x k w ms ≡ name_head w
   unfolding head_of
-  by_form k e d = ap (λ (f : Form). head_of f (text_of x.draft (firstTok ms)) (number_in x ms) w) e
+  by_form k e d = ap (λ (f : Form). head_of f (text_of x.draft (first_tok ms)) (number_in x ms) w) e
 
-  pub form-simple : Amid x K N full left st l w ms m st₁ l₁ → decided x SimpleCallShape w ms ≡ nameHead w
+  pub form-simple : Amid x K N full left st l w ms m st₁ l₁ → decided x SimpleCallShape w ms ≡ name_head w
   unfolding form_of
   form-simple = by_form SimpleCallShape refl
 
-  pub form-cast : Amid x K N full left st l w ms m st₁ l₁ → decided x CastCallShape w ms ≡ nameHead w
+  pub form-cast : Amid x K N full left st l w ms m st₁ l₁ → decided x CastCallShape w ms ≡ name_head w
   unfolding form_of
   form-cast = by_form CastCallShape refl
 
-  pub form-named : Amid x K N full left st l w ms m st₁ l₁ → decided x NamedShape w ms ≡ nameHead w
+  pub form-named : Amid x K N full left st l w ms m st₁ l₁ → decided x NamedShape w ms ≡ name_head w
   unfolding form_of
   form-named = by_form NamedShape refl
 
-  pub form-bare : Amid x K N full left st l w ms m st₁ l₁ → decided x BareShape w ms ≡ nameHead w
+  pub form-bare : Amid x K N full left st l w ms m st₁ l₁ → decided x BareShape w ms ≡ name_head w
   unfolding form_of
   form-bare = by_form BareShape refl
 
-  pub form-typed : Amid x K N full left st l w ms m st₁ l₁ → decided x TypedShape w ms ≡ nameHead w
+  pub form-typed : Amid x K N full left st l w ms m st₁ l₁ → decided x TypedShape w ms ≡ name_head w
   unfolding form_of
   form-typed = by_form TypedShape refl
 
-  pub form-folding : Amid x K N full left st l w ms m st₁ l₁ → decided x FoldingShape w ms ≡ nameHead w
+  pub form-folding : Amid x K N full left st l w ms m st₁ l₁ → decided x FoldingShape w ms ≡ name_head w
   unfolding form_of
   form-folding = by_form FoldingShape refl
 
-  pub form-whiles : Amid x K N full left st l w ms m st₁ l₁ → decided x ForWhileShape w ms ≡ nameHead w
+  pub form-whiles : Amid x K N full left st l w ms m st₁ l₁ → decided x ForWhileShape w ms ≡ name_head w
   unfolding form_of
   form-whiles = by_form ForWhileShape refl
 
@@ -260,27 +260,27 @@ module _ {x : Text} {K : ℕ} {N : ℕ → Type 0} {full left : List Sym} {st : 
   cast-head d = form-cast d ∙ cast_is w
 
 module _ {x : Text} {K : ℕ} {N : ℕ → Type 0} {full left : List Sym} {st : State} {l : List ℕ} {c : ℕ} {w : List Sort} {ms : List Tok} {m : ℕ} {st₁ : State} {l₁ : List ℕ} where
-  pub typed-head : Amid x K N full left st l (word c ∷ word t.DoubleColon ∷ word t.LAngle ∷ w) ms m st₁ l₁ → decided x TypedShape (word c ∷ word t.DoubleColon ∷ word t.LAngle ∷ w) ms ≡ callHead c
+  pub typed-head : Amid x K N full left st l (word c ∷ word t.DoubleColon ∷ word t.LAngle ∷ w) ms m st₁ l₁ → decided x TypedShape (word c ∷ word t.DoubleColon ∷ word t.LAngle ∷ w) ms ≡ call_head c
   typed-head d = form-typed d ∙ angled-is c w
 
-  pub folding-head : Amid x K N full left st l (word c ∷ word t.DoubleColon ∷ word t.LAngle ∷ w) ms m st₁ l₁ → decided x FoldingShape (word c ∷ word t.DoubleColon ∷ word t.LAngle ∷ w) ms ≡ callHead c
+  pub folding-head : Amid x K N full left st l (word c ∷ word t.DoubleColon ∷ word t.LAngle ∷ w) ms m st₁ l₁ → decided x FoldingShape (word c ∷ word t.DoubleColon ∷ word t.LAngle ∷ w) ms ≡ call_head c
   folding-head d = form-folding d ∙ angled-is c w
 
-  pub whiles-head : Amid x K N full left st l (word c ∷ word t.DoubleColon ∷ word t.LAngle ∷ w) ms m st₁ l₁ → decided x ForWhileShape (word c ∷ word t.DoubleColon ∷ word t.LAngle ∷ w) ms ≡ callHead c
+  pub whiles-head : Amid x K N full left st l (word c ∷ word t.DoubleColon ∷ word t.LAngle ∷ w) ms m st₁ l₁ → decided x ForWhileShape (word c ∷ word t.DoubleColon ∷ word t.LAngle ∷ w) ms ≡ call_head c
   whiles-head d = form-whiles d ∙ angled-is c w
 
 -- The head of a call, by its low.
-pub call-low : {H : Head} (c : ℕ) {low : ℕ} → H ≡ callHead c → low ≡ (callHead c).low → H ≡ head kind.Call low 0
-unfolding callHead
+pub call-low : {H : Head} (c : ℕ) {low : ℕ} → H ≡ call_head c → low ≡ (call_head c).low → H ≡ head kind.Call low 0
+unfolding call_head
 call-low c e f = e ∙ ap (λ (l : ℕ). head kind.Call l 0) (sym f)
 
-pub whiles-low : {H : Head} {c : ℕ} → H ≡ callHead c → c ≡ t.for-while → H ≡ head kind.Call call.ForWhile 0
-unfolding callHead place_in
-whiles-low e f = e ∙ ap callHead f
+pub whiles-low : {H : Head} {c : ℕ} → H ≡ call_head c → c ≡ t.for_while → H ≡ head kind.Call call.ForWhile 0
+unfolding call_head place_in
+whiles-low e f = e ∙ ap call_head f
 
 -- The kind of a name alone.
-pub alone-kinds : (c k : ℕ) → plain k ≡ aloneHead c → (k ≡ kind.None) ⊎ (k ≡ kind.Variable)
-unfolding aloneHead
+pub alone-kinds : (c k : ℕ) → plain k ≡ alone_head c → (k ≡ kind.None) ⊎ (k ≡ kind.Variable)
+unfolding alone_head
 alone-kinds c k e = go (eqb c t.None) (ap (λ (h : Head). h.kind) e)
   where
     go : (b : Bool) → k ≡ (cond b (plain kind.None) (plain kind.Variable)).kind → (k ≡ kind.None) ⊎ (k ≡ kind.Variable)
@@ -349,13 +349,13 @@ wrapper-class c h = go (eqb c t.Left) (eqb c t.Right) (eqb c t.Some) refl refl r
     go false false false p q k = absurd (differ (sym (has-none c (eqb-not c t.Left p) (eqb-not c t.Right q) (eqb-not c t.Some k)) ∙ h))
 
 -- Its record: one of the three kinds of wrappers.
-wrapped-low : (c : ℕ) → (c ≡ t.Left) ⊎ (c ≡ t.Right) ⊎ (c ≡ t.Some) → (kind.Left ≤ (wrapperHead c).kind) × ((wrapperHead c).kind ≤ kind.Some)
-unfolding wrapperHead place_in
-wrapped-low c (inl e) = let f : (wrapperHead c).kind ≡ kind.Left = ap (λ (k : ℕ). (wrapperHead k).kind) e in (omega (arith, f), omega (arith, f))
-wrapped-low c (inr (inl e)) = let f : (wrapperHead c).kind ≡ kind.Right = ap (λ (k : ℕ). (wrapperHead k).kind) e in (omega (arith, f), omega (arith, f))
-wrapped-low c (inr (inr e)) = let f : (wrapperHead c).kind ≡ kind.Some = ap (λ (k : ℕ). (wrapperHead k).kind) e in (omega (arith, f), omega (arith, f))
+wrapped-low : (c : ℕ) → (c ≡ t.Left) ⊎ (c ≡ t.Right) ⊎ (c ≡ t.Some) → (kind.Left ≤ (wrapper_head c).kind) × ((wrapper_head c).kind ≤ kind.Some)
+unfolding wrapper_head place_in
+wrapped-low c (inl e) = let f : (wrapper_head c).kind ≡ kind.Left = ap (λ (k : ℕ). (wrapper_head k).kind) e in (omega (arith, f), omega (arith, f))
+wrapped-low c (inr (inl e)) = let f : (wrapper_head c).kind ≡ kind.Right = ap (λ (k : ℕ). (wrapper_head k).kind) e in (omega (arith, f), omega (arith, f))
+wrapped-low c (inr (inr e)) = let f : (wrapper_head c).kind ≡ kind.Some = ap (λ (k : ℕ). (wrapper_head k).kind) e in (omega (arith, f), omega (arith, f))
 
-module _ (c : ℕ) {k : ℕ} (h : has wrappers c ≡ true) (e : k ≡ (wrapperHead c).kind) where
+module _ (c : ℕ) {k : ℕ} (h : has wrappers c ≡ true) (e : k ≡ (wrapper_head c).kind) where
   kind-range : (kind.Left ≤ k) × (k ≤ kind.Some)
   kind-range = let p = wrapped-low c (wrapper-class c h) in (omega (arith, e, p.0), omega (arith, e, p.1))
 
@@ -368,19 +368,19 @@ module _ (c : ℕ) {k : ℕ} (h : has wrappers c ≡ true) (e : k ≡ (wrapperHe
   pub wrapper-keeps : T (keeping k)
   wrapper-keeps = keeps-between kind.Left kind.Some k tt kind-range.0 kind-range.1
 
-  wrapper-plain : wrapperHead c ≡ head k 0 0
-  unfolding wrapperHead
+  wrapper-plain : wrapper_head c ≡ head k 0 0
+  unfolding wrapper_head
   wrapper-plain = ap (λ (n : ℕ). head n 0 0) (sym e)
 
-  pub wrapper-is : (W : List Sort) {a : ℕ} → Apart c → Only t.Comma W → lone W ≡ eqb a 1 → a ≡ 1 → nameHead (calling c W) ≡ head k 0 0
-  wrapper-is W p o f g = called_is c W p o ∙ ap₂ (λ (u v : Bool). cond (u && v) (wrapperHead c) (callHead c)) h (f ∙ eq-eqb _ 1 g) ∙ wrapper-plain
+  pub wrapper-is : (W : List Sort) {a : ℕ} → Apart c → Only t.Comma W → lone W ≡ eqb a 1 → a ≡ 1 → name_head (calling c W) ≡ head k 0 0
+  wrapper-is W p o f g = called_is c W p o ∙ ap₂ (λ (u v : Bool). cond (u && v) (wrapper_head c) (call_head c)) h (f ∙ eq-eqb _ 1 g) ∙ wrapper-plain
 
 -- A call of that name.
-wrapper-call : (c : ℕ) → (c ≡ t.Left) ⊎ (c ≡ t.Right) ⊎ (c ≡ t.Some) → callHead c ≡ head kind.Call call.Custom 0
-unfolding callHead place_in
-wrapper-call c (inl e) = ap callHead e
-wrapper-call c (inr (inl e)) = ap callHead e
-wrapper-call c (inr (inr e)) = ap callHead e
+wrapper-call : (c : ℕ) → (c ≡ t.Left) ⊎ (c ≡ t.Right) ⊎ (c ≡ t.Some) → call_head c ≡ head kind.Call call.Custom 0
+unfolding call_head place_in
+wrapper-call c (inl e) = ap call_head e
+wrapper-call c (inr (inl e)) = ap call_head e
+wrapper-call c (inr (inr e)) = ap call_head e
 
 pub wrapper-named : (c : ℕ) → has wrappers c ≡ true → has callees c ≡ true
 unfolding has
@@ -391,34 +391,34 @@ wrapper-named c h = go (wrapper-class c h)
     go (inr (inl e)) = subst (λ k. has callees k ≡ true) (sym e) refl
     go (inr (inr e)) = subst (λ k. has callees k ≡ true) (sym e) refl
 
-pub other-is : (c : ℕ) (W : List Sort) {a : ℕ} → has wrappers c ≡ true → Apart c → Only t.Comma W → lone W ≡ eqb a 1 → (a ≡ 1 → ⊥) → nameHead (calling c W) ≡ head kind.Call call.Custom 0
+pub other-is : (c : ℕ) (W : List Sort) {a : ℕ} → has wrappers c ≡ true → Apart c → Only t.Comma W → lone W ≡ eqb a 1 → (a ≡ 1 → ⊥) → name_head (calling c W) ≡ head kind.Call call.Custom 0
 other-is c W h p o f g =
-    called_is c W p o ∙ ap₂ (λ (u v : Bool). cond (u && v) (wrapperHead c) (callHead c)) h (f ∙ ne_eqb _ 1 g) ∙ wrapper-call c (wrapper-class c h)
+    called_is c W p o ∙ ap₂ (λ (u v : Bool). cond (u && v) (wrapper_head c) (call_head c)) h (f ∙ ne_eqb _ 1 g) ∙ wrapper-call c (wrapper-class c h)
 
 -- The refusal of a fold's number.
 module _ (draft : List ℕ) where
-  fold-cases : (b : Bool) (v : Value) (y : Tok) → earliest (cond b (unless (sizeOk v) refusal.Size y) (unless (boundOk v) refusal.Bound y)) ≡ fault (cond b (sizeFault v) (boundFault v)) y.start
-  unfolding boundFault sizeFault
-  fold-cases true v y = unless-is y (sizeOk v) refusal.Size (λ e. omega arith)
-  fold-cases false v y = unless-is y (boundOk v) refusal.Bound (λ e. omega arith)
+  fold-cases : (b : Bool) (v : Value) (y : Tok) → earliest (cond b (unless (size_ok v) refusal.Size y) (unless (bound_ok v) refusal.Bound y)) ≡ fault (cond b (size_fault v) (bound_fault v)) y.start
+  unfolding bound_fault size_fault
+  fold-cases true v y = unless-is y (size_ok v) refusal.Size (λ e. omega arith)
+  fold-cases false v y = unless-is y (bound_ok v) refusal.Bound (λ e. omega arith)
 
   abbrev folding : List Sort → Value → Tok → List Fault
-  folding w v y = cond (eqb (opening w) t.array-fold) (unless (not (sees t.LAngle w) || sizeOk v) refusal.Size y) (unless (not (sees t.LAngle w) || boundOk v) refusal.Bound y)
+  folding w v y = cond (eqb (opening w) t.array_fold) (unless (not (sees t.LAngle w) || size_ok v) refusal.Size y) (unless (not (sees t.LAngle w) || bound_ok v) refusal.Bound y)
 
-  fold_at : (is : Items) → faultsAt draft FoldingShape is ≡ folding (sorts is) (fitted (decimal draft is)) (first_of t.DecLiteral (marks is))
-  unfolding faultsAt
+  fold_at : (is : Items) → faults_at draft FoldingShape is ≡ folding (sorts is) (fitted (decimal draft is)) (first_of t.DecLiteral (marks is))
+  unfolding faults_at
   fold_at is = refl
 
-  fold-opens : (c : ℕ) (w : List Sort) (v : Value) (y : Tok) → folding (word c ∷ word t.DoubleColon ∷ word t.LAngle ∷ w) v y ≡ cond (eqb c t.array-fold) (unless (sizeOk v) refusal.Size y) (unless (boundOk v) refusal.Bound y)
+  fold-opens : (c : ℕ) (w : List Sort) (v : Value) (y : Tok) → folding (word c ∷ word t.DoubleColon ∷ word t.LAngle ∷ w) v y ≡ cond (eqb c t.array_fold) (unless (size_ok v) refusal.Size y) (unless (bound_ok v) refusal.Bound y)
   unfolding sees opening
-  fold-opens c w v y = ap (λ (b : Bool). cond (eqb c t.array-fold) (unless (not b || sizeOk v) refusal.Size y) (unless (not b || boundOk v) refusal.Bound y)) (or-true (eqb c t.LAngle))
+  fold-opens c w v y = ap (λ (b : Bool). cond (eqb c t.array_fold) (unless (not b || size_ok v) refusal.Size y) (unless (not b || bound_ok v) refusal.Bound y)) (or-true (eqb c t.LAngle))
 
   pub fold-fault : (is : Items) (c : ℕ) {w : List Sort} (v : Value) (y : Tok) → sorts is ≡ word c ∷ word t.DoubleColon ∷ word t.LAngle ∷ w → first_of t.DecLiteral (marks is) ≡ y → v ≡ number_of (text_of draft y)
-      → earliest (faultsAt draft FoldingShape is) ≡ fault (cond (eqb c t.array-fold) (sizeFault v) (boundFault v)) y.start
+      → earliest (faults_at draft FoldingShape is) ≡ fault (cond (eqb c t.array_fold) (size_fault v) (bound_fault v)) y.start
   unfolding decimal number_of
   fold-fault is c {w} v y e f g =
       ap earliest (fold_at is ∙ (λ i. folding (e i) (number_of (text_of draft (f i))) (f i)) ∙ (λ i. folding (word c ∷ word t.DoubleColon ∷ word t.LAngle ∷ w) (sym g i) y) ∙ fold-opens c w v y)
-      ∙ fold-cases (eqb c t.array-fold) v y
+      ∙ fold-cases (eqb c t.array_fold) v y
 
   -- Without `<` it has none.
   both-none : (b : Bool) (v : Value) (y : Tok) → earliest (cond b (unless true refusal.Size y) (unless true refusal.Bound y)) ≡ fault 0 0
@@ -426,11 +426,11 @@ module _ (draft : List ℕ) where
   both-none true v y = refl
   both-none false v y = refl
 
-  pub fold-faultless : (is : Items) {w : List Sort} → sorts is ≡ w → sees t.LAngle w ≡ false → earliest (faultsAt draft FoldingShape is) ≡ fault 0 0
+  pub fold-faultless : (is : Items) {w : List Sort} → sorts is ≡ w → sees t.LAngle w ≡ false → earliest (faults_at draft FoldingShape is) ≡ fault 0 0
   fold-faultless is {w} e f =
       ap earliest (fold_at is ∙ ap (λ (u : List Sort). folding u (fitted (decimal draft is)) (first_of t.DecLiteral (marks is))) e
-      ∙ ap (λ (b : Bool). cond (eqb (opening w) t.array-fold) (unless (not b || sizeOk (fitted (decimal draft is))) refusal.Size (first_of t.DecLiteral (marks is))) (unless (not b || boundOk (fitted (decimal draft is))) refusal.Bound (first_of t.DecLiteral (marks is)))) f)
-      ∙ both-none (eqb (opening w) t.array-fold) (fitted (decimal draft is)) (first_of t.DecLiteral (marks is))
+      ∙ ap (λ (b : Bool). cond (eqb (opening w) t.array_fold) (unless (not b || size_ok (fitted (decimal draft is))) refusal.Size (first_of t.DecLiteral (marks is))) (unless (not b || bound_ok (fitted (decimal draft is))) refusal.Bound (first_of t.DecLiteral (marks is)))) f)
+      ∙ both-none (eqb (opening w) t.array_fold) (fitted (decimal draft is)) (first_of t.DecLiteral (marks is))
 
 -- No `<` in a name alone and in a path.
 pub alone-angle : (c : ℕ) → has t.identifiers c ≡ true → sees t.LAngle (word c ∷ []) ≡ false
@@ -442,14 +442,14 @@ pub args-angle : (W : List Sort) → Only t.Comma W → sees t.LAngle (word t.LP
 unfolding sees
 args-angle W o = sees-append t.LAngle W (word t.RParen ∷ []) ∙ ap (λ (b : Bool). b || false) (only-unseen t.Comma t.LAngle (λ e. omega arith) W o)
 
-count-end : (W : List Sort) → Only t.Comma W → nameCount (W ++ (word t.RParen ∷ [])) ≡ 0
-unfolding nameCount has
+count-end : (W : List Sort) → Only t.Comma W → name_count (W ++ (word t.RParen ∷ [])) ≡ 0
+unfolding name_count has
 count-end [] o = refl
-count-end (word d ∷ w) o = ap (λ (k : ℕ). cond (has t.identifiers k) 1 0 + nameCount (w ++ (word t.RParen ∷ []))) o.0 ∙ ap (λ (n : ℕ). 0 + n) (count-end w o.1)
+count-end (word d ∷ w) o = ap (λ (k : ℕ). cond (has t.identifiers k) 1 0 + name_count (w ++ (word t.RParen ∷ []))) o.0 ∙ ap (λ (n : ℕ). 0 + n) (count-end w o.1)
 count-end (child k l h d ∷ w) o = count-end w o
 
-pub args_count : (W : List Sort) → Only t.Comma W → nameCount (word t.LParen ∷ (W ++ (word t.RParen ∷ []))) ≡ 0
-unfolding nameCount has
+pub args_count : (W : List Sort) → Only t.Comma W → name_count (word t.LParen ∷ (W ++ (word t.RParen ∷ []))) ≡ 0
+unfolding name_count has
 args_count W o = ap (λ (n : ℕ). 0 + n) (count-end W o)
 
 pub no-angle-name : has t.identifiers t.LAngle ≡ false

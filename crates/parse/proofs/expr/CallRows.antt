@@ -11,30 +11,30 @@ use Rattle.lexer.specs.Classes as t
 use Rattle.theory.specs.Grammar.{Sym, tok, nt, on, look, row, alt, pick}
 use Rattle.theory.specs.Machine.{choose, expand}
 use Rattle.theory.specs.Ebnf as shape
-use Rattle.theory.specs.Ebnf.{sortOf, kindsOf}
+use Rattle.theory.specs.Ebnf.{sort_of, kinds_of}
 use Rattle.theory.specs.Same.{ex}
 use Rattle.own.specs.Kinds as kind
-use Rattle.grammar.specs.shapes.Shapes.{shapes}
-use Rattle.grammar.specs.shapes.Tables.{means, table}
-use Rattle.grammar.specs.records.Records.{aMark, asName, as_number, roleOf}
-use Rattle.grammar.specs.shapes.ShapeKind.{BareShape, CastCallShape, FoldingShape, ForWhileShape, NamedShape, SimpleCallShape, TypedShape}
-use Rattle.grammar.specs.shapes.TablesIndex.{
+use Rattle.grammar.specs.Shapes.Shapes.{shapes}
+use Rattle.grammar.specs.Shapes.Tables.{means, table}
+use Rattle.grammar.specs.Records.Records.{aMark, asName, as_number, role_of}
+use Rattle.grammar.specs.Shapes.ShapeKind.{BareShape, CastCallShape, FoldingShape, ForWhileShape, NamedShape, SimpleCallShape, TypedShape}
+use Rattle.grammar.specs.Shapes.TablesIndex.{
   n-arguments,
   n-bare-optional-DoubleColon,
   n-bare-word,
   n-folding-optional-DoubleColon,
   n-folding-optional-DoubleColon-choice,
   n-folding-word,
-  n-forWhile-optional-DoubleColon,
-  n-forWhile-optional-DoubleColon-choice,
-  n-functionName,
+  n-for_while-optional-DoubleColon,
+  n-for_while-optional-DoubleColon-choice,
+  n-function_name,
   n-identifier,
   n-named-optional,
   n-named-word,
   n-path,
   n-path-many-DoubleColon,
   n-path-optional,
-  n-simpleCall-word,
+  n-simple_call-word,
   n-single,
   n-type,
   n-typed-optional-DoubleColon,
@@ -44,58 +44,58 @@ use Rattle.grammar.specs.shapes.TablesIndex.{
 use Rattle.parse.specs.Contract.{Text, classes, Read, callees}
 use Rattle.parse.specs.Choice as choice
 use Rattle.parse.proofs.choice.Chosen.{where-chosen, alone, is-alone, hit, miss, goes}
-use Rattle.parse.proofs.rule.Marks.{aWord, word-mark}
-use Rattle.parse.proofs.rule.Steps.{reads-tok, reads-one}
-use Rattle.parse.proofs.rule.Closing.{Rule}
+use Rattle.parse.proofs.Rule.Marks.{a_word, word-mark}
+use Rattle.parse.proofs.Rule.Steps.{reads-tok, reads-one}
+use Rattle.parse.proofs.Rule.Closing.{Rule}
 
 -- The rules of calls.
-abbrev pub simpleRhs : List Sym
-simpleRhs = nt n-simpleCall-word ∷ nt n-arguments ∷ []
+abbrev pub simple_rhs : List Sym
+simple_rhs = nt n-simple_call-word ∷ nt n-arguments ∷ []
 
-abbrev pub castRhs : List Sym
-castRhs = tok t.LAngle ∷ nt n-type ∷ tok t.RAngle ∷ tok t.DoubleColon ∷ tok t.into ∷ nt n-arguments ∷ []
+abbrev pub cast_rhs : List Sym
+cast_rhs = tok t.LAngle ∷ nt n-type ∷ tok t.RAngle ∷ tok t.DoubleColon ∷ tok t.into ∷ nt n-arguments ∷ []
 
-abbrev pub namedRhs : List Sym
-namedRhs = nt n-named-word ∷ nt n-named-optional ∷ []
+abbrev pub named_rhs : List Sym
+named_rhs = nt n-named-word ∷ nt n-named-optional ∷ []
 
-abbrev pub bareRhs : List Sym
-bareRhs = nt n-bare-word ∷ nt n-bare-optional-DoubleColon ∷ []
+abbrev pub bare_rhs : List Sym
+bare_rhs = nt n-bare-word ∷ nt n-bare-optional-DoubleColon ∷ []
 
-abbrev pub typedRhs : List Sym
-typedRhs = nt n-typed-word ∷ nt n-typed-optional-DoubleColon ∷ []
+abbrev pub typed_rhs : List Sym
+typed_rhs = nt n-typed-word ∷ nt n-typed-optional-DoubleColon ∷ []
 
-abbrev pub foldingRhs : List Sym
-foldingRhs = nt n-folding-word ∷ nt n-folding-optional-DoubleColon ∷ []
+abbrev pub folding_rhs : List Sym
+folding_rhs = nt n-folding-word ∷ nt n-folding-optional-DoubleColon ∷ []
 
-abbrev pub whilesRhs : List Sym
-whilesRhs = tok t.for-while ∷ nt n-forWhile-optional-DoubleColon ∷ []
+abbrev pub whiles_rhs : List Sym
+whiles_rhs = tok t.for_while ∷ nt n-for_while-optional-DoubleColon ∷ []
 
-pub simple-rule : Rule n-single choice.SimpleCall SimpleCallShape simpleRhs
-unfolding ex means kindsOf shapes row table alt pick
+pub simple-rule : Rule n-single choice.SimpleCall SimpleCallShape simple_rhs
+unfolding ex means kinds_of shapes row table alt pick
 simple-rule = record { category = refl; from_one = refl; kind = refl; rule = refl }
 
-pub cast-rule : Rule n-single choice.CastCall CastCallShape castRhs
-unfolding ex means kindsOf shapes row table alt pick
+pub cast-rule : Rule n-single choice.CastCall CastCallShape cast_rhs
+unfolding ex means kinds_of shapes row table alt pick
 cast-rule = record { category = refl; from_one = refl; kind = refl; rule = refl }
 
-pub named_rule : Rule n-single choice.Named NamedShape namedRhs
-unfolding ex means kindsOf shapes row table alt pick
+pub named_rule : Rule n-single choice.Named NamedShape named_rhs
+unfolding ex means kinds_of shapes row table alt pick
 named_rule = record { category = refl; from_one = refl; kind = refl; rule = refl }
 
-pub bare-rule : Rule n-single choice.Bare BareShape bareRhs
-unfolding ex means kindsOf shapes row table alt pick
+pub bare-rule : Rule n-single choice.Bare BareShape bare_rhs
+unfolding ex means kinds_of shapes row table alt pick
 bare-rule = record { category = refl; from_one = refl; kind = refl; rule = refl }
 
-pub typed-rule : Rule n-single choice.Typed TypedShape typedRhs
-unfolding ex means kindsOf shapes row table alt pick
+pub typed-rule : Rule n-single choice.Typed TypedShape typed_rhs
+unfolding ex means kinds_of shapes row table alt pick
 typed-rule = record { category = refl; from_one = refl; kind = refl; rule = refl }
 
-pub folding-rule : Rule n-single choice.Folding FoldingShape foldingRhs
-unfolding ex means kindsOf shapes row table alt pick
+pub folding-rule : Rule n-single choice.Folding FoldingShape folding_rhs
+unfolding ex means kinds_of shapes row table alt pick
 folding-rule = record { category = refl; from_one = refl; kind = refl; rule = refl }
 
-pub whiles-rule : Rule n-single choice.ForWhile ForWhileShape whilesRhs
-unfolding ex means kindsOf shapes row table alt pick
+pub whiles-rule : Rule n-single choice.ForWhile ForWhileShape whiles_rhs
+unfolding ex means kinds_of shapes row table alt pick
 whiles-rule = record { category = refl; from_one = refl; kind = refl; rule = refl }
 
 -- The symbol s stands for one token, of the class c.
@@ -106,7 +106,7 @@ pub record For (s : Sym) (c : ℕ) : Type 0 where
 for-tok : (c : ℕ) → 0 < c → For (tok c) c
 for-tok c h = record { pos = h; reads = λ x at e i. reads-tok x c e i }
 
-for-nt : (A c : ℕ) → 0 < c → sortOf (ex means (nt A)) ≡ shape.flat → expand table A c ≡ some (tok c ∷ []) → For (nt A) c
+for-nt : (A c : ℕ) → 0 < c → sort_of (ex means (nt A)) ≡ shape.flat → expand table A c ≡ some (tok c ∷ []) → For (nt A) c
 for-nt A c h f g = record { pos = h; reads = λ x at e i. reads-one x A c f g e i }
 
 and_both : (a b : Bool) → T (a && b) → T a × T b
@@ -132,36 +132,36 @@ is-apart c h =
 
 -- The tokens that calls begin with.
 module _ (c : ℕ) where
-  pub for-simple : choose table n-single c ≡ choice.SimpleCall → For (nt n-simpleCall-word) c
-  unfolding sortOf ex means choose row table look alt pick
-  for-simple e = for-nt n-simpleCall-word c (ltb→lt 0 c (where-chosen n-single choice.SimpleCall (λ a. ltb 0 a) tt tt c e)) refl (is-alone (expand table n-simpleCall-word c) c (where-chosen n-single choice.SimpleCall (λ a. alone (expand table n-simpleCall-word a) a) tt tt c e))
+  pub for-simple : choose table n-single c ≡ choice.SimpleCall → For (nt n-simple_call-word) c
+  unfolding sort_of ex means choose row table look alt pick
+  for-simple e = for-nt n-simple_call-word c (ltb→lt 0 c (where-chosen n-single choice.SimpleCall (λ a. ltb 0 a) tt tt c e)) refl (is-alone (expand table n-simple_call-word c) c (where-chosen n-single choice.SimpleCall (λ a. alone (expand table n-simple_call-word a) a) tt tt c e))
 
   pub at-cast : choose table n-single c ≡ choice.CastCall → c ≡ t.LAngle
   unfolding choose row table look
   at-cast e = eqb→eq c t.LAngle (where-chosen n-single choice.CastCall (λ a. eqb a t.LAngle) tt tt c e)
 
   pub for-named : choose table n-single c ≡ choice.Named → For (nt n-named-word) c
-  unfolding sortOf ex means choose row table look alt pick
+  unfolding sort_of ex means choose row table look alt pick
   for-named e = for-nt n-named-word c (ltb→lt 0 c (where-chosen n-single choice.Named (λ a. ltb 0 a) tt tt c e)) refl (is-alone (expand table n-named-word c) c (where-chosen n-single choice.Named (λ a. alone (expand table n-named-word a) a) tt tt c e))
 
   pub for-bare : choose table n-single c ≡ choice.Bare → For (nt n-bare-word) c
-  unfolding sortOf ex means choose row table look alt pick
+  unfolding sort_of ex means choose row table look alt pick
   for-bare e = for-nt n-bare-word c (ltb→lt 0 c (where-chosen n-single choice.Bare (λ a. ltb 0 a) tt tt c e)) refl (is-alone (expand table n-bare-word c) c (where-chosen n-single choice.Bare (λ a. alone (expand table n-bare-word a) a) tt tt c e))
 
   pub for-typed : choose table n-single c ≡ choice.Typed → For (nt n-typed-word) c
-  unfolding sortOf ex means choose row table look alt pick
+  unfolding sort_of ex means choose row table look alt pick
   for-typed e = for-nt n-typed-word c (ltb→lt 0 c (where-chosen n-single choice.Typed (λ a. ltb 0 a) tt tt c e)) refl (is-alone (expand table n-typed-word c) c (where-chosen n-single choice.Typed (λ a. alone (expand table n-typed-word a) a) tt tt c e))
 
   pub for-folding : choose table n-single c ≡ choice.Folding → For (nt n-folding-word) c
-  unfolding sortOf ex means choose row table look alt pick
+  unfolding sort_of ex means choose row table look alt pick
   for-folding e = for-nt n-folding-word c (ltb→lt 0 c (where-chosen n-single choice.Folding (λ a. ltb 0 a) tt tt c e)) refl (is-alone (expand table n-folding-word c) c (where-chosen n-single choice.Folding (λ a. alone (expand table n-folding-word a) a) tt tt c e))
 
-  pub at-whiles : choose table n-single c ≡ choice.ForWhile → c ≡ t.for-while
+  pub at-whiles : choose table n-single c ≡ choice.ForWhile → c ≡ t.for_while
   unfolding choose row table look
-  at-whiles e = eqb→eq c t.for-while (where-chosen n-single choice.ForWhile (λ a. eqb a t.for-while) tt tt c e)
+  at-whiles e = eqb→eq c t.for_while (where-chosen n-single choice.ForWhile (λ a. eqb a t.for_while) tt tt c e)
 
-  pub for-whiles : choose table n-single c ≡ choice.ForWhile → For (tok t.for-while) c
-  for-whiles e = subst (λ a. For (tok t.for-while) a) (sym (at-whiles e)) (for-tok t.for-while (omega arith))
+  pub for-whiles : choose table n-single c ≡ choice.ForWhile → For (tok t.for_while) c
+  for-whiles e = subst (λ a. For (tok t.for_while) a) (sym (at-whiles e)) (for-tok t.for_while (omega arith))
 
   -- What they are not,
   pub simple-apart : choose table n-single c ≡ choice.SimpleCall → Apart c
@@ -220,29 +220,29 @@ module _ (c : ℕ) where
   whiles-variable e = not-true (eqb c t.None) (where-chosen n-single choice.ForWhile (λ a. not (eqb a t.None)) tt tt c e)
 
   -- and marks of a call.
-  pub typed-mark : choose table n-single c ≡ choice.Typed → roleOf kind.Call c ≡ aMark
+  pub typed-mark : choose table n-single c ≡ choice.Typed → role_of kind.Call c ≡ aMark
   unfolding choose row table look
-  typed-mark e = word-mark c (where-chosen n-single choice.Typed aWord tt tt c e)
+  typed-mark e = word-mark c (where-chosen n-single choice.Typed a_word tt tt c e)
 
-  pub folding-mark : choose table n-single c ≡ choice.Folding → roleOf kind.Call c ≡ aMark
+  pub folding-mark : choose table n-single c ≡ choice.Folding → role_of kind.Call c ≡ aMark
   unfolding choose row table look
-  folding-mark e = word-mark c (where-chosen n-single choice.Folding aWord tt tt c e)
+  folding-mark e = word-mark c (where-chosen n-single choice.Folding a_word tt tt c e)
 
-  pub whiles-mark : choose table n-single c ≡ choice.ForWhile → roleOf kind.Call c ≡ aMark
+  pub whiles-mark : choose table n-single c ≡ choice.ForWhile → role_of kind.Call c ≡ aMark
   unfolding choose row table look
-  whiles-mark e = word-mark c (where-chosen n-single choice.ForWhile aWord tt tt c e)
+  whiles-mark e = word-mark c (where-chosen n-single choice.ForWhile a_word tt tt c e)
 
 -- The token that a call begins with is a name of its own or a mark.
-pub called-role : (c : ℕ) → has callees c ≡ true → roleOf kind.Call c ≡ asName
-unfolding roleOf has
+pub called-role : (c : ℕ) → has callees c ≡ true → role_of kind.Call c ≡ asName
+unfolding role_of has
 called-role c h = ap (λ (b : Bool). cond b asName (cond (eqb c t.DecLiteral) as_number aMark)) h
 
-pub marked-role : (c : ℕ) → has callees c ≡ false → eqb c t.DecLiteral ≡ false → roleOf kind.Call c ≡ aMark
-unfolding roleOf has
+pub marked-role : (c : ℕ) → has callees c ≡ false → eqb c t.DecLiteral ≡ false → role_of kind.Call c ≡ aMark
+unfolding role_of has
 marked-role c h g = ap₂ (λ (a b : Bool). cond a asName (cond b as_number aMark)) h g
 
-pub number-role : roleOf kind.Call t.DecLiteral ≡ as_number
-unfolding roleOf has
+pub number-role : role_of kind.Call t.DecLiteral ≡ as_number
+unfolding role_of has
 number-role = refl
 
 -- What may follow a name: nothing,
@@ -263,9 +263,9 @@ module _ {a : ℕ} where
   unfolding choose row table look alt pick
   folding-alone h = goes n-folding-optional-DoubleColon 1 a (miss t.DoubleColon 2 [] 1 h refl) refl
 
-  pub whiles-alone : (a ≡ t.DoubleColon → ⊥) → expand table n-forWhile-optional-DoubleColon a ≡ some []
+  pub whiles-alone : (a ≡ t.DoubleColon → ⊥) → expand table n-for_while-optional-DoubleColon a ≡ some []
   unfolding choose row table look alt pick
-  whiles-alone h = goes n-forWhile-optional-DoubleColon 1 a (miss t.DoubleColon 2 [] 1 h refl) refl
+  whiles-alone h = goes n-for_while-optional-DoubleColon 1 a (miss t.DoubleColon 2 [] 1 h refl) refl
 
   pub path-alone : (a ≡ t.LParen → ⊥) → expand table n-path-optional a ≡ some []
   unfolding choose row table look alt pick
@@ -297,22 +297,22 @@ module _ {a : ℕ} where
   unfolding choose row table look alt pick
   folding-colons h = goes n-folding-optional-DoubleColon 2 a (hit t.DoubleColon 2 [] 1 h) refl
 
-  pub whiles-colons : a ≡ t.DoubleColon → expand table n-forWhile-optional-DoubleColon a ≡ some (tok t.DoubleColon ∷ nt n-forWhile-optional-DoubleColon-choice ∷ [])
+  pub whiles-colons : a ≡ t.DoubleColon → expand table n-for_while-optional-DoubleColon a ≡ some (tok t.DoubleColon ∷ nt n-for_while-optional-DoubleColon-choice ∷ [])
   unfolding choose row table look alt pick
-  whiles-colons h = goes n-forWhile-optional-DoubleColon 2 a (hit t.DoubleColon 2 [] 1 h) refl
+  whiles-colons h = goes n-for_while-optional-DoubleColon 2 a (hit t.DoubleColon 2 [] 1 h) refl
 
   -- and then `<`
   pub typed-angle : a ≡ t.LAngle → expand table n-typed-optional-DoubleColon-choice a ≡ some (tok t.LAngle ∷ nt n-type ∷ tok t.RAngle ∷ nt n-arguments ∷ [])
   unfolding choose row table look alt pick
   typed-angle h = goes n-typed-optional-DoubleColon-choice 1 a (hit t.LAngle 1 [] 2 h) refl
 
-  pub folding-angle : a ≡ t.LAngle → expand table n-folding-optional-DoubleColon-choice a ≡ some (tok t.LAngle ∷ nt n-functionName ∷ tok t.Comma ∷ tok t.DecLiteral ∷ tok t.RAngle ∷ nt n-arguments ∷ [])
+  pub folding-angle : a ≡ t.LAngle → expand table n-folding-optional-DoubleColon-choice a ≡ some (tok t.LAngle ∷ nt n-function_name ∷ tok t.Comma ∷ tok t.DecLiteral ∷ tok t.RAngle ∷ nt n-arguments ∷ [])
   unfolding choose row table look alt pick
   folding-angle h = goes n-folding-optional-DoubleColon-choice 1 a (hit t.LAngle 1 [] 2 h) refl
 
-  pub whiles-angle : a ≡ t.LAngle → expand table n-forWhile-optional-DoubleColon-choice a ≡ some (tok t.LAngle ∷ nt n-functionName ∷ tok t.RAngle ∷ nt n-arguments ∷ [])
+  pub whiles-angle : a ≡ t.LAngle → expand table n-for_while-optional-DoubleColon-choice a ≡ some (tok t.LAngle ∷ nt n-function_name ∷ tok t.RAngle ∷ nt n-arguments ∷ [])
   unfolding choose row table look alt pick
-  whiles-angle h = goes n-forWhile-optional-DoubleColon-choice 1 a (hit t.LAngle 1 [] 2 h) refl
+  whiles-angle h = goes n-for_while-optional-DoubleColon-choice 1 a (hit t.LAngle 1 [] 2 h) refl
 
   -- or a path.
   pub typed-path : (a ≡ t.LAngle → ⊥) → expand table n-typed-optional-DoubleColon-choice a ≡ some (nt n-path ∷ [])
@@ -323,51 +323,51 @@ module _ {a : ℕ} where
   unfolding choose row table look alt pick
   folding-path h = goes n-folding-optional-DoubleColon-choice 2 a (miss t.LAngle 1 [] 2 h refl) refl
 
-  pub whiles-path : (a ≡ t.LAngle → ⊥) → expand table n-forWhile-optional-DoubleColon-choice a ≡ some (nt n-path ∷ [])
+  pub whiles-path : (a ≡ t.LAngle → ⊥) → expand table n-for_while-optional-DoubleColon-choice a ≡ some (nt n-path ∷ [])
   unfolding choose row table look alt pick
-  whiles-path h = goes n-forWhile-optional-DoubleColon-choice 2 a (miss t.LAngle 1 [] 2 h refl) refl
+  whiles-path h = goes n-for_while-optional-DoubleColon-choice 2 a (miss t.LAngle 1 [] 2 h refl) refl
 
 pub path-row : (a : ℕ) → expand table n-path a ≡ some (nt n-identifier ∷ nt n-path-many-DoubleColon ∷ nt n-path-optional ∷ [])
 unfolding choose row table look alt pick
 path-row a = goes n-path 1 a refl refl
 
 -- None of these is a node.
-pub flat-named : sortOf (ex means (nt n-named-optional)) ≡ shape.flat
-unfolding sortOf ex means
+pub flat-named : sort_of (ex means (nt n-named-optional)) ≡ shape.flat
+unfolding sort_of ex means
 flat-named = refl
 
-pub flat-bare : sortOf (ex means (nt n-bare-optional-DoubleColon)) ≡ shape.flat
-unfolding sortOf ex means
+pub flat-bare : sort_of (ex means (nt n-bare-optional-DoubleColon)) ≡ shape.flat
+unfolding sort_of ex means
 flat-bare = refl
 
-pub flat-typed : sortOf (ex means (nt n-typed-optional-DoubleColon)) ≡ shape.flat
-unfolding sortOf ex means
+pub flat-typed : sort_of (ex means (nt n-typed-optional-DoubleColon)) ≡ shape.flat
+unfolding sort_of ex means
 flat-typed = refl
 
-pub flat-folding : sortOf (ex means (nt n-folding-optional-DoubleColon)) ≡ shape.flat
-unfolding sortOf ex means
+pub flat-folding : sort_of (ex means (nt n-folding-optional-DoubleColon)) ≡ shape.flat
+unfolding sort_of ex means
 flat-folding = refl
 
-pub flat-whiles : sortOf (ex means (nt n-forWhile-optional-DoubleColon)) ≡ shape.flat
-unfolding sortOf ex means
+pub flat-whiles : sort_of (ex means (nt n-for_while-optional-DoubleColon)) ≡ shape.flat
+unfolding sort_of ex means
 flat-whiles = refl
 
-pub flat-of-type : sortOf (ex means (nt n-typed-optional-DoubleColon-choice)) ≡ shape.flat
-unfolding sortOf ex means
+pub flat-of-type : sort_of (ex means (nt n-typed-optional-DoubleColon-choice)) ≡ shape.flat
+unfolding sort_of ex means
 flat-of-type = refl
 
-pub flat-bounded : sortOf (ex means (nt n-folding-optional-DoubleColon-choice)) ≡ shape.flat
-unfolding sortOf ex means
+pub flat-bounded : sort_of (ex means (nt n-folding-optional-DoubleColon-choice)) ≡ shape.flat
+unfolding sort_of ex means
 flat-bounded = refl
 
-pub flat-looped : sortOf (ex means (nt n-forWhile-optional-DoubleColon-choice)) ≡ shape.flat
-unfolding sortOf ex means
+pub flat-looped : sort_of (ex means (nt n-for_while-optional-DoubleColon-choice)) ≡ shape.flat
+unfolding sort_of ex means
 flat-looped = refl
 
-pub flat-path : sortOf (ex means (nt n-path)) ≡ shape.flat
-unfolding sortOf ex means
+pub flat-path : sort_of (ex means (nt n-path)) ≡ shape.flat
+unfolding sort_of ex means
 flat-path = refl
 
-pub flat-path-args : sortOf (ex means (nt n-path-optional)) ≡ shape.flat
-unfolding sortOf ex means
+pub flat-path-args : sort_of (ex means (nt n-path-optional)) ≡ shape.flat
+unfolding sort_of ex means
 flat-path-args = refl

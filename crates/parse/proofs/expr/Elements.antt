@@ -7,33 +7,33 @@ use denote.Enum.Declared.{tag_of}
 use Rattle.theory.specs.Grammar.{Sym, tok, nt, on, look, row, alt, pick}
 use Rattle.theory.specs.Machine.{choose, expand}
 use Rattle.theory.specs.Ebnf as shape
-use Rattle.theory.specs.Ebnf.{sortOf}
+use Rattle.theory.specs.Ebnf.{sort_of}
 use Rattle.theory.specs.Same.{ex}
 use Rattle.own.specs.Tree.{Tok, marks}
 use Rattle.own.specs.Law.{Sort, word, child, sorts}
 use Rattle.lexer.specs.Classes as t
-use Rattle.grammar.specs.shapes.Tables.{means, table}
-use Rattle.grammar.specs.records.Records.{sees, part_count, lone, unended}
-use Rattle.grammar.specs.shapes.TablesIndex.{n-assignment, n-elements, n-elements-optional-Semi, n-expression}
+use Rattle.grammar.specs.Shapes.Tables.{means, table}
+use Rattle.grammar.specs.Records.Records.{sees, part_count, lone, unended}
+use Rattle.grammar.specs.Shapes.TablesIndex.{n-assignment, n-elements, n-elements-optional-Semi, n-expression}
 use Rattle.parse.specs.contracts.Step.{the_type}
-use Rattle.parse.specs.Contract.{Text, classes, tokAt, raw, Stands, Ready, Moved, Eaten, ate, Info, asItems, Went, Parsed, Node, ExprKind, Only}
+use Rattle.parse.specs.Contract.{Text, classes, tok_at, raw, Stands, Ready, Moved, Eaten, ate, Info, as_items, Went, Parsed, Node, ExprKind, Only}
 use Rattle.parse.specs.Infos.{LetKind, Elements, Lone}
 use Rattle.parse.specs.declared.State.{State}
 use Rattle.parse.specs.declared.Step.{Step}
 use Rattle.parse.specs.declared.Step.TheVariants.{Next}
 use Rattle.parse.proofs.choice.Chosen.{hit, miss, goes}
-use Rattle.parse.proofs.rule.Marks.{sign-mark}
-use Rattle.parse.proofs.rule.Amid.{inside, Amid, starts, then_turns, then-passed, then-went, went}
-use Rattle.parse.proofs.rule.Chain.{Noded, then-node, advances, then-eats, then-lacks, onward}
-use Rattle.parse.proofs.rule.Commas.{AnyN, arranged-zero, arranged-only, comma-mark, semi-mark, only-append, finish, went-ahead}
-use Rattle.parse.proofs.rule.Pieces.{seen_first, seen-second}
+use Rattle.parse.proofs.Rule.Marks.{sign-mark}
+use Rattle.parse.proofs.Rule.Amid.{inside, Amid, starts, then_turns, then-passed, then-went, went}
+use Rattle.parse.proofs.Rule.Chain.{Noded, then-node, advances, then-eats, then-lacks, onward}
+use Rattle.parse.proofs.Rule.Commas.{AnyN, arranged-zero, arranged-only, comma-mark, semi-mark, only-append, finish, went-ahead}
+use Rattle.parse.proofs.Rule.Pieces.{seen_first, seen-second}
 
-flat-elements : sortOf (ex means (nt n-elements)) ≡ shape.flat
-unfolding sortOf ex means
+flat-elements : sort_of (ex means (nt n-elements)) ≡ shape.flat
+unfolding sort_of ex means
 flat-elements = refl
 
-flat-semi : sortOf (ex means (nt n-elements-optional-Semi)) ≡ shape.flat
-unfolding sortOf ex means
+flat-semi : sort_of (ex means (nt n-elements-optional-Semi)) ≡ shape.flat
+unfolding sort_of ex means
 flat-semi = refl
 
 module _ {a : ℕ} where
@@ -75,7 +75,7 @@ is-eaten : {x : Text} {st : State} {c : ℕ} {st' : State} {a b : ℕ} → Eaten
 is-eaten (ate e v) = (e, v)
 
 pub eaten-ahead : {x : Text} {st st' : State} {k a b : ℕ} {s : Step} → Stands x st → Eaten x st (suc k) s → s ≡ Next st' a b → st.at < st'.at
-eaten-ahead {x} {st} {k = k} h q e = let v = is-eaten (subst (λ s. Eaten x st (suc k) s) e q) in omega (arith, v.1.ahead (inside x st.at (omega arith) (sym h.class-is ∙ v.0)))
+eaten-ahead {x} {st} {k = k} h q e = let v = is-eaten (subst (λ s. Eaten x st (suc k) s) e q) in omega (arith, v.1.ahead (inside x st.at (omega arith) (sym h.class_is ∙ v.0)))
 
 -- The elements up to `here`, each with its `;`.
 pub record Elemed (x : Text) (st : State) (l : List ℕ) (here : State) (l₁ : List ℕ) : Type 0 where
@@ -93,18 +93,18 @@ module _ {x : Text} {st : State} {l : List ℕ} (y : Ready x st) where
 
   module _ {here : State} {l₁ : List ℕ} (v : Elemed x st l here l₁) where
     here-is : here.class ≡ get_or (classes x) here.at 0
-    here-is = v.amid.lays.stands.class-is
+    here-is = v.amid.lays.stands.class_is
 
     pub elems-ready : Ready x here
     elems-ready = onward y v.amid
 
-    pub elems-end : here.class ≡ t.RBrace → Went x (nt n-elements ∷ []) asItems Elements st l here l₁ 0 0
+    pub elems-end : here.class ≡ t.RBrace → Went x (nt n-elements ∷ []) as_items Elements st l here l₁ 0 0
     elems-end c =
         let d = then_turns [] v.amid flat-elements (no_more (sym here-is ∙ c)) in
         finish d (record {
           same = sym (d.roles 0 tt) ∙ arranged-zero 0 (raw x st.at d.pre);
           semis = subst (Only t.Semi) (sym d.sorted) v.semis;
-          last-is = ap (λ (b : Bool). cond b 1 0) (sym (ap (unended false) d.sorted ∙ v.ended));
+          last_is = ap (λ (b : Bool). cond b 1 0) (sym (ap (unended false) d.sorted ∙ v.ended));
         })
 
     -- one that is ended
@@ -124,14 +124,14 @@ module _ {x : Text} {st : State} {l : List ℕ} (y : Ready x st) where
       into-let : Amid x 0 AnyN (nt n-elements ∷ []) (nt n-assignment ∷ tok t.Semi ∷ nt n-elements ∷ []) st l v.w v.ms v.m here l₁
       into-let = then_turns (nt n-assignment ∷ tok t.Semi ∷ nt n-elements ∷ []) v.amid flat-elements (a-let (sym here-is ∙ c))
 
-      pub let-passed : {J : Info} {l₂ l' : List ℕ} {r : Step} → OneOf (1 ∷ []) (tag_of the_type r) → Parsed x (nt n-assignment ∷ []) asItems (Node LetKind) here l₁ l₂ r → Parsed x (nt n-elements ∷ []) asItems J st l l' r
+      pub let-passed : {J : Info} {l₂ l' : List ℕ} {r : Step} → OneOf (1 ∷ []) (tag_of the_type r) → Parsed x (nt n-assignment ∷ []) as_items (Node LetKind) here l₁ l₂ r → Parsed x (nt n-elements ∷ []) as_items J st l l' r
       let-passed k p = then-passed into-let k (λ τ q h. h) p
 
-      module _ {l₂ : List ℕ} {r : Step} {st₂ : State} {a b : ℕ} (p : Parsed x (nt n-assignment ∷ []) asItems (Node LetKind) here l₁ l₂ r) (e : r ≡ Next st₂ a b) where
+      module _ {l₂ : List ℕ} {r : Step} {st₂ : State} {a b : ℕ} (p : Parsed x (nt n-assignment ∷ []) as_items (Node LetKind) here l₁ l₂ r) (e : r ≡ Next st₂ a b) where
         the-let : Noded x 0 AnyN (nt n-elements ∷ []) (tok t.Semi ∷ nt n-elements ∷ []) st l v.w v.ms v.m LetKind st₂ l₂
         the-let = then-node into-let p e
 
-        pub let-lacks : {J : Info} {l' : List ℕ} {s : Step} → OneOf (1 ∷ []) (tag_of the_type s) → Eaten x st₂ t.Semi s → Parsed x (nt n-elements ∷ []) asItems J st l l' s
+        pub let-lacks : {J : Info} {l' : List ℕ} {s : Step} → OneOf (1 ∷ []) (tag_of the_type s) → Eaten x st₂ t.Semi s → Parsed x (nt n-elements ∷ []) as_items J st l l' s
         let-lacks k q = then-lacks the-let.amid k (λ τ i h. h) q
 
         module _ {s : Step} {st₃ : State} {a' b' : ℕ} (q : Eaten x st₂ t.Semi s) (f : s ≡ Next st₃ a' b') where
@@ -149,37 +149,37 @@ module _ {x : Text} {st : State} {l : List ℕ} (y : Ready x st) where
       into-expr : Amid x 0 AnyN (nt n-elements ∷ []) (nt n-expression ∷ nt n-elements-optional-Semi ∷ []) st l v.w v.ms v.m here l₁
       into-expr = then_turns (nt n-expression ∷ nt n-elements-optional-Semi ∷ []) v.amid flat-elements (an-expression (λ h. c (here-is ∙ h)) (λ h. n (here-is ∙ h)))
 
-      pub expr-passed : {J : Info} {l₂ l' : List ℕ} {r : Step} → OneOf (1 ∷ []) (tag_of the_type r) → Parsed x (nt n-expression ∷ []) asItems (Node ExprKind) here l₁ l₂ r → Parsed x (nt n-elements ∷ []) asItems J st l l' r
+      pub expr-passed : {J : Info} {l₂ l' : List ℕ} {r : Step} → OneOf (1 ∷ []) (tag_of the_type r) → Parsed x (nt n-expression ∷ []) as_items (Node ExprKind) here l₁ l₂ r → Parsed x (nt n-elements ∷ []) as_items J st l l' r
       expr-passed k p = then-passed into-expr k (λ τ q h. h) p
 
-      module _ {l₂ : List ℕ} {r : Step} {st₂ : State} {a b : ℕ} (p : Parsed x (nt n-expression ∷ []) asItems (Node ExprKind) here l₁ l₂ r) (e : r ≡ Next st₂ a b) where
+      module _ {l₂ : List ℕ} {r : Step} {st₂ : State} {a b : ℕ} (p : Parsed x (nt n-expression ∷ []) as_items (Node ExprKind) here l₁ l₂ r) (e : r ≡ Next st₂ a b) where
         the-expr : Noded x 0 AnyN (nt n-elements ∷ []) (nt n-elements-optional-Semi ∷ []) st l v.w v.ms v.m ExprKind st₂ l₂
         the-expr = then-node into-expr p e
 
-        pub expr-last : (st₂.class ≡ t.Semi → ⊥) → Went x (nt n-elements ∷ []) asItems Elements st l st₂ l₂ 1 0
+        pub expr-last : (st₂.class ≡ t.Semi → ⊥) → Went x (nt n-elements ∷ []) as_items Elements st l st₂ l₂ 1 0
         expr-last h =
-            let d = then_turns [] the-expr.amid flat-semi (the_last (λ g. h (the-expr.amid.lays.stands.class-is ∙ g))) in
+            let d = then_turns [] the-expr.amid flat-semi (the_last (λ g. h (the-expr.amid.lays.stands.class_is ∙ g))) in
             let i = the-expr in
             finish d (record {
               same = sym (d.roles 0 tt) ∙ arranged-zero 0 (raw x st.at d.pre);
               semis = subst (Only t.Semi) (sym d.sorted) (only-append t.Semi v.w (child i.kind i.low i.high i.first ∷ []) v.semis tt);
-              last-is = ap (λ (b : Bool). cond b 1 0) (sym (ap (unended false) d.sorted ∙ ends-part false v.w i.kind i.low i.high i.first));
+              last_is = ap (λ (b : Bool). cond b 1 0) (sym (ap (unended false) d.sorted ∙ ends-part false v.w i.kind i.low i.high i.first));
             })
 
         module _ {next : State} (h : st₂.class ≡ t.Semi) (mv : Moved x st₂ next) where
-          with-semi : Amid x 0 AnyN (nt n-elements ∷ []) (nt n-elements ∷ []) st l ((v.w ++ (child the-expr.kind the-expr.low the-expr.high the-expr.first ∷ [])) ++ (word t.Semi ∷ [])) (v.ms ++ (tokAt x st₂.at ∷ [])) (v.m + 1) next l₂
-          with-semi = advances (then_turns (tok t.Semi ∷ nt n-elements ∷ []) the-expr.amid flat-semi (one_more (sym the-expr.amid.lays.stands.class-is ∙ h))) h (omega arith) mv (sign-mark 0 t.Semi tt)
+          with-semi : Amid x 0 AnyN (nt n-elements ∷ []) (nt n-elements ∷ []) st l ((v.w ++ (child the-expr.kind the-expr.low the-expr.high the-expr.first ∷ [])) ++ (word t.Semi ∷ [])) (v.ms ++ (tok_at x st₂.at ∷ [])) (v.m + 1) next l₂
+          with-semi = advances (then_turns (tok t.Semi ∷ nt n-elements ∷ []) the-expr.amid flat-semi (one_more (sym the-expr.amid.lays.stands.class_is ∙ h))) h (omega arith) mv (sign-mark 0 t.Semi tt)
 
           pub expr-again : Elemed x st l next l₂
           expr-again = closed the-expr.kind the-expr.low the-expr.high the-expr.first (v.m + 1) with-semi
 
           pub expr-less : here.at < next.at
-          expr-less = omega (arith, went-ahead p e, mv.ahead (inside x st₂.at (omega arith) (sym the-expr.amid.lays.stands.class-is ∙ h)))
+          expr-less = omega (arith, went-ahead p e, mv.ahead (inside x st₂.at (omega arith) (sym the-expr.amid.lays.stands.class_is ∙ h)))
 
 -- A list of expressions: nothing, or some and a comma.
 pub data Counted : ℕ → List Sort → Type 0 where
   nothing : Counted 0 []
-  some-comma : {w : List Sort} → sees t.Comma w ≡ true → Counted 2 w
+  some_comma : {w : List Sort} → sees t.Comma w ≡ true → Counted 2 w
 
 not-lone : (w : List Sort) → sees t.Comma w ≡ true → lone w ≡ false
 unfolding lone
@@ -192,16 +192,16 @@ not-lone w e = ap (λ (b : Bool). eqb (part_count w) 1 && not b) e ∙ and-false
 pub counted-lone : {n : ℕ} {w : List Sort} → Counted n w → lone w ≡ eqb n 1
 unfolding lone part_count
 counted-lone nothing = refl
-counted-lone {w = w} (some-comma e) = not-lone w e
+counted-lone {w = w} (some_comma e) = not-lone w e
 
 pub counted-last : {n : ℕ} {w : List Sort} (k l h c f : ℕ) → Counted n w → f ≡ cond (eqb n 0) 1 2 → lone (w ++ (child k l h c ∷ [])) ≡ eqb f 1
 unfolding lone part_count sees
 counted-last k l h c f nothing e = ap (λ (i : ℕ). eqb i 1) (sym e)
-counted-last {w = w} k l h c f (some-comma e) g = not-lone (w ++ (child k l h c ∷ [])) (seen_first t.Comma w (child k l h c ∷ []) e) ∙ ap (λ (i : ℕ). eqb i 1) (sym g)
+counted-last {w = w} k l h c f (some_comma e) g = not-lone (w ++ (child k l h c ∷ [])) (seen_first t.Comma w (child k l h c ∷ []) e) ∙ ap (λ (i : ℕ). eqb i 1) (sym g)
 
 pub counted-again : (w : List Sort) → Counted 2 (w ++ (word t.Comma ∷ []))
 unfolding sees
-counted-again w = some-comma (seen-second t.Comma w (word t.Comma ∷ []) refl)
+counted-again w = some_comma (seen-second t.Comma w (word t.Comma ∷ []) refl)
 
 -- Lists that a function read: their pieces, and what is known of them.
 pub record Told (x : Text) (K : ℕ) (N : ℕ → Type 0) (full left : List Sym) (st : State) (l : List ℕ) (w : List Sort) (ms : List Tok) (m : ℕ) (Q : List Sort → Type 0) (st₂ : State) (l₂ : List ℕ) : Type 0 where
@@ -213,7 +213,7 @@ pub record Told (x : Text) (K : ℕ) (N : ℕ → Type 0) (full left : List Sym)
 
 module _ {x : Text} {K : ℕ} {N : ℕ → Type 0} {full left : List Sym} {st : State} {l : List ℕ} {w : List Sort} {ms : List Tok} {m : ℕ} {st₁ : State} {l₁ : List ℕ} {s : Sym} {st₂ : State} {l₂ : List ℕ} {a b : ℕ} {r : Step}
     (d : Amid x K N full (s ∷ left) st l w ms m st₁ l₁) where
-  pub then-lone : Parsed x (s ∷ []) asItems Lone st₁ l₁ l₂ r → r ≡ Next st₂ a b → Told x K N full left st l w ms m (λ W. Only t.Comma W × (lone W ≡ eqb a 1)) st₂ l₂
+  pub then-lone : Parsed x (s ∷ []) as_items Lone st₁ l₁ l₂ r → r ≡ Next st₂ a b → Told x K N full left st l w ms m (λ W. Only t.Comma W × (lone W ≡ eqb a 1)) st₂ l₂
   then-lone p e =
       let q = went e p in
       record {
@@ -224,13 +224,13 @@ module _ {x : Text} {K : ℕ} {N : ℕ → Type 0} {full left : List Sym} {st : 
         amid = then-went d q (λ n g. arranged-only K n t.Comma (comma-mark K) (raw x st₁.at q.items) q.info.commas ∙ sym q.info.same);
       }
 
-  pub then-elements : Parsed x (s ∷ []) asItems Elements st₁ l₁ l₂ r → r ≡ Next st₂ a b → Told x K N full left st l w ms m (λ W. a ≡ cond (unended false W) 1 0) st₂ l₂
+  pub then-elements : Parsed x (s ∷ []) as_items Elements st₁ l₁ l₂ r → r ≡ Next st₂ a b → Told x K N full left st l w ms m (λ W. a ≡ cond (unended false W) 1 0) st₂ l₂
   then-elements p e =
       let q = went e p in
       record {
         W = sorts (raw x st₁.at q.items);
         more = marks (raw x st₁.at q.items);
         k = q.m;
-        so = q.info.last-is;
+        so = q.info.last_is;
         amid = then-went d q (λ n g. arranged-only K n t.Semi (semi-mark K) (raw x st₁.at q.items) q.info.semis ∙ sym q.info.same);
       }

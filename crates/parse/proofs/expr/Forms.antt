@@ -6,70 +6,70 @@ use Rattle.lexer.specs.Classes as t
 use Rattle.theory.specs.Grammar.{Sym, tok, nt, look, row, alt, pick}
 use Rattle.theory.specs.Machine.{choose, expand}
 use Rattle.theory.specs.Ebnf as shape
-use Rattle.theory.specs.Ebnf.{sortOf, kindsOf}
+use Rattle.theory.specs.Ebnf.{sort_of, kinds_of}
 use Rattle.theory.specs.Same.{ex}
-use Rattle.theory.specs.Walk.{n-flat, k-in}
+use Rattle.theory.specs.Walk.{n-flat, k_in}
 use Rattle.own.specs.Tree.{Tok}
 use Rattle.own.specs.Law.{Sort, word, child}
 use Rattle.own.specs.Kinds as kind
-use Rattle.grammar.specs.shapes.Shapes.{shapes}
-use Rattle.grammar.specs.shapes.Tables.{means, table}
-use Rattle.grammar.specs.records.Records.{Head, head, plain, sees, head_of, form_of, opening, literalHead, lone, part_count, unended}
-use Rattle.grammar.specs.shapes.ShapeKind.{ArrayShape, AssignmentShape, BlockShape, ListShape, LiteralShape, ParensShape}
-use Rattle.grammar.specs.shapes.TablesIndex.{n-assignment, n-block, n-elements, n-expression, n-list-expression, n-literal, n-pattern, n-single, n-tail-expression, n-type}
-use Rattle.parse.specs.Contract.{Text, classes, Ready, Info, asItems, Parsed, read, stuck, ExprKind}
+use Rattle.grammar.specs.Shapes.Shapes.{shapes}
+use Rattle.grammar.specs.Shapes.Tables.{means, table}
+use Rattle.grammar.specs.Records.Records.{Head, head, plain, sees, head_of, form_of, opening, literal_head, lone, part_count, unended}
+use Rattle.grammar.specs.Shapes.ShapeKind.{ArrayShape, AssignmentShape, BlockShape, ListShape, LiteralShape, ParensShape}
+use Rattle.grammar.specs.Shapes.TablesIndex.{n-assignment, n-block, n-elements, n-expression, n-list-expression, n-literal, n-pattern, n-single, n-tail-expression, n-type}
+use Rattle.parse.specs.Contract.{Text, classes, Ready, Info, as_items, Parsed, read, stuck, ExprKind}
 use Rattle.parse.specs.declared.Step.{Step}
 use Rattle.parse.specs.declared.State.{State}
 use Rattle.parse.specs.Choice as choice
 use Rattle.parse.proofs.choice.Chosen.{where-chosen, alone, is-alone, hit, miss, goes}
-use Rattle.parse.proofs.rule.Marks.{keeping, keeps-between}
-use Rattle.parse.proofs.rule.Amid.{Amid}
-use Rattle.parse.proofs.rule.Steps.{decided}
-use Rattle.parse.proofs.rule.Closing.{Rule}
-use Rattle.parse.proofs.rule.Commas.{Rows}
+use Rattle.parse.proofs.Rule.Marks.{keeping, keeps-between}
+use Rattle.parse.proofs.Rule.Amid.{Amid}
+use Rattle.parse.proofs.Rule.Steps.{decided}
+use Rattle.parse.proofs.Rule.Closing.{Rule}
+use Rattle.parse.proofs.Rule.Commas.{Rows}
 use Rattle.parse.proofs.pattern.Forms.{Closes, both_ends, both-more}
 
 -- The rules.
-abbrev pub literalRhs : List Sym
-literalRhs = nt n-literal ∷ []
+abbrev pub literal_rhs : List Sym
+literal_rhs = nt n-literal ∷ []
 
-pub literal-rule : Rule n-single choice.Literal LiteralShape literalRhs
-unfolding ex means kindsOf shapes row table alt pick
+pub literal-rule : Rule n-single choice.Literal LiteralShape literal_rhs
+unfolding ex means kinds_of shapes row table alt pick
 literal-rule = record { category = refl; from_one = refl; kind = refl; rule = refl }
 
-abbrev pub parensRhs : List Sym
-parensRhs = tok t.LParen ∷ nt n-list-expression ∷ tok t.RParen ∷ []
+abbrev pub parens_rhs : List Sym
+parens_rhs = tok t.LParen ∷ nt n-list-expression ∷ tok t.RParen ∷ []
 
-pub parens-rule : Rule n-single choice.Parens ParensShape parensRhs
-unfolding ex means kindsOf shapes row table alt pick
+pub parens-rule : Rule n-single choice.Parens ParensShape parens_rhs
+unfolding ex means kinds_of shapes row table alt pick
 parens-rule = record { category = refl; from_one = refl; kind = refl; rule = refl }
 
-abbrev pub arrayRhs : List Sym
-arrayRhs = tok t.LBracket ∷ nt n-list-expression ∷ tok t.RBracket ∷ []
+abbrev pub array_rhs : List Sym
+array_rhs = tok t.LBracket ∷ nt n-list-expression ∷ tok t.RBracket ∷ []
 
-pub array-rule : Rule n-single choice.Array ArrayShape arrayRhs
-unfolding ex means kindsOf shapes row table alt pick
+pub array-rule : Rule n-single choice.Array ArrayShape array_rhs
+unfolding ex means kinds_of shapes row table alt pick
 array-rule = record { category = refl; from_one = refl; kind = refl; rule = refl }
 
-abbrev pub listedRhs : List Sym
-listedRhs = tok t.list! ∷ tok t.LBracket ∷ nt n-list-expression ∷ tok t.RBracket ∷ []
+abbrev pub listed_rhs : List Sym
+listed_rhs = tok t.list! ∷ tok t.LBracket ∷ nt n-list-expression ∷ tok t.RBracket ∷ []
 
-pub listed-rule : Rule n-single choice.List ListShape listedRhs
-unfolding ex means kindsOf shapes row table alt pick
+pub listed-rule : Rule n-single choice.List ListShape listed_rhs
+unfolding ex means kinds_of shapes row table alt pick
 listed-rule = record { category = refl; from_one = refl; kind = refl; rule = refl }
 
-abbrev pub blockRhs : List Sym
-blockRhs = tok t.LBrace ∷ nt n-elements ∷ tok t.RBrace ∷ []
+abbrev pub block_rhs : List Sym
+block_rhs = tok t.LBrace ∷ nt n-elements ∷ tok t.RBrace ∷ []
 
-pub block-rule : Rule n-block 1 BlockShape blockRhs
-unfolding ex means kindsOf shapes row table alt pick
+pub block-rule : Rule n-block 1 BlockShape block_rhs
+unfolding ex means kinds_of shapes row table alt pick
 block-rule = record { category = refl; from_one = refl; kind = refl; rule = refl }
 
-abbrev pub assignRhs : List Sym
-assignRhs = tok t.Let ∷ nt n-pattern ∷ tok t.Colon ∷ nt n-type ∷ tok t.Eq ∷ nt n-expression ∷ []
+abbrev pub assign_rhs : List Sym
+assign_rhs = tok t.Let ∷ nt n-pattern ∷ tok t.Colon ∷ nt n-type ∷ tok t.Eq ∷ nt n-expression ∷ []
 
-pub assign-rule : Rule n-assignment 1 AssignmentShape assignRhs
-unfolding ex means kindsOf shapes row table alt pick
+pub assign-rule : Rule n-assignment 1 AssignmentShape assign_rhs
+unfolding ex means kinds_of shapes row table alt pick
 assign-rule = record { category = refl; from_one = refl; kind = refl; rule = refl }
 
 -- The tokens that they begin with.
@@ -102,12 +102,12 @@ module _ (c : ℕ) where
   unfolding choose row table look
   at-assign e = hit t.Let 1 [] 0 e
 
-pub flat-literal : sortOf (ex means (nt n-literal)) ≡ shape.flat
-unfolding sortOf ex means
+pub flat-literal : sort_of (ex means (nt n-literal)) ≡ shape.flat
+unfolding sort_of ex means
 flat-literal = refl
 
-pub flat-expression : sortOf (ex means (nt n-expression)) ≡ shape.flat
-unfolding sortOf ex means
+pub flat-expression : sort_of (ex means (nt n-expression)) ≡ shape.flat
+unfolding sort_of ex means
 flat-expression = refl
 
 -- An expression is a block at a brace, otherwise any other.
@@ -143,9 +143,9 @@ no-single c i e h = ap (alt table n-single) (sym e) ∙ go i h
     go (suc (suc (suc (suc (suc (suc (suc (suc (suc (suc (suc (suc (suc i))))))))))))) h = refl
 
 pub expression-rows : Rows n-list-expression n-tail-expression n-expression Closes
-unfolding sortOf ex means choose row table look alt pick
+unfolding sort_of ex means choose row table look alt pick
 expression-rows = record {
-  flat-list = refl;
+  flat_list = refl;
   flat_tail = refl;
   ends = λ c h. goes n-list-expression 1 c (both_ends c h) refl;
   more = λ c h. goes n-list-expression 2 c (both-more c h) refl;
@@ -154,14 +154,14 @@ expression-rows = record {
 }
 
 -- A part that is another: read as the one it is read as the other.
-pub as-part : {A B : ℕ} {x : Text} {st : State} {I : Info} {l l' : List ℕ} {s : Step} → sortOf (ex means (nt A)) ≡ shape.flat → Ready x st → expand table A st.class ≡ some (nt B ∷ [])
-    → Parsed x (nt B ∷ []) asItems I st l l' s → Parsed x (nt A ∷ []) asItems I st l l' s
+pub as-part : {A B : ℕ} {x : Text} {st : State} {I : Info} {l l' : List ℕ} {s : Step} → sort_of (ex means (nt A)) ≡ shape.flat → Ready x st → expand table A st.class ≡ some (nt B ∷ [])
+    → Parsed x (nt B ∷ []) as_items I st l l' s → Parsed x (nt A ∷ []) as_items I st l l' s
 as-part {A} {B} {x} {st} f y e (read q) =
-    let g : expand table A (get_or (classes x) st.at 0) ≡ some (nt B ∷ []) = ap (expand table A) (sym y.stands.class-is) ∙ e in
+    let g : expand table A (get_or (classes x) st.at 0) ≡ some (nt B ∷ []) = ap (expand table A) (sym y.stands.class_is) ∙ e in
     read (record { items = q.items; L = q.L; m = q.m; reads = n-flat f g q.reads; lays = q.lays; info = q.info })
 as-part {A} {B} {x} {st} f y e (stuck h g) =
-    let k : expand table A (get_or (classes x) st.at 0) ≡ some (nt B ∷ []) = ap (expand table A) (sym y.stands.class-is) ∙ e in
-    stuck h (λ τ. k-in k (g τ))
+    let k : expand table A (get_or (classes x) st.at 0) ≡ some (nt B ∷ []) = ap (expand table A) (sym y.stands.class_is) ∙ e in
+    stuck h (λ τ. k_in k (g τ))
 
 -- What brackets enclose.
 lone-in : (a b : ℕ) (W : List Sort) → eqb a t.Comma ≡ false → eqb b t.Comma ≡ false → lone (word a ∷ (W ++ (word b ∷ []))) ≡ lone W
@@ -236,8 +236,8 @@ keeping-low k h = keeps-between kind.Alias kind.List k tt h.0 h.1
 abbrev by : Bool → Bool → Bool → Bool → Bool → Bool → Head
 by a b d e f g = cond a (head kind.Boolean 0 0) (cond b (head kind.Boolean 1 0) (cond d (plain kind.Decimal) (cond e (plain kind.Hexadecimal) (cond f (plain kind.Binary) (cond g (plain kind.Witness) (plain kind.ParameterValue))))))
 
-literal-heads : (c : ℕ) → (kind.Boolean ≤ (literalHead c).kind) × ((literalHead c).kind ≤ kind.ParameterValue) × ((literalHead c).high ≡ 0)
-unfolding literalHead
+literal-heads : (c : ℕ) → (kind.Boolean ≤ (literal_head c).kind) × ((literal_head c).kind ≤ kind.ParameterValue) × ((literal_head c).high ≡ 0)
+unfolding literal_head
 literal-heads c = go (eqb c t.false) (eqb c t.true) (eqb c t.DecLiteral) (eqb c t.HexLiteral) (eqb c t.BinLiteral) (eqb c t.Witness)
   where
     go : (a b d e f g : Bool) → (kind.Boolean ≤ (by a b d e f g).kind) × ((by a b d e f g).kind ≤ kind.ParameterValue) × ((by a b d e f g).high ≡ 0)
@@ -249,7 +249,7 @@ literal-heads c = go (eqb c t.false) (eqb c t.true) (eqb c t.DecLiteral) (eqb c 
     go false false false false false true = (omega arith, omega arith, refl)
     go false false false false false false = (omega arith, omega arith, refl)
 
-module _ {k low : ℕ} (c : ℕ) (e : k ≡ (literalHead c).kind) (f : low ≡ (literalHead c).low) where
+module _ {k low : ℕ} (c : ℕ) (e : k ≡ (literal_head c).kind) (f : low ≡ (literal_head c).low) where
   pub literal-kind : (kind.Boolean ≤ k) × (k ≤ kind.ParameterValue)
   literal-kind = let h = literal-heads c in (omega (arith, h.0), omega (arith, h.1))
 

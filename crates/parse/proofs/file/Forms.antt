@@ -4,43 +4,43 @@ use Rattle.std.proofs.Common.{◌≡◌, ℕ, ◌-◌, ◌<◌, ◌≤◌, Bool,
 use types.Run.{OneOf}
 use denote.Enum.Declared.{tag_of}
 use Rattle.text.specs.Lists.{has}
-use Rattle.text.specs.Widths.{recWide}
+use Rattle.text.specs.Widths.{rec_wide}
 use Rattle.theory.specs.Grammar.{Sym, tok, nt, look, row, alt, pick}
 use Rattle.theory.specs.Machine.{choose}
-use Rattle.theory.specs.Ebnf.{kindsOf}
+use Rattle.theory.specs.Ebnf.{kinds_of}
 use Rattle.theory.specs.Same.{ex}
 use Rattle.own.specs.Tree.{Tok}
 use Rattle.own.specs.Law.{Sort}
 use Rattle.own.specs.Kinds as kind
 use Rattle.kinds.specs.Families as family
 use Rattle.lexer.specs.Classes as t
-use Rattle.grammar.specs.shapes.Shapes.{shapes}
-use Rattle.grammar.specs.shapes.Tables.{means, table}
-use Rattle.grammar.specs.records.Records.{head, head_of, form_of}
-use Rattle.grammar.specs.shapes.ShapeKind.{TypeItemShape}
-use Rattle.grammar.specs.shapes.TablesIndex.{n-function, n-typeItem, n-aliasName, n-type, n-file}
-use Rattle.parse.specs.Contract.{Text, asItems, Parsed, read, stuck, Node, Put, reserved}
-use Rattle.parse.specs.Infos.{FunctionKind, TypeItemKind, ItemKind, item_at, FileItems, behind, FileRead, file-read, file-stuck}
+use Rattle.grammar.specs.Shapes.Shapes.{shapes}
+use Rattle.grammar.specs.Shapes.Tables.{means, table}
+use Rattle.grammar.specs.Records.Records.{head, head_of, form_of}
+use Rattle.grammar.specs.Shapes.ShapeKind.{TypeItemShape}
+use Rattle.grammar.specs.Shapes.TablesIndex.{n-function, n-type_item, n-alias_name, n-type, n-file}
+use Rattle.parse.specs.Contract.{Text, as_items, Parsed, read, stuck, Node, Put, reserved}
+use Rattle.parse.specs.Infos.{FunctionKind, TypeItemKind, ItemKind, item_at, FileItems, behind, FileRead, file_read, file_stuck}
 use Rattle.parse.specs.declared.State.{State}
 use Rattle.parse.specs.declared.Step.{Step}
 use Rattle.parse.specs.declared.Step.TheVariants.{Next}
 use Rattle.parse.specs.contracts.Step.{the_type}
-use Rattle.parse.proofs.rule.Amid.{Amid}
-use Rattle.parse.proofs.rule.Steps.{decided}
-use Rattle.parse.proofs.rule.Closing.{Rule}
+use Rattle.parse.proofs.Rule.Amid.{Amid}
+use Rattle.parse.proofs.Rule.Steps.{decided}
+use Rattle.parse.proofs.Rule.Closing.{Rule}
 
-abbrev pub typeItemRhs : List Sym
-typeItemRhs = tok t.«Type» ∷ nt n-aliasName ∷ tok t.Eq ∷ nt n-type ∷ tok t.Semi ∷ []
+abbrev pub type_item_rhs : List Sym
+type_item_rhs = tok t.«Type» ∷ nt n-alias_name ∷ tok t.Eq ∷ nt n-type ∷ tok t.Semi ∷ []
 
-pub type-item-rule : Rule n-typeItem 1 TypeItemShape typeItemRhs
-unfolding ex means kindsOf shapes row table alt pick
+pub type-item-rule : Rule n-type_item 1 TypeItemShape type_item_rhs
+unfolding ex means kinds_of shapes row table alt pick
 type-item-rule = record { category = refl; from_one = refl; kind = refl; rule = refl }
 
-pub at-type-item : (c : ℕ) → c ≡ t.«Type» → choose table n-typeItem c ≡ 1
+pub at-type-item : (c : ℕ) → c ≡ t.«Type» → choose table n-type_item c ≡ 1
 unfolding choose row look table
-at-type-item c e = ap (choose table n-typeItem) e
+at-type-item c e = ap (choose table n-type_item) e
 
-pub named-type-item : has family.namesKept kind.TypeItem ≡ true
+pub named-type-item : has family.names_kept kind.TypeItem ≡ true
 unfolding has
 named-type-item = refl
 
@@ -51,7 +51,7 @@ unfolding head_of form_of
 type-item-head d = refl
 
 -- A node of a kind is a node of a wider sort of kinds.
-as-node : {x : Text} {st : State} {l l' : List ℕ} {r : Step} {A : ℕ} {P Q : ℕ → Type 0} → ((k : ℕ) → P k → Q k) → Parsed x (nt A ∷ []) asItems (Node P) st l l' r → Parsed x (nt A ∷ []) asItems (Node Q) st l l' r
+as-node : {x : Text} {st : State} {l l' : List ℕ} {r : Step} {A : ℕ} {P Q : ℕ → Type 0} → ((k : ℕ) → P k → Q k) → Parsed x (nt A ∷ []) as_items (Node P) st l l' r → Parsed x (nt A ∷ []) as_items (Node Q) st l l' r
 as-node f (read w) =
     let i = w.info in
     read (record {
@@ -60,45 +60,45 @@ as-node f (read w) =
       m = w.m;
       reads = w.reads;
       lays = w.lays;
-      info = record { kind = i.kind; low = i.low; high = i.high; js = i.js; raw-is = i.raw-is; laid-is = i.laid-is; none_left = i.none_left; its-kind = f i.kind i.its-kind };
+      info = record { kind = i.kind; low = i.low; high = i.high; js = i.js; raw_is = i.raw_is; laid_is = i.laid_is; none_left = i.none_left; its_kind = f i.kind i.its_kind };
     })
 as-node f (stuck h g) = stuck h g
 
 -- An item begins as its first token says.
 module _ {x : Text} {st : State} {l l' : List ℕ} {r : Step} where
-  at_item : {A : ℕ} → A ≡ item_at st.class → Parsed x (nt A ∷ []) asItems (Node ItemKind) st l l' r → Parsed x (nt (item_at st.class) ∷ []) asItems (Node ItemKind) st l l' r
-  at_item e p = subst (λ (A : ℕ). Parsed x (nt A ∷ []) asItems (Node ItemKind) st l l' r) e p
+  at_item : {A : ℕ} → A ≡ item_at st.class → Parsed x (nt A ∷ []) as_items (Node ItemKind) st l l' r → Parsed x (nt (item_at st.class) ∷ []) as_items (Node ItemKind) st l l' r
+  at_item e p = subst (λ (A : ℕ). Parsed x (nt A ∷ []) as_items (Node ItemKind) st l l' r) e p
 
-  pub as-type-item : st.class ≡ t.«Type» → Parsed x (nt n-typeItem ∷ []) asItems (Node TypeItemKind) st l l' r → Parsed x (nt (item_at st.class) ∷ []) asItems (Node ItemKind) st l l' r
+  pub as-type-item : st.class ≡ t.«Type» → Parsed x (nt n-type_item ∷ []) as_items (Node TypeItemKind) st l l' r → Parsed x (nt (item_at st.class) ∷ []) as_items (Node ItemKind) st l l' r
   unfolding item_at
-  as-type-item e p = at_item (sym (ap (λ (b : Bool). cond b n-typeItem n-function) (eq-eqb st.class t.«Type» e))) (as-node (λ k h. inr h) p)
+  as-type-item e p = at_item (sym (ap (λ (b : Bool). cond b n-type_item n-function) (eq-eqb st.class t.«Type» e))) (as-node (λ k h. inr h) p)
 
-  pub as_function : (st.class ≡ t.«Type» → ⊥) → Parsed x (nt n-function ∷ []) asItems (Node FunctionKind) st l l' r → Parsed x (nt (item_at st.class) ∷ []) asItems (Node ItemKind) st l l' r
+  pub as_function : (st.class ≡ t.«Type» → ⊥) → Parsed x (nt n-function ∷ []) as_items (Node FunctionKind) st l l' r → Parsed x (nt (item_at st.class) ∷ []) as_items (Node ItemKind) st l l' r
   unfolding item_at
-  as_function n p = at_item (sym (ap (λ (b : Bool). cond b n-typeItem n-function) (ne_eqb st.class t.«Type» n))) (as-node (λ k h. inl h) p)
+  as_function n p = at_item (sym (ap (λ (b : Bool). cond b n-type_item n-function) (ne_eqb st.class t.«Type» n))) (as-node (λ k h. inl h) p)
 
 -- Where the words behind the first record begin.
-pub behind-short : (n : ℕ) → n < recWide → n ≡ behind n
+pub behind-short : (n : ℕ) → n < rec_wide → n ≡ behind n
 unfolding behind
-behind-short n h = sym (ap (λ (b : Bool). cond b n recWide) (lt-ltb n recWide h))
+behind-short n h = sym (ap (λ (b : Bool). cond b n rec_wide) (lt-ltb n rec_wide h))
 
-pub behind-long : (n : ℕ) → recWide ≤ n → recWide ≡ behind n
+pub behind-long : (n : ℕ) → rec_wide ≤ n → rec_wide ≡ behind n
 unfolding behind
-behind-long n h = sym (ap (λ (b : Bool). cond b n recWide) (le-ltb n recWide h))
+behind-long n h = sym (ap (λ (b : Bool). cond b n rec_wide) (le-ltb n rec_wide h))
 
 pub behind-within : (n : ℕ) → behind n ≤ n
-behind-within n = go (ltb n recWide) refl
+behind-within n = go (ltb n rec_wide) refl
   where
-    go : (b : Bool) → ltb n recWide ≡ b → behind n ≤ n
-    go true e = omega (arith, behind-short n (ltb-true n recWide e))
-    go false e = omega (arith, behind-long n (ltb-false n recWide e), ltb-false n recWide e)
+    go : (b : Bool) → ltb n rec_wide ≡ b → behind n ≤ n
+    go true e = omega (arith, behind-short n (ltb-true n rec_wide e))
+    go false e = omega (arith, behind-long n (ltb-false n rec_wide e), ltb-false n rec_wide e)
 
-pub behind-few : (n : ℕ) → behind n ≤ recWide
-behind-few n = go (ltb n recWide) refl
+pub behind-few : (n : ℕ) → behind n ≤ rec_wide
+behind-few n = go (ltb n rec_wide) refl
   where
-    go : (b : Bool) → ltb n recWide ≡ b → behind n ≤ recWide
-    go true e = omega (arith, behind-short n (ltb-true n recWide e), ltb-true n recWide e)
-    go false e = omega (arith, behind-long n (ltb-false n recWide e))
+    go : (b : Bool) → ltb n rec_wide ≡ b → behind n ≤ rec_wide
+    go true e = omega (arith, behind-short n (ltb-true n rec_wide e), ltb-true n rec_wide e)
+    go false e = omega (arith, behind-long n (ltb-false n rec_wide e))
 
 -- The words that are lent from there on, and all words when they have been written.
 module _ (l : List ℕ) {k : ℕ} (e : k ≡ behind (length l)) where
@@ -114,13 +114,13 @@ module _ (l : List ℕ) {k : ℕ} (e : k ≡ behind (length l)) where
 
 -- The items of a whole file are refused, or read and closed by the first record.
 file-passed : {x : Text} (len : ℕ) {st : State} (l l₁ l' : List ℕ) {r : Step} → OneOf (1 ∷ []) (tag_of the_type r)
-    → Parsed x (nt n-file ∷ []) asItems FileItems st (drop (behind (length l)) l) l₁ r → FileRead x len st l l' r
+    → Parsed x (nt n-file ∷ []) as_items FileItems st (drop (behind (length l)) l) l₁ r → FileRead x len st l l' r
 file-passed len l l₁ l' k (read w) = absurd (omega arith)
-file-passed len l l₁ l' k (stuck h g) = file-stuck {l₁ = l₁} (stuck h g)
+file-passed len l l₁ l' k (stuck h g) = file_stuck {l₁ = l₁} (stuck h g)
 
-module _ {x : Text} (len : ℕ) {st : State} (l : List ℕ) {s l₁ : List ℕ} (l' : List ℕ) {r : Step} (e : s ≡ drop (behind (length l)) l) (p : Parsed x (nt n-file ∷ []) asItems FileItems st s l₁ r) where
-  its-items : Parsed x (nt n-file ∷ []) asItems FileItems st (drop (behind (length l)) l) l₁ r
-  its-items = subst (λ u. Parsed x (nt n-file ∷ []) asItems FileItems st u l₁ r) e p
+module _ {x : Text} (len : ℕ) {st : State} (l : List ℕ) {s l₁ : List ℕ} (l' : List ℕ) {r : Step} (e : s ≡ drop (behind (length l)) l) (p : Parsed x (nt n-file ∷ []) as_items FileItems st s l₁ r) where
+  its-items : Parsed x (nt n-file ∷ []) as_items FileItems st (drop (behind (length l)) l) l₁ r
+  its-items = subst (λ u. Parsed x (nt n-file ∷ []) as_items FileItems st u l₁ r) e p
 
   pub file-refused : OneOf (1 ∷ []) (tag_of the_type r) → FileRead x len st l l' r
   file-refused k = file-passed len l l₁ l' k its-items
@@ -129,5 +129,5 @@ module _ {x : Text} (len : ℕ) {st : State} (l : List ℕ) {s l₁ : List ℕ} 
       → Put u 0 kind.Program 0 len 0 0 all.out l' → FileRead x len st l l' (Next all 0 0)
   file-closed {z} {a} {b} {u} f g {all} q t =
       subst (λ y. FileRead x len st l l' (Next y 0 0)) (sym q)
-      (file-read (subst (Parsed x (nt n-file ∷ []) asItems FileItems st (drop (behind (length l)) l) l₁) f its-items)
+      (file_read (subst (Parsed x (nt n-file ∷ []) as_items FileItems st (drop (behind (length l)) l) l₁) f its-items)
       (subst (λ v. Put v 0 kind.Program 0 len 0 0 (reserved z).out l') g (subst (λ y. Put u 0 kind.Program 0 len 0 0 y.out l') q t)))

@@ -8,27 +8,27 @@ use Rattle.text.specs.Same.{differ}
 use Rattle.theory.specs.Grammar.{Sym, nt, on, look, row, alt, pick}
 use Rattle.theory.specs.Machine.{choose, expand}
 use Rattle.theory.specs.Ebnf as shape
-use Rattle.theory.specs.Ebnf.{sortOf}
+use Rattle.theory.specs.Ebnf.{sort_of}
 use Rattle.theory.specs.Same.{ex}
 use Rattle.own.specs.Law.{Sort}
 use Rattle.own.specs.Words.{sizes}
-use Rattle.grammar.specs.shapes.Tables.{means, table}
-use Rattle.grammar.specs.shapes.TablesIndex.{n-file, n-function, n-typeItem}
+use Rattle.grammar.specs.Shapes.Tables.{means, table}
+use Rattle.grammar.specs.Shapes.TablesIndex.{n-file, n-function, n-type_item}
 use Rattle.lexer.specs.Classes as t
 use Rattle.parse.specs.contracts.Step.{the_type}
-use Rattle.parse.specs.Contract.{Text, raw, Ready, Info, asItems, Went, Parsed, Node}
+use Rattle.parse.specs.Contract.{Text, raw, Ready, Info, as_items, Went, Parsed, Node}
 use Rattle.parse.specs.Infos.{ItemKind, item_at, FileItems}
 use Rattle.parse.specs.declared.State.{State}
 use Rattle.parse.specs.declared.Step.{Step}
 use Rattle.parse.specs.declared.Step.TheVariants.{Next}
-use Rattle.parse.proofs.rule.Amid.{Amid, starts, then_turns, then-passed, went}
-use Rattle.parse.proofs.rule.Chain.{onward, then-node}
-use Rattle.parse.proofs.rule.Commas.{AnyN, arranged-zero, finish}
+use Rattle.parse.proofs.Rule.Amid.{Amid, starts, then_turns, then-passed, went}
+use Rattle.parse.proofs.Rule.Chain.{onward, then-node}
+use Rattle.parse.proofs.Rule.Commas.{AnyN, arranged-zero, finish}
 use Rattle.parse.proofs.choice.Chosen.{hit, miss, goes}
 
 -- The row of a file: nothing at the end; a type item where `type` stands, otherwise a function; and further items.
-flat-file : sortOf (ex means (nt n-file)) ≡ shape.flat
-unfolding sortOf ex means
+flat-file : sort_of (ex means (nt n-file)) ≡ shape.flat
+unfolding sort_of ex means
 flat-file = refl
 
 no_more : (c : ℕ) → c ≡ 0 → expand table n-file c ≡ some []
@@ -39,7 +39,7 @@ one_more : (c : ℕ) → (c ≡ 0 → ⊥) → expand table n-file c ≡ some (n
 unfolding choose row table look alt pick item_at
 one_more c n = go (eqb c t.«Type») refl
   where
-    go : (b : Bool) → eqb c t.«Type» ≡ b → expand table n-file c ≡ some (nt (cond b n-typeItem n-function) ∷ nt n-file ∷ [])
+    go : (b : Bool) → eqb c t.«Type» ≡ b → expand table n-file c ≡ some (nt (cond b n-type_item n-function) ∷ nt n-file ∷ [])
     go true e = goes n-file 2 c (miss 0 1 (on t.«Type» 2 ∷ []) 3 n (hit t.«Type» 2 [] 3 (eqb-true c t.«Type» e))) refl
     go false e = goes n-file 3 c (miss 0 1 (on t.«Type» 2 ∷ []) 3 n (miss t.«Type» 2 [] 3 (λ h. differ (sym e ∙ eq-eqb c t.«Type» h)) refl)) refl
 
@@ -54,20 +54,20 @@ module _ {x : Text} {st : State} {l : List ℕ} (y : Ready x st) where
 
   module _ {here : State} {l₁ : List ℕ} (v : ItemsInv x st l here l₁) where
     at_here : {rhs : List Sym} → expand table n-file here.class ≡ some rhs → Amid x 0 AnyN (nt n-file ∷ []) (rhs ++ []) st l v.w [] 0 here l₁
-    at_here {rhs} e = then_turns rhs v.amid flat-file (ap (expand table n-file) (sym v.amid.lays.stands.class-is) ∙ e)
+    at_here {rhs} e = then_turns rhs v.amid flat-file (ap (expand table n-file) (sym v.amid.lays.stands.class_is) ∙ e)
 
     pub items-ready : Ready x here
     items-ready = onward y v.amid
 
     -- They end at the end,
-    pub items-ends : here.class ≡ 0 → Went x (nt n-file ∷ []) asItems FileItems st l here l₁ 0 0
+    pub items-ends : here.class ≡ 0 → Went x (nt n-file ∷ []) as_items FileItems st l here l₁ 0 0
     items-ends c =
         let d = at_here (no_more here.class c) in
         finish d (record { same = sym (d.roles 0 tt) ∙ arranged-zero 0 (raw x st.at d.pre) })
 
-    module _ (n : here.class ≡ 0 → ⊥) {l₂ : List ℕ} {r : Step} (p : Parsed x (nt (item_at here.class) ∷ []) asItems (Node ItemKind) here l₁ l₂ r) where
+    module _ (n : here.class ≡ 0 → ⊥) {l₂ : List ℕ} {r : Step} (p : Parsed x (nt (item_at here.class) ∷ []) as_items (Node ItemKind) here l₁ l₂ r) where
       -- or an item is refused,
-      pub items-passed : {J : Info} {l' : List ℕ} → OneOf (1 ∷ []) (tag_of the_type r) → Parsed x (nt n-file ∷ []) asItems J st l l' r
+      pub items-passed : {J : Info} {l' : List ℕ} → OneOf (1 ∷ []) (tag_of the_type r) → Parsed x (nt n-file ∷ []) as_items J st l l' r
       items-passed k = then-passed (at_here (one_more here.class n)) k (λ τ q h. h) p
 
       module _ {a : State} {i j : ℕ} (e : r ≡ Next a i j) where
@@ -78,5 +78,5 @@ module _ {x : Text} {st : State} {l : List ℕ} (y : Ready x st) where
         pub item-ahead : here.at < a.at
         item-ahead =
             let q = went e p in
-            let s = ap sizes q.info.laid-is in
+            let s = ap sizes q.info.laid_is in
             omega (arith, q.lays.few, q.lays.sized, s)

@@ -8,9 +8,9 @@ use Rattle.text.specs.Lists.{has}
 use Rattle.theory.specs.Grammar.{Sym, tok, nt, row, look, alt, pick}
 use Rattle.theory.specs.Machine.{choose, expand}
 use Rattle.theory.specs.Ebnf as shape
-use Rattle.theory.specs.Ebnf.{sortOf}
+use Rattle.theory.specs.Ebnf.{sort_of}
 use Rattle.theory.specs.Same.{ex}
-use Rattle.theory.specs.Walk.{k-nt, k-in}
+use Rattle.theory.specs.Walk.{k_nt, k_in}
 use Rattle.own.specs.Tree.{Tok}
 use Rattle.own.specs.Law.{Sort, word, sorts}
 use Rattle.own.specs.Arms as arm
@@ -18,36 +18,36 @@ use Rattle.own.specs.Kinds as kind
 use Rattle.kinds.specs.Fields.{counted}
 use Rattle.kinds.specs.Families as family
 use Rattle.lexer.specs.Classes as t
-use Rattle.grammar.specs.shapes.Tables.{means, table}
-use Rattle.grammar.specs.shapes.TablesIndex.{n-arm, n-head, n-head-choice, n-head-optional, n-head-word, n-headPath, n-headPath-optional-LParen, n-identifier, n-otherName, n-pair, n-path-many-DoubleColon}
-use Rattle.grammar.specs.records.Records.{sees, opening, nameCount, place_in, armHead, armWords}
-use Rattle.parse.specs.Contract.{Text, classes, tokAt, raw, Ready, Moved, Put, Info, asItems, Went, Parsed, read, stuck, reserved, Named, headSort}
-use Rattle.parse.specs.Infos.{ManyPairs, HeadPath, ArmHead, armKind, armLow, armHigh}
+use Rattle.grammar.specs.Shapes.Tables.{means, table}
+use Rattle.grammar.specs.Shapes.TablesIndex.{n-arm, n-head, n-head-choice, n-head-optional, n-head-word, n-head_path, n-head_path-optional-LParen, n-identifier, n-other_name, n-pair, n-path-many-DoubleColon}
+use Rattle.grammar.specs.Records.Records.{sees, opening, name_count, place_in, arm_head, arm_words}
+use Rattle.parse.specs.Contract.{Text, classes, tok_at, raw, Ready, Moved, Put, Info, as_items, Went, Parsed, read, stuck, reserved, Named, head_sort}
+use Rattle.parse.specs.Infos.{ManyPairs, HeadPath, ArmHead, arm_kind, arm_low, arm_high}
 use Rattle.parse.specs.declared.State.{State}
 use Rattle.parse.specs.declared.Step.{Step}
 use Rattle.parse.specs.declared.Step.TheVariants.{Next, Refused}
 use Rattle.parse.specs.Choice as choice
-use Rattle.parse.proofs.rule.ByClass.{run, sweep, beyond, pastClasses}
+use Rattle.parse.proofs.Rule.ByClass.{run, sweep, beyond, past_classes}
 use Rattle.parse.proofs.choice.Checks.{head-past}
 use Rattle.parse.proofs.choice.Chosen.{alone, is-alone, hit, miss, goes}
-use Rattle.parse.proofs.rule.Amid.{class-at, inside, went, Amid, starts, then_turns, then-went}
-use Rattle.parse.proofs.rule.Steps.{child-went, reads-tok}
-use Rattle.parse.proofs.rule.Commas.{AnyN, finish}
+use Rattle.parse.proofs.Rule.Amid.{class-at, inside, went, Amid, starts, then_turns, then-went}
+use Rattle.parse.proofs.Rule.Steps.{child-went, reads-tok}
+use Rattle.parse.proofs.Rule.Commas.{AnyN, finish}
 use Rattle.parse.proofs.names.Chain.{NamesOn, then-named}
 use Rattle.parse.proofs.names.Rows.{name-role}
-use Rattle.parse.proofs.rule.Pieces.{nameCount-append, counted-append, unseen-append, seen_first, seen-second, nameCount-name, nameCount-other, sign-no-name}
+use Rattle.parse.proofs.Rule.Pieces.{name_count-append, counted-append, unseen-append, seen_first, seen-second, name_count-name, name_count-other, sign-no-name}
 
 -- The rules: a head,
-pub flat-head : sortOf (ex means (nt n-head)) ≡ shape.flat
-unfolding sortOf ex means
+pub flat-head : sort_of (ex means (nt n-head)) ≡ shape.flat
+unfolding sort_of ex means
 flat-head = refl
 
 -- a path or nothing,
-pub flat-optional : sortOf (ex means (nt n-head-optional)) ≡ shape.flat
-unfolding sortOf ex means
+pub flat-optional : sort_of (ex means (nt n-head-optional)) ≡ shape.flat
+unfolding sort_of ex means
 flat-optional = refl
 
-pub optional-row : (c : ℕ) → c ≡ t.DoubleColon → expand table n-head-optional c ≡ some (nt n-headPath ∷ [])
+pub optional-row : (c : ℕ) → c ≡ t.DoubleColon → expand table n-head-optional c ≡ some (nt n-head_path ∷ [])
 unfolding choose row table look alt pick
 optional-row c e = goes n-head-optional 2 c (hit t.DoubleColon 2 [] 1 e) refl
 
@@ -56,91 +56,91 @@ unfolding choose row table look alt pick
 no-optional-row c h = goes n-head-optional 1 c (miss t.DoubleColon 2 [] 1 h refl) refl
 
 -- a built-in word, and what follows it,
-pub flat_word : sortOf (ex means (nt n-head-word)) ≡ shape.flat
-unfolding sortOf ex means
+pub flat_word : sort_of (ex means (nt n-head-word)) ≡ shape.flat
+unfolding sort_of ex means
 flat_word = refl
 
-pub flat-choice : sortOf (ex means (nt n-head-choice)) ≡ shape.flat
-unfolding sortOf ex means
+pub flat-choice : sort_of (ex means (nt n-head-choice)) ≡ shape.flat
+unfolding sort_of ex means
 flat-choice = refl
 
 pub choice-row : (c : ℕ) → c ≡ t.LParen → expand table n-head-choice c ≡ some (tok t.LParen ∷ nt n-pair ∷ tok t.RParen ∷ [])
 unfolding choose row table look alt pick
 choice-row c e = goes n-head-choice 1 c (hit t.LParen 1 [] 2 e) refl
 
-pub other-choice-row : (c : ℕ) → (c ≡ t.LParen → ⊥) → expand table n-head-choice c ≡ some (nt n-headPath ∷ [])
+pub other-choice-row : (c : ℕ) → (c ≡ t.LParen → ⊥) → expand table n-head-choice c ≡ some (nt n-head_path ∷ [])
 unfolding choose row table look alt pick
 other-choice-row c h = goes n-head-choice 2 c (miss t.LParen 1 [] 2 h refl) refl
 
 -- any other name,
-pub flat-other : sortOf (ex means (nt n-otherName)) ≡ shape.flat
-unfolding sortOf ex means has
+pub flat-other : sort_of (ex means (nt n-other_name)) ≡ shape.flat
+unfolding sort_of ex means has
 flat-other = refl
 
 -- and a path.
-pub flat-path : sortOf (ex means (nt n-headPath)) ≡ shape.flat
-unfolding sortOf ex means
+pub flat-path : sort_of (ex means (nt n-head_path)) ≡ shape.flat
+unfolding sort_of ex means
 flat-path = refl
 
-pub path-row : (c : ℕ) → expand table n-headPath c ≡ some (tok t.DoubleColon ∷ nt n-identifier ∷ nt n-path-many-DoubleColon ∷ nt n-headPath-optional-LParen ∷ [])
+pub path-row : (c : ℕ) → expand table n-head_path c ≡ some (tok t.DoubleColon ∷ nt n-identifier ∷ nt n-path-many-DoubleColon ∷ nt n-head_path-optional-LParen ∷ [])
 unfolding choose row table look alt pick
 path-row c = refl
 
 -- What begins a head of each sort, by one computation over the classes; past them none begins.
 
-where-sorted : (k : ℕ) (f : ℕ → Bool) → 0 < k → T (run (λ c. not (eqb (headSort c) k) || f c) pastClasses 0) → (c : ℕ) → headSort c ≡ k → T (f c)
-where-sorted k f pos t c e = go (ltb c pastClasses) refl
+where-sorted : (k : ℕ) (f : ℕ → Bool) → 0 < k → T (run (λ c. not (eqb (head_sort c) k) || f c) past_classes 0) → (c : ℕ) → head_sort c ≡ k → T (f c)
+where-sorted k f pos t c e = go (ltb c past_classes) refl
   where
-    go : (b : Bool) → ltb c pastClasses ≡ b → T (f c)
-    go true h = implied (eqb (headSort c) k) (f c) (sweep (λ c. not (eqb (headSort c) k) || f c) t c (ltb-true c pastClasses h)) (rw (eq-eqb (headSort c) k e) tt)
-    go false h = absurd (omega (arith, head-past c (ltb-false c pastClasses h)))
+    go : (b : Bool) → ltb c past_classes ≡ b → T (f c)
+    go true h = implied (eqb (head_sort c) k) (f c) (sweep (λ c. not (eqb (head_sort c) k) || f c) t c (ltb-true c past_classes h)) (rw (eq-eqb (head_sort c) k e) tt)
+    go false h = absurd (omega (arith, head-past c (ltb-false c past_classes h)))
 
 module _ (c : ℕ) where
-  pub at-false : headSort c ≡ choice.FalseHead → c ≡ t.false
-  unfolding headSort choose row table look
+  pub at-false : head_sort c ≡ choice.FalseHead → c ≡ t.false
+  unfolding head_sort choose row table look
   at-false e = eqb→eq c t.false (where-sorted choice.FalseHead (λ a. eqb a t.false) (omega arith) tt c e)
 
-  pub at_true : headSort c ≡ choice.TrueHead → c ≡ t.true
-  unfolding headSort choose row table look
+  pub at_true : head_sort c ≡ choice.TrueHead → c ≡ t.true
+  unfolding head_sort choose row table look
   at_true e = eqb→eq c t.true (where-sorted choice.TrueHead (λ a. eqb a t.true) (omega arith) tt c e)
 
-  pub at_none : headSort c ≡ choice.NoneHead → c ≡ t.None
-  unfolding headSort choose row table look
+  pub at_none : head_sort c ≡ choice.NoneHead → c ≡ t.None
+  unfolding head_sort choose row table look
   at_none e = eqb→eq c t.None (where-sorted choice.NoneHead (λ a. eqb a t.None) (omega arith) tt c e)
 
-  module _ (e : headSort c ≡ choice.WrappedHead) where
+  module _ (e : head_sort c ≡ choice.WrappedHead) where
     pub word_row : expand table n-head-word c ≡ some (tok c ∷ [])
-    unfolding headSort choose row table look alt pick
+    unfolding head_sort choose row table look alt pick
     word_row = is-alone (expand table n-head-word c) c (where-sorted choice.WrappedHead (λ a. alone (expand table n-head-word a) a) (omega arith) tt c e)
 
     pub word-pos : 0 < c
-    unfolding headSort choose row table look
+    unfolding head_sort choose row table look
     word-pos = ltb→lt 0 c (where-sorted choice.WrappedHead (λ a. ltb 0 a) (omega arith) tt c e)
 
     pub word-name : has t.identifiers c ≡ true
-    unfolding headSort choose row table look has
+    unfolding head_sort choose row table look has
     word-name = is_true (has t.identifiers c) (where-sorted choice.WrappedHead (λ a. has t.identifiers a) (omega arith) tt c e)
 
-    pub word-place : place_in 0 arm.Left armWords c ≡ cond (eqb c t.Left) arm.Left (cond (eqb c t.Right) arm.Right arm.Some)
-    unfolding headSort choose row table look place_in
-    word-place = eqb→eq (place_in 0 arm.Left armWords c) (cond (eqb c t.Left) arm.Left (cond (eqb c t.Right) arm.Right arm.Some))
-        (where-sorted choice.WrappedHead (λ a. eqb (place_in 0 arm.Left armWords a) (cond (eqb a t.Left) arm.Left (cond (eqb a t.Right) arm.Right arm.Some))) (omega arith) tt c e)
+    pub word-place : place_in 0 arm.Left arm_words c ≡ cond (eqb c t.Left) arm.Left (cond (eqb c t.Right) arm.Right arm.Some)
+    unfolding head_sort choose row table look place_in
+    word-place = eqb→eq (place_in 0 arm.Left arm_words c) (cond (eqb c t.Left) arm.Left (cond (eqb c t.Right) arm.Right arm.Some))
+        (where-sorted choice.WrappedHead (λ a. eqb (place_in 0 arm.Left arm_words a) (cond (eqb a t.Left) arm.Left (cond (eqb a t.Right) arm.Right arm.Some))) (omega arith) tt c e)
 
-  module _ (e : headSort c ≡ choice.NamedHead) where
-    pub other_row : expand table n-otherName c ≡ some (tok c ∷ [])
-    unfolding headSort choose row table look alt pick
-    other_row = is-alone (expand table n-otherName c) c (where-sorted choice.NamedHead (λ a. alone (expand table n-otherName a) a) (omega arith) tt c e)
+  module _ (e : head_sort c ≡ choice.NamedHead) where
+    pub other_row : expand table n-other_name c ≡ some (tok c ∷ [])
+    unfolding head_sort choose row table look alt pick
+    other_row = is-alone (expand table n-other_name c) c (where-sorted choice.NamedHead (λ a. alone (expand table n-other_name a) a) (omega arith) tt c e)
 
     pub other-pos : 0 < c
-    unfolding headSort choose row table look
+    unfolding head_sort choose row table look
     other-pos = ltb→lt 0 c (where-sorted choice.NamedHead (λ a. ltb 0 a) (omega arith) tt c e)
 
     pub other_name : has t.identifiers c ≡ true
-    unfolding headSort choose row table look has
+    unfolding head_sort choose row table look has
     other_name = is_true (has t.identifiers c) (where-sorted choice.NamedHead (λ a. has t.identifiers a) (omega arith) tt c e)
 
-  sort-choice : {i : ℕ} → 0 < i → headSort c ≡ i → choose table n-head c ≡ i
-  unfolding headSort
+  sort-choice : {i : ℕ} → 0 < i → head_sort c ≡ i → choose table n-head c ≡ i
+  unfolding head_sort
   sort-choice {i} pos e = go (eqb (choose table n-arm c) 0) e
     where
       go : (b : Bool) → cond b 0 (choose table n-head c) ≡ i → choose table n-head c ≡ i
@@ -148,23 +148,23 @@ module _ (c : ℕ) where
       go false e = e
 
   -- The alternative of a head.
-  pub false-row : headSort c ≡ choice.FalseHead → expand table n-head c ≡ some (tok t.false ∷ [])
+  pub false-row : head_sort c ≡ choice.FalseHead → expand table n-head c ≡ some (tok t.false ∷ [])
   unfolding row table alt pick
   false-row e = goes n-head choice.FalseHead c (sort-choice (omega arith) e) refl
 
-  pub true-row : headSort c ≡ choice.TrueHead → expand table n-head c ≡ some (tok t.true ∷ [])
+  pub true-row : head_sort c ≡ choice.TrueHead → expand table n-head c ≡ some (tok t.true ∷ [])
   unfolding row table alt pick
   true-row e = goes n-head choice.TrueHead c (sort-choice (omega arith) e) refl
 
-  pub none_row : headSort c ≡ choice.NoneHead → expand table n-head c ≡ some (tok t.None ∷ nt n-head-optional ∷ [])
+  pub none_row : head_sort c ≡ choice.NoneHead → expand table n-head c ≡ some (tok t.None ∷ nt n-head-optional ∷ [])
   unfolding row table alt pick
   none_row e = goes n-head choice.NoneHead c (sort-choice (omega arith) e) refl
 
-  pub wrapped-row : headSort c ≡ choice.WrappedHead → expand table n-head c ≡ some (nt n-head-word ∷ nt n-head-choice ∷ [])
+  pub wrapped-row : head_sort c ≡ choice.WrappedHead → expand table n-head c ≡ some (nt n-head-word ∷ nt n-head-choice ∷ [])
   unfolding row table alt pick
   wrapped-row e = goes n-head choice.WrappedHead c (sort-choice (omega arith) e) refl
 
-  pub named-row : headSort c ≡ choice.NamedHead → expand table n-head c ≡ some (nt n-otherName ∷ nt n-headPath ∷ [])
+  pub named-row : head_sort c ≡ choice.NamedHead → expand table n-head c ≡ some (nt n-other_name ∷ nt n-head_path ∷ [])
   unfolding row table alt pick
   named-row e = goes n-head choice.NamedHead c (sort-choice (omega arith) e) refl
 
@@ -172,22 +172,22 @@ module _ (c : ℕ) where
 abbrev sorted : List ℕ
 sorted = choice.FalseHead ∷ choice.TrueHead ∷ choice.NoneHead ∷ choice.WrappedHead ∷ choice.NamedHead ∷ []
 
-unbegun : (c : ℕ) → has sorted (headSort c) ≡ false → T (eqb (choose table n-head c) choice.NamedHead && eqb (choose table n-otherName c) 0)
-unfolding headSort choose row table look has
-unbegun c e = go (ltb c pastClasses) refl
+unbegun : (c : ℕ) → has sorted (head_sort c) ≡ false → T (eqb (choose table n-head c) choice.NamedHead && eqb (choose table n-other_name c) 0)
+unfolding head_sort choose row table look has
+unbegun c e = go (ltb c past_classes) refl
   where
-    test : T (run (λ a. has sorted (headSort a) || (eqb (choose table n-head a) choice.NamedHead && eqb (choose table n-otherName a) 0)) pastClasses 0)
+    test : T (run (λ a. has sorted (head_sort a) || (eqb (choose table n-head a) choice.NamedHead && eqb (choose table n-other_name a) 0)) past_classes 0)
     test = tt
 
     second : (a b : Bool) → a ≡ false → T (a || b) → T b
     second true b f t = absurd (differ (sym f))
     second false b f t = t
 
-    go : (b : Bool) → ltb c pastClasses ≡ b → T (eqb (choose table n-head c) choice.NamedHead && eqb (choose table n-otherName c) 0)
+    go : (b : Bool) → ltb c past_classes ≡ b → T (eqb (choose table n-head c) choice.NamedHead && eqb (choose table n-other_name c) 0)
     go true h =
-        second (has sorted (headSort c)) (eqb (choose table n-head c) choice.NamedHead && eqb (choose table n-otherName c) 0) e
-        (sweep (λ a. has sorted (headSort a) || (eqb (choose table n-head a) choice.NamedHead && eqb (choose table n-otherName a) 0)) test c (ltb-true c pastClasses h))
-    go false h = rw (beyond n-head c (ltb-false c pastClasses h), beyond n-otherName c (ltb-false c pastClasses h)) tt
+        second (has sorted (head_sort c)) (eqb (choose table n-head c) choice.NamedHead && eqb (choose table n-other_name c) 0) e
+        (sweep (λ a. has sorted (head_sort a) || (eqb (choose table n-head a) choice.NamedHead && eqb (choose table n-other_name a) 0)) test c (ltb-true c past_classes h))
+    go false h = rw (beyond n-head c (ltb-false c past_classes h), beyond n-other_name c (ltb-false c past_classes h)) tt
 
 unsorted : (i : ℕ) → (((((Unit {0} × (i ≡ choice.FalseHead → ⊥)) × (i ≡ choice.TrueHead → ⊥)) × (i ≡ choice.NoneHead → ⊥)) × (i ≡ choice.WrappedHead → ⊥)) × (i ≡ choice.NamedHead → ⊥)) → has sorted i ≡ false
 unfolding has
@@ -200,44 +200,44 @@ unsorted i h =
       ne_eqb choice.NamedHead i (λ e. h.1 (sym e)),
     ) refl
 
-pub no-head : {x : Text} {st : State} {I : Info} {l l' : List ℕ} (i : ℕ) → Ready x st → i ≡ headSort st.class
-    → (((((Unit {0} × (i ≡ choice.FalseHead → ⊥)) × (i ≡ choice.TrueHead → ⊥)) × (i ≡ choice.NoneHead → ⊥)) × (i ≡ choice.WrappedHead → ⊥)) × (i ≡ choice.NamedHead → ⊥)) → Parsed x (nt n-head ∷ []) asItems I st l l' (Refused st.at)
+pub no-head : {x : Text} {st : State} {I : Info} {l l' : List ℕ} (i : ℕ) → Ready x st → i ≡ head_sort st.class
+    → (((((Unit {0} × (i ≡ choice.FalseHead → ⊥)) × (i ≡ choice.TrueHead → ⊥)) × (i ≡ choice.NoneHead → ⊥)) × (i ≡ choice.WrappedHead → ⊥)) × (i ≡ choice.NamedHead → ⊥)) → Parsed x (nt n-head ∷ []) as_items I st l l' (Refused st.at)
 unfolding row table alt pick
 no-head {x} {st} i y e h =
     let c = get_or (classes x) st.at 0 in
-    let f = e ∙ ap headSort y.stands.class-is in
+    let f = e ∙ ap head_sort y.stands.class_is in
     let u = unbegun c (ap (has sorted) (sym f) ∙ unsorted i h) in
     stuck y.stands.within
-    (λ τ. k-in (goes n-head choice.NamedHead c (eqb→eq (choose table n-head c) choice.NamedHead (first-of (eqb (choose table n-head c) choice.NamedHead) (eqb (choose table n-otherName c) 0) u)) refl)
-    (k-nt (goes n-otherName 0 c (eqb→eq (choose table n-otherName c) 0 (second-of (eqb (choose table n-head c) choice.NamedHead) (eqb (choose table n-otherName c) 0) u)) refl)))
+    (λ τ. k_in (goes n-head choice.NamedHead c (eqb→eq (choose table n-head c) choice.NamedHead (first-of (eqb (choose table n-head c) choice.NamedHead) (eqb (choose table n-other_name c) 0) u)) refl)
+    (k_nt (goes n-other_name 0 c (eqb→eq (choose table n-other_name c) 0 (second-of (eqb (choose table n-head c) choice.NamedHead) (eqb (choose table n-other_name c) 0) u)) refl)))
 
 -- A built-in arm: b is its low.
 pub built_in : {x : Text} {st : State} {l : List ℕ} {c : ℕ} {u : List Sort} {ms : List Tok} {m : ℕ} {st₁ : State} {l₁ : List ℕ} (b : ℕ) → Amid x kind.BuiltinArm AnyN (nt n-head ∷ []) [] st l (word c ∷ u) ms m st₁ l₁
-    → (c ≡ t.DoubleColon → ⊥) → sees t.DoubleColon u ≡ false → place_in 0 arm.Left armWords c ≡ b → arm.Left ≤ b → b ≤ arm.True → Went x (nt n-head ∷ []) asItems ArmHead st l st₁ l₁ 0 b
-unfolding armKind armLow armHigh armHead sees opening
+    → (c ≡ t.DoubleColon → ⊥) → sees t.DoubleColon u ≡ false → place_in 0 arm.Left arm_words c ≡ b → arm.Left ≤ b → b ≤ arm.True → Went x (nt n-head ∷ []) as_items ArmHead st l st₁ l₁ 0 b
+unfolding arm_kind arm_low arm_high arm_head sees opening
 built_in {c = c} {u = u} b d n p e one six = finish d (record {
   roles = λ i. d.roles i tt;
-  decides = λ v q. ap (λ (w : List Sort). armHead (w ++ v)) d.sorted ∙ (rw (ne_eqb c t.DoubleColon n, unseen-append t.DoubleColon u v p q.paths, e) refl);
-  low-is = λ z. (one, six);
+  decides = λ v q. ap (λ (w : List Sort). arm_head (w ++ v)) d.sorted ∙ (rw (ne_eqb c t.DoubleColon n, unseen-append t.DoubleColon u v p q.paths, e) refl);
+  low_is = λ z. (one, six);
 })
 
 -- A path in a head, from its first `::` on: the names, then the pairs.
-pub enum_kind : has family.namesKept kind.EnumArm ≡ true
+pub enum_kind : has family.names_kept kind.EnumArm ≡ true
 unfolding has
 enum_kind = refl
 
 pub path-went : {x : Text} {st : State} {l : List ℕ} {ms : List Tok} {m : ℕ} {st₁ : State} {l₁ : List ℕ} {st₂ : State} {l₂ : List ℕ} {a b c : ℕ}
-    → NamesOn x kind.EnumArm AnyN (nt n-headPath ∷ []) (nt n-headPath-optional-LParen ∷ []) st l (word t.DoubleColon ∷ []) ms m a st₁ l₁ → Went x (nt n-headPath-optional-LParen ∷ []) asItems ManyPairs st₁ l₁ st₂ l₂ b c → Went x (nt n-headPath ∷ []) asItems HeadPath st l st₂ l₂ a b
+    → NamesOn x kind.EnumArm AnyN (nt n-head_path ∷ []) (nt n-head_path-optional-LParen ∷ []) st l (word t.DoubleColon ∷ []) ms m a st₁ l₁ → Went x (nt n-head_path-optional-LParen ∷ []) as_items ManyPairs st₁ l₁ st₂ l₂ b c → Went x (nt n-head_path ∷ []) as_items HeadPath st l st₂ l₂ a b
 unfolding sees counted
 path-went {x} {st₁ = st₁} d q =
     let z = then-went d.amid q (λ n g. q.info.roles kind.EnumArm n) in
     let P = sorts (raw x st₁.at q.items) in
     finish z (record {
       roles = λ n. z.roles n tt;
-      count-is = ap nameCount z.sorted ∙ nameCount-other t.DoubleColon (d.W ++ P) (sign-no-name t.DoubleColon tt) ∙ nameCount-append d.W P ∙ omega (arith, d.count-is, q.info.names);
+      count_is = ap name_count z.sorted ∙ name_count-other t.DoubleColon (d.W ++ P) (sign-no-name t.DoubleColon tt) ∙ name_count-append d.W P ∙ omega (arith, d.count_is, q.info.names);
       bounded = d.bounded;
       path = ap (sees t.DoubleColon) z.sorted;
-      patterns = ap (counted family.patterns) z.sorted ∙ counted-append family.patterns d.W P ∙ omega (arith, d.no-parts family.patterns, q.info.patterns);
+      patterns = ap (counted family.patterns) z.sorted ∙ counted-append family.patterns d.W P ∙ omega (arith, d.no_parts family.patterns, q.info.patterns);
     })
 
 -- The state with a record more is at the same token.
@@ -247,25 +247,25 @@ reserved-class a e = ap (λ (y : State). y.class) e
 
 -- A word that is a record of its own.
 pub named-token : {x : Text} {st st₁ st₂ : State} {l l' : List ℕ} (c : ℕ) → 0 < c → Ready x st → st.class ≡ c → Moved x st st₁ → Put l st₁.out kind.Name st.start st.stop 0 0 1 l' → st₂ ≡ reserved st₁
-    → Parsed x (tok c ∷ []) asItems (Named (tokAt x st.at) kind.Name 0 0) st l l' (Next st₂ 0 0)
+    → Parsed x (tok c ∷ []) as_items (Named (tok_at x st.at) kind.Name 0 0) st l l' (Next st₂ 0 0)
 named-token {x} {st} c pos y e v put more =
-    let f = sym y.stands.class-is ∙ e in
+    let f = sym y.stands.class_is ∙ e in
     let i = inside x st.at pos f in
     read (child-went y.stands i v put more (omega (arith, y.few, y.stands.within, y.short)) c (reads-tok x c f i))
 
 -- The first name of a path, which is a record,
 pub named-first : {x : Text} {st : State} {l l₁ : List ℕ} {c : State} {a b : ℕ} (s r : Sym) → Ready x st → expand table n-head st.class ≡ some (s ∷ r ∷ []) → has t.identifiers st.class ≡ true
-    → Parsed x (s ∷ []) asItems (Named (tokAt x st.at) kind.Name 0 0) st l l₁ (Next c a b) → Amid x kind.EnumArm AnyN (nt n-head ∷ []) (r ∷ []) st l (word st.class ∷ []) (tokAt x st.at ∷ []) 0 c l₁
+    → Parsed x (s ∷ []) as_items (Named (tok_at x st.at) kind.Name 0 0) st l l₁ (Next c a b) → Amid x kind.EnumArm AnyN (nt n-head ∷ []) (r ∷ []) st l (word st.class ∷ []) (tok_at x st.at ∷ []) 0 c l₁
 named-first {x} {st} {l} {l₁} {c} s r y e h p =
-    let f : (tokAt x st.at).class ≡ st.class = sym (class-at x.ts st.at) ∙ sym y.stands.class-is in
-    let d = then_turns (s ∷ r ∷ []) (starts kind.EnumArm AnyN (nt n-head ∷ []) l y.stands) flat-head (ap (expand table n-head) (sym y.stands.class-is) ∙ e) in
-    let z = then-named d p refl (name-role kind.EnumArm (tokAt x st.at).class enum_kind (ap (has t.identifiers) f ∙ h)) in
-    subst (λ k. Amid x kind.EnumArm AnyN (nt n-head ∷ []) (r ∷ []) st l (word k ∷ []) (tokAt x st.at ∷ []) 0 c l₁) f z
+    let f : (tok_at x st.at).class ≡ st.class = sym (class-at x.ts st.at) ∙ sym y.stands.class_is in
+    let d = then_turns (s ∷ r ∷ []) (starts kind.EnumArm AnyN (nt n-head ∷ []) l y.stands) flat-head (ap (expand table n-head) (sym y.stands.class_is) ∙ e) in
+    let z = then-named d p refl (name-role kind.EnumArm (tok_at x st.at).class enum_kind (ap (has t.identifiers) f ∙ h)) in
+    subst (λ k. Amid x kind.EnumArm AnyN (nt n-head ∷ []) (r ∷ []) st l (word k ∷ []) (tok_at x st.at ∷ []) 0 c l₁) f z
 
 -- and the arm with that path.
 pub arm-went : {x : Text} {st : State} {l : List ℕ} {c : ℕ} {ms : List Tok} {m : ℕ} {st₁ : State} {l₁ : List ℕ} {st₂ : State} {l₂ : List ℕ} {a b : ℕ} {r : Step} → has t.identifiers c ≡ true
-    → Amid x kind.EnumArm AnyN (nt n-head ∷ []) (nt n-headPath ∷ []) st l (word c ∷ []) ms m st₁ l₁ → Parsed x (nt n-headPath ∷ []) asItems HeadPath st₁ l₁ l₂ r → r ≡ Next st₂ a b → Went x (nt n-head ∷ []) asItems ArmHead st l st₂ l₂ (a + 1) b
-unfolding armKind armLow armHigh armHead counted
+    → Amid x kind.EnumArm AnyN (nt n-head ∷ []) (nt n-head_path ∷ []) st l (word c ∷ []) ms m st₁ l₁ → Parsed x (nt n-head_path ∷ []) as_items HeadPath st₁ l₁ l₂ r → r ≡ Next st₂ a b → Went x (nt n-head ∷ []) as_items ArmHead st l st₂ l₂ (a + 1) b
+unfolding arm_kind arm_low arm_high arm_head counted
 arm-went {x} {c = c} {st₁ = st₁} {a = a} {b = b} h d p e =
     let q = went e p in
     let i = q.info in
@@ -275,32 +275,32 @@ arm-went {x} {c = c} {st₁ = st₁} {a = a} {b = b} h d p e =
     finish z (record {
       roles = λ n. rw k (z.roles n tt);
       decides = λ v o.
-          let n₁ : nameCount (word c ∷ (P ++ v)) ≡ a + 1 = nameCount-name c (P ++ v) h ∙ omega (arith, nameCount-append P v, i.count-is, o.names) in
+          let n₁ : name_count (word c ∷ (P ++ v)) ≡ a + 1 = name_count-name c (P ++ v) h ∙ omega (arith, name_count-append P v, i.count_is, o.names) in
           let n₂ : counted family.patterns (word c ∷ (P ++ v)) ≡ b = counted-append family.patterns P v ∙ omega (arith, i.patterns, o.patterns) in
           let s : sees t.DoubleColon (word c ∷ (P ++ v)) ≡ true = seen-second t.DoubleColon (word c ∷ []) (P ++ v) (seen_first t.DoubleColon P v i.path) in
-          ap (λ (w : List Sort). armHead (w ++ v)) z.sorted ∙ (rw (s, n₁, n₂, k) refl);
-      low-is = λ f. absurd (omega arith);
+          ap (λ (w : List Sort). arm_head (w ++ v)) z.sorted ∙ (rw (s, n₁, n₂, k) refl);
+      low_is = λ f. absurd (omega arith);
     })
 
 -- A nonterminal is replaced by what the table has for the class of the state.
 pub turns : {x : Text} {K : ℕ} {N : ℕ → Type 0} {full left : List Sym} {st : State} {l : List ℕ} {w : List Sort} {ms : List Tok} {m : ℕ} {st₁ : State} {l₁ : List ℕ} {A : ℕ} (rhs : List Sym)
-    → Amid x K N full (nt A ∷ left) st l w ms m st₁ l₁ → sortOf (ex means (nt A)) ≡ shape.flat → expand table A st₁.class ≡ some rhs → Amid x K N full (rhs ++ left) st l w ms m st₁ l₁
-turns {A = A} rhs d f e = then_turns rhs d f (ap (expand table A) (sym d.lays.stands.class-is) ∙ e)
+    → Amid x K N full (nt A ∷ left) st l w ms m st₁ l₁ → sort_of (ex means (nt A)) ≡ shape.flat → expand table A st₁.class ≡ some rhs → Amid x K N full (rhs ++ left) st l w ms m st₁ l₁
+turns {A = A} rhs d f e = then_turns rhs d f (ap (expand table A) (sym d.lays.stands.class_is) ∙ e)
 
 -- The words of built-in arms.
 pub unseen-nil : sees t.DoubleColon [] ≡ false
 unfolding sees
 unseen-nil = refl
 
-pub none-place : place_in 0 arm.Left armWords t.None ≡ arm.None
+pub none-place : place_in 0 arm.Left arm_words t.None ≡ arm.None
 unfolding place_in
 none-place = refl
 
-pub false-place : place_in 0 arm.Left armWords t.false ≡ arm.False
+pub false-place : place_in 0 arm.Left arm_words t.false ≡ arm.False
 unfolding place_in
 false-place = refl
 
-pub true-place : place_in 0 arm.Left armWords t.true ≡ arm.True
+pub true-place : place_in 0 arm.Left arm_words t.true ≡ arm.True
 unfolding place_in
 true-place = refl
 

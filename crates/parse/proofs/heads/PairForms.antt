@@ -7,32 +7,32 @@ use denote.Enum.Declared.{tag_of}
 use Rattle.theory.specs.Grammar.{Sym, tok, nt, row, look, alt, pick}
 use Rattle.theory.specs.Machine.{choose, expand}
 use Rattle.theory.specs.Ebnf as shape
-use Rattle.theory.specs.Ebnf.{sortOf}
+use Rattle.theory.specs.Ebnf.{sort_of}
 use Rattle.theory.specs.Same.{ex}
 use Rattle.own.specs.Tree.{Tok, Items, marks}
 use Rattle.own.specs.Law.{Sort, word, child, sorts}
 use Rattle.kinds.specs.Fields.{counted}
 use Rattle.kinds.specs.Families as family
 use Rattle.lexer.specs.Classes as t
-use Rattle.grammar.specs.shapes.Tables.{means, table}
-use Rattle.grammar.specs.records.Records.{sees, nameCount}
-use Rattle.grammar.specs.shapes.TablesIndex.{n-headPath-optional-LParen, n-list-pair, n-pair, n-pattern, n-tail-pair, n-type}
+use Rattle.grammar.specs.Shapes.Tables.{means, table}
+use Rattle.grammar.specs.Records.Records.{sees, name_count}
+use Rattle.grammar.specs.Shapes.TablesIndex.{n-head_path-optional-LParen, n-list-pair, n-pair, n-pattern, n-tail-pair, n-type}
 use Rattle.parse.specs.contracts.Step.{the_type}
-use Rattle.parse.specs.Contract.{Text, tokAt, raw, Ready, Moved, Eaten, Info, asItems, Went, Parsed, Node, TypeKind, PatternKind, countable}
+use Rattle.parse.specs.Contract.{Text, tok_at, raw, Ready, Moved, Eaten, Info, as_items, Went, Parsed, Node, TypeKind, PatternKind, countable}
 use Rattle.parse.specs.Infos.{Pairs, ManyPairs, MorePairs}
 use Rattle.parse.specs.declared.State.{State}
 use Rattle.parse.specs.declared.Step.{Step}
 use Rattle.parse.specs.declared.Step.TheVariants.{Next}
 use Rattle.parse.proofs.choice.Chosen.{hit, miss, goes}
-use Rattle.parse.proofs.rule.Marks.{sign, sign-mark, sign_pos}
-use Rattle.parse.proofs.rule.Amid.{inside, went, Amid, starts, then_turns, then-passed, then-went}
-use Rattle.parse.proofs.rule.Chain.{advances, then-eats, then-node, onward}
-use Rattle.parse.proofs.rule.Commas.{AnyN, arranged-zero, finish, went-ahead}
-use Rattle.parse.proofs.rule.Pieces.{nameCount-append, counted-append, unseen-append, nameCount-other, Marks, marks-append, arranged-marks, marks-arranged, pattern-counted, type-uncounted, sign-no-name}
+use Rattle.parse.proofs.Rule.Marks.{sign, sign-mark, sign_pos}
+use Rattle.parse.proofs.Rule.Amid.{inside, went, Amid, starts, then_turns, then-passed, then-went}
+use Rattle.parse.proofs.Rule.Chain.{advances, then-eats, then-node, onward}
+use Rattle.parse.proofs.Rule.Commas.{AnyN, arranged-zero, finish, went-ahead}
+use Rattle.parse.proofs.Rule.Pieces.{name_count-append, counted-append, unseen-append, name_count-other, Marks, marks-append, arranged-marks, marks-arranged, pattern-counted, type-uncounted, sign-no-name}
 
 -- The rules: a pair,
-pub flat-pair : sortOf (ex means (nt n-pair)) ≡ shape.flat
-unfolding sortOf ex means
+pub flat-pair : sort_of (ex means (nt n-pair)) ≡ shape.flat
+unfolding sort_of ex means
 flat-pair = refl
 
 pub pair_row : (c : ℕ) → expand table n-pair c ≡ some (nt n-pattern ∷ tok t.Colon ∷ nt n-type ∷ [])
@@ -40,26 +40,26 @@ unfolding choose row table look alt pick
 pair_row c = refl
 
 -- pairs in parentheses or nothing,
-pub flat-pairs : sortOf (ex means (nt n-headPath-optional-LParen)) ≡ shape.flat
-unfolding sortOf ex means
+pub flat-pairs : sort_of (ex means (nt n-head_path-optional-LParen)) ≡ shape.flat
+unfolding sort_of ex means
 flat-pairs = refl
 
-pub pairs-row : (c : ℕ) → c ≡ t.LParen → expand table n-headPath-optional-LParen c ≡ some (tok t.LParen ∷ nt n-pair ∷ nt n-tail-pair ∷ tok t.RParen ∷ [])
+pub pairs-row : (c : ℕ) → c ≡ t.LParen → expand table n-head_path-optional-LParen c ≡ some (tok t.LParen ∷ nt n-pair ∷ nt n-tail-pair ∷ tok t.RParen ∷ [])
 unfolding choose row table look alt pick
-pairs-row c e = goes n-headPath-optional-LParen 2 c (hit t.LParen 2 [] 1 e) refl
+pairs-row c e = goes n-head_path-optional-LParen 2 c (hit t.LParen 2 [] 1 e) refl
 
-pub no-pairs-row : (c : ℕ) → (c ≡ t.LParen → ⊥) → expand table n-headPath-optional-LParen c ≡ some []
+pub no-pairs-row : (c : ℕ) → (c ≡ t.LParen → ⊥) → expand table n-head_path-optional-LParen c ≡ some []
 unfolding choose row table look alt pick
-no-pairs-row c h = goes n-headPath-optional-LParen 1 c (miss t.LParen 2 [] 1 h refl) refl
+no-pairs-row c h = goes n-head_path-optional-LParen 1 c (miss t.LParen 2 [] 1 h refl) refl
 
 -- and what follows a pair.
-pub flat_tail : sortOf (ex means (nt n-tail-pair)) ≡ shape.flat
-unfolding sortOf ex means
+pub flat_tail : sort_of (ex means (nt n-tail-pair)) ≡ shape.flat
+unfolding sort_of ex means
 flat_tail = refl
 
-pub flat-list : sortOf (ex means (nt n-list-pair)) ≡ shape.flat
-unfolding sortOf ex means
-flat-list = refl
+pub flat_list : sort_of (ex means (nt n-list-pair)) ≡ shape.flat
+unfolding sort_of ex means
+flat_list = refl
 
 pub tail-row : (c : ℕ) → c ≡ t.Comma → expand table n-tail-pair c ≡ some (tok t.Comma ∷ nt n-list-pair ∷ [])
 unfolding choose row table look alt pick
@@ -81,18 +81,18 @@ no-list-row c e = goes n-list-pair 1 c (hit t.RParen 1 [] 2 e) refl
 pub record Paired (n : ℕ) (w : List Sort) : Type 0 where
   pub marks : (K : ℕ) → Marks K w
   pub paths : sees t.DoubleColon w ≡ false
-  pub names : nameCount w ≡ 0
+  pub names : name_count w ≡ 0
   pub patterns : counted family.patterns w ≡ n
 
 pub paired-nil : Paired 0 []
-unfolding sees nameCount counted
+unfolding sees name_count counted
 paired-nil = record { marks = λ K. tt; paths = refl; names = refl; patterns = refl }
 
 pub paired-append : {n k : ℕ} (w v : List Sort) → Paired n w → Paired k v → Paired (n + k) (w ++ v)
 paired-append w v p q = record {
   marks = λ K. marks-append K w v (p.marks K) (q.marks K);
   paths = unseen-append t.DoubleColon w v p.paths q.paths;
-  names = omega (arith, nameCount-append w v, p.names, q.names);
+  names = omega (arith, name_count-append w v, p.names, q.names);
   patterns = omega (arith, counted-append family.patterns w v, p.patterns, q.patterns);
 }
 
@@ -101,16 +101,16 @@ unfolding sees counted
 paired-sign c s n = record {
   marks = λ K. (sign-mark K c s, tt);
   paths = rw (ne_eqb c t.DoubleColon n) refl;
-  names = nameCount-other c [] (sign-no-name c s) ∙ paired-nil.names;
+  names = name_count-other c [] (sign-no-name c s) ∙ paired-nil.names;
   patterns = refl;
 }
 
 pub paired-pattern : (k l h d : ℕ) → PatternKind k → Paired 1 (child k l h d ∷ [])
-unfolding sees nameCount counted
+unfolding sees name_count counted
 paired-pattern k l h d p = record { marks = λ K. tt; paths = refl; names = refl; patterns = rw (pattern-counted k p) refl }
 
 pub paired-type : (k l h d : ℕ) → TypeKind k → Paired 0 (child k l h d ∷ [])
-unfolding sees nameCount counted
+unfolding sees name_count counted
 paired-type k l h d p = record { marks = λ K. tt; paths = refl; names = refl; patterns = rw (type-uncounted k p) refl }
 
 -- What an answer says of pairs, and what it says if the pieces are pairs.
@@ -146,12 +146,12 @@ module _ {x : Text} {full : List Sym} {st : State} {l : List ℕ} {n : ℕ} {st�
   on-ready y v = onward y v.amid
 
   -- A nonterminal is replaced,
-  pub on-turns : {A : ℕ} {left : List Sym} (rhs : List Sym) → On x full (nt A ∷ left) st l n st₁ l₁ → sortOf (ex means (nt A)) ≡ shape.flat → expand table A st₁.class ≡ some rhs → On x full (rhs ++ left) st l n st₁ l₁
+  pub on-turns : {A : ℕ} {left : List Sym} (rhs : List Sym) → On x full (nt A ∷ left) st l n st₁ l₁ → sort_of (ex means (nt A)) ≡ shape.flat → expand table A st₁.class ≡ some rhs → On x full (rhs ++ left) st l n st₁ l₁
   on-turns {A} rhs v f e = record {
     w = v.w;
     ms = v.ms;
     m = v.m;
-    amid = then_turns rhs v.amid f (ap (expand table A) (sym v.amid.lays.stands.class-is) ∙ e);
+    amid = then_turns rhs v.amid f (ap (expand table A) (sym v.amid.lays.stands.class_is) ∙ e);
     paired = v.paired;
   }
 
@@ -159,7 +159,7 @@ module _ {x : Text} {full : List Sym} {st : State} {l : List ℕ} {n : ℕ} {st�
   pub on-sign : {c : ℕ} {left : List Sym} {st₂ : State} → On x full (tok c ∷ left) st l n st₁ l₁ → T (sign c) → (c ≡ t.DoubleColon → ⊥) → st₁.class ≡ c → Moved x st₁ st₂ → On x full left st l (n + 0) st₂ l₁
   on-sign {c} v s h e mv = record {
     w = v.w ++ (word c ∷ []);
-    ms = v.ms ++ (tokAt x st₁.at ∷ []);
+    ms = v.ms ++ (tok_at x st₁.at ∷ []);
     m = v.m + 1;
     amid = advances v.amid e (sign_pos c s) mv (sign-mark 0 c s);
     paired = paired-append v.w (word c ∷ []) v.paired (paired-sign c s h);
@@ -168,49 +168,49 @@ module _ {x : Text} {full : List Sym} {st : State} {l : List ℕ} {n : ℕ} {st�
   pub on-eats : {c : ℕ} {left : List Sym} {st₂ : State} {a b : ℕ} {r : Step} → On x full (tok c ∷ left) st l n st₁ l₁ → T (sign c) → (c ≡ t.DoubleColon → ⊥) → Eaten x st₁ c r → r ≡ Next st₂ a b → On x full left st l (n + 0) st₂ l₁
   on-eats {c} v s h q e = record {
     w = v.w ++ (word c ∷ []);
-    ms = v.ms ++ (tokAt x st₁.at ∷ []);
+    ms = v.ms ++ (tok_at x st₁.at ∷ []);
     m = v.m + 1;
     amid = then-eats v.amid (sign_pos c s) q e (sign-mark 0 c s);
     paired = paired-append v.w (word c ∷ []) v.paired (paired-sign c s h);
   }
 
   -- a pattern is read, or a type,
-  pub on-pattern : {s : Sym} {left : List Sym} {st₂ : State} {l₂ : List ℕ} {a b : ℕ} {r : Step} → On x full (s ∷ left) st l n st₁ l₁ → Parsed x (s ∷ []) asItems (Node PatternKind) st₁ l₁ l₂ r → r ≡ Next st₂ a b
+  pub on-pattern : {s : Sym} {left : List Sym} {st₂ : State} {l₂ : List ℕ} {a b : ℕ} {r : Step} → On x full (s ∷ left) st l n st₁ l₁ → Parsed x (s ∷ []) as_items (Node PatternKind) st₁ l₁ l₂ r → r ≡ Next st₂ a b
       → On x full left st l (n + 1) st₂ l₂
   on-pattern v p e =
       let d = then-node v.amid p e in
       let u = child d.kind d.low d.high d.first ∷ [] in
-      record { w = v.w ++ u; ms = v.ms; m = v.m; amid = d.amid; paired = paired-append v.w u v.paired (paired-pattern d.kind d.low d.high d.first d.its-kind) }
+      record { w = v.w ++ u; ms = v.ms; m = v.m; amid = d.amid; paired = paired-append v.w u v.paired (paired-pattern d.kind d.low d.high d.first d.its_kind) }
 
-  pub on-type : {s : Sym} {left : List Sym} {st₂ : State} {l₂ : List ℕ} {a b : ℕ} {r : Step} → On x full (s ∷ left) st l n st₁ l₁ → Parsed x (s ∷ []) asItems (Node TypeKind) st₁ l₁ l₂ r → r ≡ Next st₂ a b
+  pub on-type : {s : Sym} {left : List Sym} {st₂ : State} {l₂ : List ℕ} {a b : ℕ} {r : Step} → On x full (s ∷ left) st l n st₁ l₁ → Parsed x (s ∷ []) as_items (Node TypeKind) st₁ l₁ l₂ r → r ≡ Next st₂ a b
       → On x full left st l (n + 0) st₂ l₂
   on-type v p e =
       let d = then-node v.amid p e in
       let u = child d.kind d.low d.high d.first ∷ [] in
-      record { w = v.w ++ u; ms = v.ms; m = v.m; amid = d.amid; paired = paired-append v.w u v.paired (paired-type d.kind d.low d.high d.first d.its-kind) }
+      record { w = v.w ++ u; ms = v.ms; m = v.m; amid = d.amid; paired = paired-append v.w u v.paired (paired-type d.kind d.low d.high d.first d.its_kind) }
 
   -- pairs are read,
-  pub on-went : {I : Info} {s : Sym} {left : List Sym} {st₂ : State} {l₂ : List ℕ} {a b : ℕ} (k : ℕ) → On x full (s ∷ left) st l n st₁ l₁ → (q : Went x (s ∷ []) asItems I st₁ l₁ st₂ l₂ a b)
+  pub on-went : {I : Info} {s : Sym} {left : List Sym} {st₂ : State} {l₂ : List ℕ} {a b : ℕ} (k : ℕ) → On x full (s ∷ left) st l n st₁ l₁ → (q : Went x (s ∷ []) as_items I st₁ l₁ st₂ l₂ a b)
       → Pairs k (raw x st₁.at q.items) q.L q.m a b → On x full left st l (n + k) st₂ l₂
   on-went k v q i =
       let J = raw x st₁.at q.items in
       record { w = v.w ++ sorts J; ms = v.ms ++ marks J; m = v.m + q.m; amid = then-went v.amid q (λ n g. i.roles 0 n); paired = paired-append v.w (sorts J) v.paired (is-paired i) }
 
-  pub on-pair : {s : Sym} {left : List Sym} {st₂ : State} {l₂ : List ℕ} {a b : ℕ} {r : Step} → On x full (s ∷ left) st l n st₁ l₁ → Parsed x (s ∷ []) asItems (Pairs 1) st₁ l₁ l₂ r → r ≡ Next st₂ a b
+  pub on-pair : {s : Sym} {left : List Sym} {st₂ : State} {l₂ : List ℕ} {a b : ℕ} {r : Step} → On x full (s ∷ left) st l n st₁ l₁ → Parsed x (s ∷ []) as_items (Pairs 1) st₁ l₁ l₂ r → r ≡ Next st₂ a b
       → On x full left st l (n + 1) st₂ l₂
   on-pair v p e = let q = went e p in on-went 1 v q q.info
 
   -- and all is read.
-  pub on-ends : {k a b : ℕ} → On x full [] st l n st₁ l₁ → n ≡ k → Went x full asItems (Pairs k) st l st₁ l₁ a b
+  pub on-ends : {k a b : ℕ} → On x full [] st l n st₁ l₁ → n ≡ k → Went x full as_items (Pairs k) st l st₁ l₁ a b
   on-ends {k} v e =
       let d = v.amid in
       let J = raw x st.at d.pre in
       finish d (as-pairs (sym (d.roles 0 tt) ∙ arranged-zero 0 J) (subst (λ u. Paired k u) (sym d.sorted) (subst (λ i. Paired i v.w) e v.paired)))
 
 -- As many as the answer says.
-pub on-many : {x : Text} {full : List Sym} {st : State} {l : List ℕ} {n : ℕ} {st₁ : State} {l₁ : List ℕ} {a b : ℕ} → On x full [] st l n st₁ l₁ → n ≡ a → Went x full asItems ManyPairs st l st₁ l₁ a b
+pub on-many : {x : Text} {full : List Sym} {st : State} {l : List ℕ} {n : ℕ} {st₁ : State} {l₁ : List ℕ} {a b : ℕ} → On x full [] st l n st₁ l₁ → n ≡ a → Went x full as_items ManyPairs st l st₁ l₁ a b
 on-many {x} {full} {st} {l} {st₁ = st₁} {l₁ = l₁} {a = a} {b = b} v e =
-    let q : Went x full asItems (Pairs a) st l st₁ l₁ a b = on-ends v e in
+    let q : Went x full as_items (Pairs a) st l st₁ l₁ a b = on-ends v e in
     record { items = q.items; L = q.L; m = q.m; reads = q.reads; lays = q.lays; info = q.info }
 
 -- The first pair and k more, with the parentheses.
@@ -232,13 +232,13 @@ module _ {x : Text} {st : State} {l : List ℕ} (y : Ready x st) where
     pub more-few : number ≤ countable + 1
     more-few = omega (arith, v.far, v.on.amid.lays.stands.within, y.short)
 
-    whole : {k' : ℕ} {here' : State} {l' : List ℕ} → On x (nt n-tail-pair ∷ []) [] st l k' here' l' → k' ≡ v.k → Went x (nt n-tail-pair ∷ []) asItems MorePairs st l here' l' number 0
+    whole : {k' : ℕ} {here' : State} {l' : List ℕ} → On x (nt n-tail-pair ∷ []) [] st l k' here' l' → k' ≡ v.k → Went x (nt n-tail-pair ∷ []) as_items MorePairs st l here' l' number 0
     whole u e =
-        let q : Went x (nt n-tail-pair ∷ []) asItems (Pairs v.k) st l _ _ number 0 = on-ends u e in
+        let q : Went x (nt n-tail-pair ∷ []) as_items (Pairs v.k) st l _ _ number 0 = on-ends u e in
         record { items = q.items; L = q.L; m = q.m; reads = q.reads; lays = q.lays; info = record { k = v.k; one_more = v.one_more; pairs = q.info } }
 
     -- They end where no comma stands,
-    pub more-ends : (here.class ≡ t.Comma → ⊥) → Went x (nt n-tail-pair ∷ []) asItems MorePairs st l here l₁ number 0
+    pub more-ends : (here.class ≡ t.Comma → ⊥) → Went x (nt n-tail-pair ∷ []) as_items MorePairs st l here l₁ number 0
     more-ends n = whole (on-turns [] v.on flat_tail (no-tail-row here.class n)) refl
 
     module _ (c : here.class ≡ t.Comma) {next : State} (mv : Moved x here next) where
@@ -246,22 +246,22 @@ module _ {x : Text} {st : State} {l : List ℕ} (y : Ready x st) where
       comma = on-sign (on-turns (tok t.Comma ∷ nt n-list-pair ∷ []) v.on flat_tail (tail-row here.class c)) tt (λ e. omega arith) c mv
 
       comma-next : next.at ≡ here.at + 1
-      comma-next = mv.ahead (inside x here.at (omega arith) (sym v.on.amid.lays.stands.class-is ∙ c))
+      comma-next = mv.ahead (inside x here.at (omega arith) (sym v.on.amid.lays.stands.class_is ∙ c))
 
       -- or behind a last comma,
-      pub more-closes : next.class ≡ t.RParen → Went x (nt n-tail-pair ∷ []) asItems MorePairs st l next l₁ number 0
-      more-closes e = whole (on-turns [] comma flat-list (no-list-row next.class e)) (omega arith)
+      pub more-closes : next.class ≡ t.RParen → Went x (nt n-tail-pair ∷ []) as_items MorePairs st l next l₁ number 0
+      more-closes e = whole (on-turns [] comma flat_list (no-list-row next.class e)) (omega arith)
 
       module _ (n : next.class ≡ t.RParen → ⊥) where
         pub more-into : On x (nt n-tail-pair ∷ []) (nt n-pair ∷ nt n-tail-pair ∷ []) st l (v.k + 0) next l₁
-        more-into = on-turns (nt n-pair ∷ nt n-tail-pair ∷ []) comma flat-list (list-row next.class n)
+        more-into = on-turns (nt n-pair ∷ nt n-tail-pair ∷ []) comma flat_list (list-row next.class n)
 
         -- or a pair is refused,
-        pub more-passed : {I J : Info} {l₂ l' : List ℕ} {r : Step} → OneOf (1 ∷ []) (tag_of the_type r) → Parsed x (nt n-pair ∷ []) asItems I next l₁ l₂ r → Parsed x (nt n-tail-pair ∷ []) asItems J st l l' r
+        pub more-passed : {I J : Info} {l₂ l' : List ℕ} {r : Step} → OneOf (1 ∷ []) (tag_of the_type r) → Parsed x (nt n-pair ∷ []) as_items I next l₁ l₂ r → Parsed x (nt n-tail-pair ∷ []) as_items J st l l' r
         more-passed k p = then-passed more-into.amid k (λ τ q h. h) p
 
         -- or there is one more.
-        module _ {l₂ : List ℕ} {r : Step} {st₂ : State} {a b : ℕ} (p : Parsed x (nt n-pair ∷ []) asItems (Pairs 1) next l₁ l₂ r) (e : r ≡ Next st₂ a b) where
+        module _ {l₂ : List ℕ} {r : Step} {st₂ : State} {a b : ℕ} (p : Parsed x (nt n-pair ∷ []) as_items (Pairs 1) next l₁ l₂ r) (e : r ≡ Next st₂ a b) where
           pub more-less : here.at < st₂.at
           more-less = omega (arith, comma-next, went-ahead p e)
 

@@ -13,62 +13,62 @@ use Rattle.own.specs.Kinds as kind
 use Rattle.kinds.specs.Fields.{counted}
 use Rattle.kinds.specs.Families as family
 use Rattle.lexer.specs.Classes as t
-use Rattle.grammar.specs.shapes.TablesIndex.{n-identifier, n-path-many-DoubleColon}
-use Rattle.grammar.specs.records.Records.{Role, asName, as_number, roleOf, placed, arranged, low_half, high_half, sees, nameCount}
+use Rattle.grammar.specs.Shapes.TablesIndex.{n-identifier, n-path-many-DoubleColon}
+use Rattle.grammar.specs.Records.Records.{Role, asName, as_number, role_of, placed, arranged, low_half, high_half, sees, name_count}
 use Rattle.parse.specs.contracts.Step.{the_type}
-use Rattle.parse.specs.Contract.{Text, tokAt, Stuck, raw, Info, asItems, Parsed, Named, Decimal, Names, value_at, countable}
+use Rattle.parse.specs.Contract.{Text, tok_at, Stuck, raw, Info, as_items, Parsed, Named, Decimal, Names, value_at, countable}
 use Rattle.parse.specs.declared.State.{State}
 use Rattle.parse.specs.declared.Step.{Step}
 use Rattle.parse.specs.declared.Step.TheVariants.{Next}
-use Rattle.parse.proofs.rule.Amid.{went, Amid, then-went, went_on, passed_on}
+use Rattle.parse.proofs.Rule.Amid.{went, Amid, then-went, went_on, passed_on}
 
 -- Names more: W is what they are made of, `own` are their tokens, k of which are no records; there are a names.
 pub record NamesOn (x : Text) (K : ℕ) (N : ℕ → Type 0) (full left : List Sym) (st : State) (l : List ℕ) (w : List Sort) (ms : List Tok) (m a : ℕ) (st₂ : State) (l₂ : List ℕ) : Type 0 where
   pub W : List Sort
   pub own : List Tok
   pub k : ℕ
-  pub count-is : nameCount W ≡ a
+  pub count_is : name_count W ≡ a
   pub bounded : a ≤ countable
   pub others : (c : ℕ) → has t.identifiers c ≡ false → (c ≡ t.DoubleColon → ⊥) → sees c W ≡ false
-  pub no-parts : (ks : List ℕ) → counted ks W ≡ 0
+  pub no_parts : (ks : List ℕ) → counted ks W ≡ 0
   pub amid : Amid x K N full left st l (w ++ W) (ms ++ own) (m + k) st₂ l₂
 
 module _ {x : Text} {K : ℕ} {N : ℕ → Type 0} {full left : List Sym} {st : State} {l : List ℕ} {w : List Sort} {ms : List Tok} {m : ℕ} {st₁ : State} {l₁ : List ℕ} where
   -- a token that is a record of its own
   named-as : {s : Sym} (kind low high : ℕ) {st₂ : State} {l₂ : List ℕ} {a b : ℕ} {r : Step} → Amid x K N full (s ∷ left) st l w ms m st₁ l₁
-      → Parsed x (s ∷ []) asItems (Named (tokAt x st₁.at) kind low high) st₁ l₁ l₂ r → r ≡ Next st₂ a b
-      → ((n : ℕ) → N n → arranged K n (mark (tokAt x st₁.at) own.none) ≡ sub kind low high (mark (tokAt x st₁.at) own.none) own.none)
-      → Amid x K N full left st l (w ++ (word (tokAt x st₁.at).class ∷ [])) (ms ++ (tokAt x st₁.at ∷ [])) m st₂ l₂
+      → Parsed x (s ∷ []) as_items (Named (tok_at x st₁.at) kind low high) st₁ l₁ l₂ r → r ≡ Next st₂ a b
+      → ((n : ℕ) → N n → arranged K n (mark (tok_at x st₁.at) own.none) ≡ sub kind low high (mark (tok_at x st₁.at) own.none) own.none)
+      → Amid x K N full left st l (w ++ (word (tok_at x st₁.at).class ∷ [])) (ms ++ (tok_at x st₁.at ∷ [])) m st₂ l₂
   named-as kind low high {st₂} {l₂} d p e f =
       let q = went e p in
       let i = q.info in
-      let z = then-went d q (λ n g. ap (arranged K n) i.raw-is ∙ f n g ∙ sym i.laid-is) in
-      let e₁ : sorts (raw x st₁.at q.items) ≡ word (tokAt x st₁.at).class ∷ [] = ap sorts i.raw-is in
-      let e₂ : marks (raw x st₁.at q.items) ≡ tokAt x st₁.at ∷ [] = ap marks i.raw-is in
+      let z = then-went d q (λ n g. ap (arranged K n) i.raw_is ∙ f n g ∙ sym i.laid_is) in
+      let e₁ : sorts (raw x st₁.at q.items) ≡ word (tok_at x st₁.at).class ∷ [] = ap sorts i.raw_is in
+      let e₂ : marks (raw x st₁.at q.items) ≡ tok_at x st₁.at ∷ [] = ap marks i.raw_is in
       let e₃ : m + q.m ≡ m = ap (λ b. m + b) i.none_left ∙ add-zero m in
-      subst (λ c. Amid x K N full left st l (w ++ (word (tokAt x st₁.at).class ∷ [])) (ms ++ (tokAt x st₁.at ∷ [])) c st₂ l₂) e₃
-      (subst (λ b. Amid x K N full left st l (w ++ (word (tokAt x st₁.at).class ∷ [])) b (m + q.m) st₂ l₂) (ap (λ b. ms ++ b) e₂)
+      subst (λ c. Amid x K N full left st l (w ++ (word (tok_at x st₁.at).class ∷ [])) (ms ++ (tok_at x st₁.at ∷ [])) c st₂ l₂) e₃
+      (subst (λ b. Amid x K N full left st l (w ++ (word (tok_at x st₁.at).class ∷ [])) b (m + q.m) st₂ l₂) (ap (λ b. ms ++ b) e₂)
       (subst (λ a. Amid x K N full left st l a (ms ++ marks (raw x st₁.at q.items)) (m + q.m) st₂ l₂) (ap (λ a. w ++ a) e₁) z))
 
   -- A name that a function read.
   pub then-named : {s : Sym} {st₂ : State} {l₂ : List ℕ} {a b : ℕ} {r : Step} → Amid x K N full (s ∷ left) st l w ms m st₁ l₁
-      → Parsed x (s ∷ []) asItems (Named (tokAt x st₁.at) kind.Name 0 0) st₁ l₁ l₂ r → r ≡ Next st₂ a b → roleOf K (tokAt x st₁.at).class ≡ asName
-      → Amid x K N full left st l (w ++ (word (tokAt x st₁.at).class ∷ [])) (ms ++ (tokAt x st₁.at ∷ [])) m st₂ l₂
+      → Parsed x (s ∷ []) as_items (Named (tok_at x st₁.at) kind.Name 0 0) st₁ l₁ l₂ r → r ≡ Next st₂ a b → role_of K (tok_at x st₁.at).class ≡ asName
+      → Amid x K N full left st l (w ++ (word (tok_at x st₁.at).class ∷ [])) (ms ++ (tok_at x st₁.at ∷ [])) m st₂ l₂
   unfolding arranged placed
-  then-named d p e role = named-as kind.Name 0 0 d p e (λ n g. ap (λ (o : Role). placed o n (tokAt x st₁.at) own.none) role)
+  then-named d p e role = named-as kind.Name 0 0 d p e (λ n g. ap (λ (o : Role). placed o n (tok_at x st₁.at) own.none) role)
 
   -- A decimal that a function read, where it is the number of the record above.
   pub then-number : {s : Sym} {st₂ : State} {l₂ : List ℕ} {a b : ℕ} {r : Step} → Amid x K N full (s ∷ left) st l w ms m st₁ l₁
-      → Parsed x (s ∷ []) asItems (Decimal x st₁.at) st₁ l₁ l₂ r → r ≡ Next st₂ a b → roleOf K (tokAt x st₁.at).class ≡ as_number → ((n : ℕ) → N n → n ≡ value_at x st₁.at)
-      → Amid x K N full left st l (w ++ (word (tokAt x st₁.at).class ∷ [])) (ms ++ (tokAt x st₁.at ∷ [])) m st₂ l₂
+      → Parsed x (s ∷ []) as_items (Decimal x st₁.at) st₁ l₁ l₂ r → r ≡ Next st₂ a b → role_of K (tok_at x st₁.at).class ≡ as_number → ((n : ℕ) → N n → n ≡ value_at x st₁.at)
+      → Amid x K N full left st l (w ++ (word (tok_at x st₁.at).class ∷ [])) (ms ++ (tok_at x st₁.at ∷ [])) m st₂ l₂
   unfolding arranged placed
   then-number d p e role f =
       named-as kind.Number (low_half (value_at x st₁.at)) (high_half (value_at x st₁.at)) d p e
-      (λ n g. ap₂ (λ (o : Role) (k : ℕ). placed o k (tokAt x st₁.at) own.none) role (f n g))
+      (λ n g. ap₂ (λ (o : Role) (k : ℕ). placed o k (tok_at x st₁.at) own.none) role (f n g))
 
   -- Names joined by `::` that a function read,
   pub then-names : {st₂ : State} {l₂ : List ℕ} {a b : ℕ} {r : Step} → Amid x K N full (nt n-identifier ∷ nt n-path-many-DoubleColon ∷ left) st l w ms m st₁ l₁
-      → Parsed x (nt n-identifier ∷ nt n-path-many-DoubleColon ∷ []) asItems Names st₁ l₁ l₂ r → r ≡ Next st₂ a b → has family.namesKept K ≡ true
+      → Parsed x (nt n-identifier ∷ nt n-path-many-DoubleColon ∷ []) as_items Names st₁ l₁ l₂ r → r ≡ Next st₂ a b → has family.names_kept K ≡ true
       → NamesOn x K N full left st l w ms m a st₂ l₂
   then-names d p e h =
       let q = went e p in
@@ -77,10 +77,10 @@ module _ {x : Text} {K : ℕ} {N : ℕ → Type 0} {full left : List Sym} {st : 
         W = sorts (raw x st₁.at q.items);
         own = marks (raw x st₁.at q.items);
         k = q.m;
-        count-is = i.count-is;
+        count_is = i.count_is;
         bounded = i.bounded;
         others = i.others;
-        no-parts = i.no-parts;
+        no_parts = i.no_parts;
         amid = went_on (nt n-identifier ∷ nt n-path-many-DoubleColon ∷ []) left d q (λ n g. i.roles K n h);
       }
 
@@ -94,6 +94,6 @@ module _ {x : Text} {K : ℕ} {N : ℕ → Type 0} {full left : List Sym} {st : 
 module _ {x : Text} {K : ℕ} {full left : List Sym} {st : State} {l : List ℕ} {w : List Sort} {ms : List Tok} {m : ℕ} {st₁ : State} {l₁ : List ℕ} where
   -- The same, where the number above is said to be that of this decimal.
   pub then-decimal : {s : Sym} {st₂ : State} {l₂ : List ℕ} {a b : ℕ} {r : Step} → Amid x K (λ n. n ≡ value_at x st₁.at) full (s ∷ left) st l w ms m st₁ l₁
-      → Parsed x (s ∷ []) asItems (Decimal x st₁.at) st₁ l₁ l₂ r → r ≡ Next st₂ a b → roleOf K (tokAt x st₁.at).class ≡ as_number
-      → Amid x K (λ n. n ≡ value_at x st₁.at) full left st l (w ++ (word (tokAt x st₁.at).class ∷ [])) (ms ++ (tokAt x st₁.at ∷ [])) m st₂ l₂
+      → Parsed x (s ∷ []) as_items (Decimal x st₁.at) st₁ l₁ l₂ r → r ≡ Next st₂ a b → role_of K (tok_at x st₁.at).class ≡ as_number
+      → Amid x K (λ n. n ≡ value_at x st₁.at) full left st l (w ++ (word (tok_at x st₁.at).class ∷ [])) (ms ++ (tok_at x st₁.at ∷ [])) m st₂ l₂
   then-decimal d p e role = then-number d p e role (λ n g. g)

@@ -18,18 +18,18 @@ use Rattle.own.specs.Kinds as kind
 use Rattle.kinds.specs.Fields.{counted}
 use Rattle.kinds.specs.Families as family
 use Rattle.lexer.specs.Classes as t
-use Rattle.grammar.specs.shapes.Tables.{table}
-use Rattle.grammar.specs.shapes.TablesIndex.{n-identifier, n-functionName, n-aliasName, n-path-many-DoubleColon}
-use Rattle.grammar.specs.records.Records.{aMark, roleOf, arranged, sees, nameCount}
+use Rattle.grammar.specs.Shapes.Tables.{table}
+use Rattle.grammar.specs.Shapes.TablesIndex.{n-identifier, n-function_name, n-alias_name, n-path-many-DoubleColon}
+use Rattle.grammar.specs.Records.Records.{aMark, role_of, arranged, sees, name_count}
 use Rattle.parse.specs.contracts.Step.{the_type}
-use Rattle.parse.specs.Contract.{Text, classes, tokAt, Read, raw, Stands, Ready, Moved, Info, asItems, Went, Parsed, Named, Names, countable}
+use Rattle.parse.specs.Contract.{Text, classes, tok_at, Read, raw, Stands, Ready, Moved, Info, as_items, Went, Parsed, Named, Names, countable}
 use Rattle.parse.specs.declared.State.{State}
 use Rattle.parse.specs.declared.Step.{Step}
 use Rattle.parse.specs.declared.Step.TheVariants.{Next}
-use Rattle.parse.proofs.rule.Marks.{sign-mark}
-use Rattle.parse.proofs.rule.Amid.{class-at, inside, Amid, starts, then_turns, then-passed, then-went, went}
-use Rattle.parse.proofs.rule.Chain.{advances, onward}
-use Rattle.parse.proofs.rule.Commas.{AnyN, finish}
+use Rattle.parse.proofs.Rule.Marks.{sign-mark}
+use Rattle.parse.proofs.Rule.Amid.{class-at, inside, Amid, starts, then_turns, then-passed, then-went, went}
+use Rattle.parse.proofs.Rule.Chain.{advances, onward}
+use Rattle.parse.proofs.Rule.Commas.{AnyN, finish}
 use Rattle.parse.proofs.names.Chain.{then-named}
 use Rattle.parse.proofs.names.Rows.{expanded-identifier, expanded-function-name, expanded-alias-name, flat-more, more-names, no-more-names, name-role, arranged-names}
 
@@ -44,22 +44,22 @@ expands x {A} {at = at} (n-sub {rhs = rhs} C i k c y f e p q) = (rhs, chosen A (
 
 module _ {x : Text} {wrap : shape.Items → shape.Items} {I : Info} {st : State} {l l' : List ℕ} {r : Step} {st' : State} {a b : ℕ} {σ : List Sym} where
   -- The token that was read as an identifier is one,
-  pub identifier-class : Parsed x (nt n-identifier ∷ σ) wrap I st l l' r → r ≡ Next st' a b → has t.identifiers (tokAt x st.at).class ≡ true
+  pub identifier-class : Parsed x (nt n-identifier ∷ σ) wrap I st l l' r → r ≡ Next st' a b → has t.identifiers (tok_at x st.at).class ≡ true
   identifier-class p e = let q = expands x (went e p).reads in ap (has t.identifiers) (sym (class-at x.ts st.at)) ∙ expanded-identifier (get_or (classes x) st.at 0) q.1
 
   -- and so is one that was read as a function's name.
-  pub function-name-class : Parsed x (nt n-functionName ∷ σ) wrap I st l l' r → r ≡ Next st' a b → has t.functionNames (tokAt x st.at).class ≡ true
-  function-name-class p e = let q = expands x (went e p).reads in ap (has t.functionNames) (sym (class-at x.ts st.at)) ∙ expanded-function-name (get_or (classes x) st.at 0) q.1
+  pub function-name-class : Parsed x (nt n-function_name ∷ σ) wrap I st l l' r → r ≡ Next st' a b → has t.function_names (tok_at x st.at).class ≡ true
+  function-name-class p e = let q = expands x (went e p).reads in ap (has t.function_names) (sym (class-at x.ts st.at)) ∙ expanded-function-name (get_or (classes x) st.at 0) q.1
 
   -- and one that was read as a type item's name.
-  pub alias-name-class : Parsed x (nt n-aliasName ∷ σ) wrap I st l l' r → r ≡ Next st' a b → has t.identifiers (tokAt x st.at).class ≡ true
+  pub alias-name-class : Parsed x (nt n-alias_name ∷ σ) wrap I st l l' r → r ≡ Next st' a b → has t.identifiers (tok_at x st.at).class ≡ true
   alias-name-class p e = let q = expands x (went e p).reads in ap (has t.identifiers) (sym (class-at x.ts st.at)) ∙ expanded-alias-name (get_or (classes x) st.at 0) q.1
 
 -- A token that is a record of its own lies ahead.
-pub named-ahead : {x : Text} {σ : List Sym} {t : Tok} {kind low high : ℕ} {st : State} {l l' : List ℕ} {r : Step} {st' : State} {a b : ℕ} → Parsed x σ asItems (Named t kind low high) st l l' r → r ≡ Next st' a b → st.at < st'.at
+pub named-ahead : {x : Text} {σ : List Sym} {t : Tok} {kind low high : ℕ} {st : State} {l l' : List ℕ} {r : Step} {st' : State} {a b : ℕ} → Parsed x σ as_items (Named t kind low high) st l l' r → r ≡ Next st' a b → st.at < st'.at
 named-ahead {t = t} {kind = kind} {low = low} {high = high} p e =
     let q = went e p in
-    let s : sizes q.L ≡ sizes (sub kind low high (mark t own.none) own.none) = ap sizes q.info.laid-is in
+    let s : sizes q.L ≡ sizes (sub kind low high (mark t own.none) own.none) = ap sizes q.info.laid_is in
     omega (arith, q.lays.few, q.lays.sized)
 
 -- Names and `::` only.
@@ -89,28 +89,28 @@ paths-parts ks [] p = refl
 paths-parts ks (word d ∷ w) p = paths-parts ks w p.1
 paths-parts ks (child k l h d ∷ w) p = absurd p
 
-count-append : (w v : List Sort) → nameCount (w ++ v) ≡ nameCount w + nameCount v
-unfolding nameCount
+count-append : (w v : List Sort) → name_count (w ++ v) ≡ name_count w + name_count v
+unfolding name_count
 count-append [] v = omega arith
 count-append (word d ∷ w) v = omega (arith, count-append w v)
 count-append (child k l h d ∷ w) v = count-append w v
 
-count-name : (d : ℕ) (w : List Sort) → has t.identifiers d ≡ true → nameCount (word d ∷ w) ≡ 1 + nameCount w
-unfolding nameCount
-count-name d w h = ap (λ (b : Bool). cond b 1 0 + nameCount w) h
+count-name : (d : ℕ) (w : List Sort) → has t.identifiers d ≡ true → name_count (word d ∷ w) ≡ 1 + name_count w
+unfolding name_count
+count-name d w h = ap (λ (b : Bool). cond b 1 0 + name_count w) h
 
-count-colon : nameCount (word t.DoubleColon ∷ []) ≡ 0
-unfolding nameCount has
+count-colon : name_count (word t.DoubleColon ∷ []) ≡ 0
+unfolding name_count has
 count-colon = refl
 
-no-count : nameCount [] ≡ 0
-unfolding nameCount
+no-count : name_count [] ≡ 0
+unfolding name_count
 no-count = refl
 
-colon-mark : roleOf kind.EnumConstruction t.DoubleColon ≡ aMark
+colon-mark : role_of kind.EnumConstruction t.DoubleColon ≡ aMark
 colon-mark = sign-mark kind.EnumConstruction t.DoubleColon tt
 
-named-kind : has family.namesKept kind.EnumConstruction ≡ true
+named-kind : has family.names_kept kind.EnumConstruction ≡ true
 unfolding has
 named-kind = refl
 
@@ -121,7 +121,7 @@ pub record Joined (x : Text) (st : State) (l : List ℕ) (here : State) (l₁ : 
   pub m : ℕ
   pub amid : Amid x kind.EnumConstruction AnyN (nt n-path-many-DoubleColon ∷ []) (nt n-path-many-DoubleColon ∷ []) st l w ms m here l₁
   pub paths : Paths w
-  pub count-is : 1 + nameCount w ≡ number
+  pub count_is : 1 + name_count w ≡ number
   pub far : number + st.at ≤ here.at + 1
 
 -- What they are as a whole.
@@ -130,27 +130,27 @@ pub record Rest (w : List Sort) (J L : Items) (m a b : ℕ) : Type 0 where
   pub sorted : sorts J ≡ w
 
 pub joined-starts : {x : Text} {st : State} {l : List ℕ} → Stands x st → Joined x st l st l 1
-unfolding nameCount
-joined-starts {l = l} h = record { w = []; ms = []; m = 0; amid = starts kind.EnumConstruction AnyN (nt n-path-many-DoubleColon ∷ []) l h; paths = tt; count-is = refl; far = omega arith }
+unfolding name_count
+joined-starts {l = l} h = record { w = []; ms = []; m = 0; amid = starts kind.EnumConstruction AnyN (nt n-path-many-DoubleColon ∷ []) l h; paths = tt; count_is = refl; far = omega arith }
 
 module _ {x : Text} {st : State} {l : List ℕ} {here : State} {l₁ : List ℕ} {number : ℕ} (v : Joined x st l here l₁ number) where
   -- They end where no `::` stands,
-  joined-ends : (here.class ≡ t.DoubleColon → ⊥) → Went x (nt n-path-many-DoubleColon ∷ []) asItems (Rest v.w) st l here l₁ number 0
+  joined-ends : (here.class ≡ t.DoubleColon → ⊥) → Went x (nt n-path-many-DoubleColon ∷ []) as_items (Rest v.w) st l here l₁ number 0
   joined-ends n =
-      let d = then_turns [] v.amid flat-more (ap (expand table n-path-many-DoubleColon) (sym v.amid.lays.stands.class-is) ∙ no-more-names here.class n) in
+      let d = then_turns [] v.amid flat-more (ap (expand table n-path-many-DoubleColon) (sym v.amid.lays.stands.class_is) ∙ no-more-names here.class n) in
       finish d (record { roles = λ n. d.roles n tt; sorted = d.sorted })
 
   module _ (c : here.class ≡ t.DoubleColon) {next : State} (mv : Moved x here next) where
     -- or go on with one more.
-    pub joined-into : Amid x kind.EnumConstruction AnyN (nt n-path-many-DoubleColon ∷ []) (nt n-identifier ∷ nt n-path-many-DoubleColon ∷ []) st l (v.w ++ (word t.DoubleColon ∷ [])) (v.ms ++ (tokAt x here.at ∷ [])) (v.m + 1) next l₁
+    pub joined-into : Amid x kind.EnumConstruction AnyN (nt n-path-many-DoubleColon ∷ []) (nt n-identifier ∷ nt n-path-many-DoubleColon ∷ []) st l (v.w ++ (word t.DoubleColon ∷ [])) (v.ms ++ (tok_at x here.at ∷ [])) (v.m + 1) next l₁
     joined-into =
         advances (then_turns (tok t.DoubleColon ∷ nt n-identifier ∷ nt n-path-many-DoubleColon ∷ []) v.amid flat-more
-        (ap (expand table n-path-many-DoubleColon) (sym v.amid.lays.stands.class-is) ∙ more-names here.class c)) c (omega arith) mv colon-mark
+        (ap (expand table n-path-many-DoubleColon) (sym v.amid.lays.stands.class_is) ∙ more-names here.class c)) c (omega arith) mv colon-mark
 
     joined-next : next.at ≡ here.at + 1
-    joined-next = mv.ahead (inside x here.at (omega arith) (sym v.amid.lays.stands.class-is ∙ c))
+    joined-next = mv.ahead (inside x here.at (omega arith) (sym v.amid.lays.stands.class_is ∙ c))
 
-    module _ {l₂ : List ℕ} {r : Step} {st₂ : State} {a b : ℕ} (p : Parsed x (nt n-identifier ∷ []) asItems (Named (tokAt x next.at) kind.Name 0 0) next l₁ l₂ r) (e : r ≡ Next st₂ a b) where
+    module _ {l₂ : List ℕ} {r : Step} {st₂ : State} {a b : ℕ} (p : Parsed x (nt n-identifier ∷ []) as_items (Named (tok_at x next.at) kind.Name 0 0) next l₁ l₂ r) (e : r ≡ Next st₂ a b) where
       pub joined-less : here.at < st₂.at
       joined-less = omega (arith, joined-next, named-ahead p e)
 
@@ -159,31 +159,31 @@ module _ {x : Text} {st : State} {l : List ℕ} {here : State} {l₁ : List ℕ}
 
       pub joined-again : Joined x st l st₂ l₂ (number + 1)
       joined-again =
-          let cls = (tokAt x next.at).class in
+          let cls = (tok_at x next.at).class in
           let name = identifier-class p e in
           let n₁ = count-append (v.w ++ (word t.DoubleColon ∷ [])) (word cls ∷ []) in
           let n₂ = count-append v.w (word t.DoubleColon ∷ []) in
           let n₃ = count-name cls [] name in
           record {
             w = (v.w ++ (word t.DoubleColon ∷ [])) ++ (word cls ∷ []);
-            ms = (v.ms ++ (tokAt x here.at ∷ [])) ++ (tokAt x next.at ∷ []);
+            ms = (v.ms ++ (tok_at x here.at ∷ [])) ++ (tok_at x next.at ∷ []);
             m = v.m + 1;
             amid = then-named joined-into p e (name-role kind.EnumConstruction cls named-kind name);
             paths = paths-append (v.w ++ (word t.DoubleColon ∷ [])) (word cls ∷ []) (paths-append v.w (word t.DoubleColon ∷ []) v.paths (inl refl, tt)) (inr name, tt);
-            count-is = omega (arith, n₁, n₂, n₃, count-colon, no-count, v.count-is);
+            count_is = omega (arith, n₁, n₂, n₃, count-colon, no-count, v.count_is);
             far = omega (arith, v.far, joined-less, joined-next, named-ahead p e);
           }
 
 module _ {x : Text} {st : State} (y : Ready x st) {l l₁ : List ℕ} {r : Step} where
   -- The first name is refused,
-  pub names-passed : {J : Info} {l' : List ℕ} → OneOf (1 ∷ []) (tag_of the_type r) → Parsed x (nt n-identifier ∷ []) asItems (Named (tokAt x st.at) kind.Name 0 0) st l l₁ r
-      → Parsed x (nt n-identifier ∷ nt n-path-many-DoubleColon ∷ []) asItems J st l l' r
+  pub names-passed : {J : Info} {l' : List ℕ} → OneOf (1 ∷ []) (tag_of the_type r) → Parsed x (nt n-identifier ∷ []) as_items (Named (tok_at x st.at) kind.Name 0 0) st l l₁ r
+      → Parsed x (nt n-identifier ∷ nt n-path-many-DoubleColon ∷ []) as_items J st l l' r
   names-passed k p = then-passed (starts kind.EnumConstruction AnyN (nt n-identifier ∷ nt n-path-many-DoubleColon ∷ []) l y.stands) k (λ τ q h. h) p
 
-  module _ {st₁ : State} {a b : ℕ} (p : Parsed x (nt n-identifier ∷ []) asItems (Named (tokAt x st.at) kind.Name 0 0) st l l₁ r) (e : r ≡ Next st₁ a b) where
-    first-name : Amid x kind.EnumConstruction AnyN (nt n-identifier ∷ nt n-path-many-DoubleColon ∷ []) (nt n-path-many-DoubleColon ∷ []) st l (word (tokAt x st.at).class ∷ []) (tokAt x st.at ∷ []) 0 st₁ l₁
+  module _ {st₁ : State} {a b : ℕ} (p : Parsed x (nt n-identifier ∷ []) as_items (Named (tok_at x st.at) kind.Name 0 0) st l l₁ r) (e : r ≡ Next st₁ a b) where
+    first-name : Amid x kind.EnumConstruction AnyN (nt n-identifier ∷ nt n-path-many-DoubleColon ∷ []) (nt n-path-many-DoubleColon ∷ []) st l (word (tok_at x st.at).class ∷ []) (tok_at x st.at ∷ []) 0 st₁ l₁
     first-name =
-        then-named (starts kind.EnumConstruction AnyN (nt n-identifier ∷ nt n-path-many-DoubleColon ∷ []) l y.stands) p e (name-role kind.EnumConstruction (tokAt x st.at).class named-kind (identifier-class p e))
+        then-named (starts kind.EnumConstruction AnyN (nt n-identifier ∷ nt n-path-many-DoubleColon ∷ []) l y.stands) p e (name-role kind.EnumConstruction (tok_at x st.at).class named-kind (identifier-class p e))
 
     pub first-ready : Ready x st₁
     first-ready = onward y first-name
@@ -197,22 +197,22 @@ module _ {x : Text} {st : State} (y : Ready x st) {l l₁ : List ℕ} {r : Step}
       next-ready c mv = onward first-ready (joined-into v c mv)
 
       pub next-passed : here.class ≡ t.DoubleColon → {next : State} → Moved x here next → {J : Info} {l₃ l' : List ℕ} {r₂ : Step} → OneOf (1 ∷ []) (tag_of the_type r₂)
-          → Parsed x (nt n-identifier ∷ []) asItems (Named (tokAt x next.at) kind.Name 0 0) next l₂ l₃ r₂ → Parsed x (nt n-identifier ∷ nt n-path-many-DoubleColon ∷ []) asItems J st l l' r₂
+          → Parsed x (nt n-identifier ∷ []) as_items (Named (tok_at x next.at) kind.Name 0 0) next l₂ l₃ r₂ → Parsed x (nt n-identifier ∷ nt n-path-many-DoubleColon ∷ []) as_items J st l l' r₂
       next-passed c mv k q = then-passed (joined-into v c mv) k (λ τ p h. first-name.off τ p h) q
 
       -- or all are read.
-      pub names-went : (here.class ≡ t.DoubleColon → ⊥) → Went x (nt n-identifier ∷ nt n-path-many-DoubleColon ∷ []) asItems Names st l here l₂ number 0
+      pub names-went : (here.class ≡ t.DoubleColon → ⊥) → Went x (nt n-identifier ∷ nt n-path-many-DoubleColon ∷ []) as_items Names st l here l₂ number 0
       names-went n =
           let q = joined-ends v n in
-          let cls = (tokAt x st.at).class in
+          let cls = (tok_at x st.at).class in
           let name = identifier-class p e in
           let d = then-went first-name q (λ n g. q.info.roles n) in
           let J = raw x st.at d.pre in
           let s : sorts J ≡ word cls ∷ v.w = d.sorted ∙ ap (λ u. word cls ∷ u) q.info.sorted in
           finish d (record {
-            count-is = ap nameCount s ∙ count-name cls v.w name ∙ v.count-is;
+            count_is = ap name_count s ∙ count-name cls v.w name ∙ v.count_is;
             bounded = names-few;
             roles = λ K n h. arranged-names K n h J ∙ d.roles n tt;
             others = λ c h i. ap (sees c) s ∙ paths-others c h i (word cls ∷ v.w) (inr name, v.paths);
-            no-parts = λ ks. ap (counted ks) s ∙ paths-parts ks (word cls ∷ v.w) (inr name, v.paths);
+            no_parts = λ ks. ap (counted ks) s ∙ paths-parts ks (word cls ∷ v.w) (inr name, v.paths);
           })

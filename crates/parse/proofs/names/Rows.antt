@@ -8,19 +8,19 @@ use Rattle.text.specs.Lists.{has}
 use Rattle.theory.specs.Grammar.{Sym, tok, nt, row, look, alt, pick}
 use Rattle.theory.specs.Machine.{choose, expand}
 use Rattle.theory.specs.Ebnf as shape
-use Rattle.theory.specs.Ebnf.{sortOf}
+use Rattle.theory.specs.Ebnf.{sort_of}
 use Rattle.theory.specs.Same.{ex}
 use Rattle.kinds.specs.Families as family
 use Rattle.lexer.specs.Classes as t
-use Rattle.grammar.specs.shapes.Tables.{means, table}
-use Rattle.grammar.specs.shapes.TablesIndex.{n-identifier, n-functionName, n-aliasName, n-path-many-DoubleColon}
+use Rattle.grammar.specs.Shapes.Tables.{means, table}
+use Rattle.grammar.specs.Shapes.TablesIndex.{n-identifier, n-function_name, n-alias_name, n-path-many-DoubleColon}
 use Rattle.own.specs.Tree as own
 use Rattle.own.specs.Tree.{Items, mark, sub}
 use Rattle.own.specs.Kinds as kind
-use Rattle.grammar.specs.records.Records.{Role, aMark, asName, as_number, roleOf, placed, arranged}
-use Rattle.parse.specs.Contract.{nameSort, callees}
+use Rattle.grammar.specs.Records.Records.{Role, aMark, asName, as_number, role_of, placed, arranged}
+use Rattle.parse.specs.Contract.{name_sort, callees}
 use Rattle.parse.specs.Choice as choice
-use Rattle.parse.proofs.rule.ByClass.{run, sweep, beyond, pastClasses}
+use Rattle.parse.proofs.Rule.ByClass.{run, sweep, beyond, past_classes}
 use Rattle.parse.proofs.choice.Checks.{name-past}
 use Rattle.parse.proofs.choice.Chosen.{alone, is-alone, hit, miss, goes}
 
@@ -34,129 +34,129 @@ is-lacking none h = refl
 is-lacking (some l) h = absurd h
 
 -- A test of the classes that pass g, by one computation; none past them passes.
-where-passed : (f g : ℕ → Bool) → T (run (λ c. not (g c) || f c) pastClasses 0) → ((c : ℕ) → pastClasses ≤ c → T (g c) → T (f c)) → (c : ℕ) → T (g c) → T (f c)
-where-passed f g t past c h = go (ltb c pastClasses) refl
+where-passed : (f g : ℕ → Bool) → T (run (λ c. not (g c) || f c) past_classes 0) → ((c : ℕ) → past_classes ≤ c → T (g c) → T (f c)) → (c : ℕ) → T (g c) → T (f c)
+where-passed f g t past c h = go (ltb c past_classes) refl
   where
-    go : (b : Bool) → ltb c pastClasses ≡ b → T (f c)
-    go true e = implied (g c) (f c) (sweep (λ c. not (g c) || f c) t c (ltb-true c pastClasses e)) h
-    go false e = past c (ltb-false c pastClasses e) h
+    go : (b : Bool) → ltb c past_classes ≡ b → T (f c)
+    go true e = implied (g c) (f c) (sweep (λ c. not (g c) || f c) t c (ltb-true c past_classes e)) h
+    go false e = past c (ltb-false c past_classes e) h
 
-no-name-past : (c : ℕ) → pastClasses ≤ c → nameSort c ≡ 0
+no-name-past : (c : ℕ) → past_classes ≤ c → name_sort c ≡ 0
 no-name-past c h = sym (name-past c h)
 
 -- An identifier,
-pub flat-identifier : sortOf (ex means (nt n-identifier)) ≡ shape.flat
-unfolding sortOf ex means
+pub flat-identifier : sort_of (ex means (nt n-identifier)) ≡ shape.flat
+unfolding sort_of ex means
 flat-identifier = refl
 
-is-identifier-test : T (run (λ c. not (not (eqb (nameSort c) 0)) || alone (expand table n-identifier c) c) pastClasses 0)
-unfolding nameSort has choose row look alt pick table
+is-identifier-test : T (run (λ c. not (not (eqb (name_sort c) 0)) || alone (expand table n-identifier c) c) past_classes 0)
+unfolding name_sort has choose row look alt pick table
 is-identifier-test = tt
 
-is-identifier-past : (c : ℕ) → pastClasses ≤ c → T (not (eqb (nameSort c) 0)) → T (alone (expand table n-identifier c) c)
+is-identifier-past : (c : ℕ) → past_classes ≤ c → T (not (eqb (name_sort c) 0)) → T (alone (expand table n-identifier c) c)
 is-identifier-past c h t = absurd (rw (no-name-past c h) at t)
 
-pub is-identifier : (c : ℕ) → (nameSort c ≡ 0 → ⊥) → expand table n-identifier c ≡ some (tok c ∷ [])
-is-identifier c h = is-alone (expand table n-identifier c) c (where-passed (λ c. alone (expand table n-identifier c) c) (λ c. not (eqb (nameSort c) 0)) is-identifier-test is-identifier-past c (rw (ne_eqb (nameSort c) 0 h) tt))
+pub is-identifier : (c : ℕ) → (name_sort c ≡ 0 → ⊥) → expand table n-identifier c ≡ some (tok c ∷ [])
+is-identifier c h = is-alone (expand table n-identifier c) c (where-passed (λ c. alone (expand table n-identifier c) c) (λ c. not (eqb (name_sort c) 0)) is-identifier-test is-identifier-past c (rw (ne_eqb (name_sort c) 0 h) tt))
 
-no-identifier-test : T (run (λ c. not (eqb (nameSort c) 0) || lacking (expand table n-identifier c)) pastClasses 0)
-unfolding nameSort has choose row look alt pick table
+no-identifier-test : T (run (λ c. not (eqb (name_sort c) 0) || lacking (expand table n-identifier c)) past_classes 0)
+unfolding name_sort has choose row look alt pick table
 no-identifier-test = tt
 
-no-identifier-past : (c : ℕ) → pastClasses ≤ c → T (eqb (nameSort c) 0) → T (lacking (expand table n-identifier c))
+no-identifier-past : (c : ℕ) → past_classes ≤ c → T (eqb (name_sort c) 0) → T (lacking (expand table n-identifier c))
 unfolding row alt pick table
 no-identifier-past c h t = rw (beyond n-identifier c h) tt
 
 -- or none.
-pub no-identifier : (c : ℕ) → nameSort c ≡ 0 → expand table n-identifier c ≡ none
-no-identifier c h = is-lacking (expand table n-identifier c) (where-passed (λ c. lacking (expand table n-identifier c)) (λ c. eqb (nameSort c) 0) no-identifier-test no-identifier-past c (rw h tt))
+pub no-identifier : (c : ℕ) → name_sort c ≡ 0 → expand table n-identifier c ≡ none
+no-identifier c h = is-lacking (expand table n-identifier c) (where-passed (λ c. lacking (expand table n-identifier c)) (λ c. eqb (name_sort c) 0) no-identifier-test no-identifier-past c (rw h tt))
 
 -- A function's name,
-pub flat-function-name : sortOf (ex means (nt n-functionName)) ≡ shape.flat
-unfolding sortOf ex means
+pub flat-function-name : sort_of (ex means (nt n-function_name)) ≡ shape.flat
+unfolding sort_of ex means
 flat-function-name = refl
 
-is-function-name-test : T (run (λ c. not (eqb (nameSort c) choice.FunctionName) || alone (expand table n-functionName c) c) pastClasses 0)
-unfolding nameSort has choose row look alt pick table
+is-function-name-test : T (run (λ c. not (eqb (name_sort c) choice.FunctionName) || alone (expand table n-function_name c) c) past_classes 0)
+unfolding name_sort has choose row look alt pick table
 is-function-name-test = tt
 
-is-function-name-past : (c : ℕ) → pastClasses ≤ c → T (eqb (nameSort c) choice.FunctionName) → T (alone (expand table n-functionName c) c)
+is-function-name-past : (c : ℕ) → past_classes ≤ c → T (eqb (name_sort c) choice.FunctionName) → T (alone (expand table n-function_name c) c)
 is-function-name-past c h t = absurd (rw (no-name-past c h) at t)
 
-pub is-function-name : (c : ℕ) → nameSort c ≡ choice.FunctionName → expand table n-functionName c ≡ some (tok c ∷ [])
-is-function-name c h = is-alone (expand table n-functionName c) c (where-passed (λ c. alone (expand table n-functionName c) c) (λ c. eqb (nameSort c) choice.FunctionName) is-function-name-test is-function-name-past c (rw h tt))
+pub is-function-name : (c : ℕ) → name_sort c ≡ choice.FunctionName → expand table n-function_name c ≡ some (tok c ∷ [])
+is-function-name c h = is-alone (expand table n-function_name c) c (where-passed (λ c. alone (expand table n-function_name c) c) (λ c. eqb (name_sort c) choice.FunctionName) is-function-name-test is-function-name-past c (rw h tt))
 
-no-function-name-test : T (run (λ c. not (not (eqb (nameSort c) choice.FunctionName)) || lacking (expand table n-functionName c)) pastClasses 0)
-unfolding nameSort has choose row look alt pick table
+no-function-name-test : T (run (λ c. not (not (eqb (name_sort c) choice.FunctionName)) || lacking (expand table n-function_name c)) past_classes 0)
+unfolding name_sort has choose row look alt pick table
 no-function-name-test = tt
 
-no-function-name-past : (c : ℕ) → pastClasses ≤ c → T (not (eqb (nameSort c) choice.FunctionName)) → T (lacking (expand table n-functionName c))
+no-function-name-past : (c : ℕ) → past_classes ≤ c → T (not (eqb (name_sort c) choice.FunctionName)) → T (lacking (expand table n-function_name c))
 unfolding row alt pick table
-no-function-name-past c h t = rw (beyond n-functionName c h) tt
+no-function-name-past c h t = rw (beyond n-function_name c h) tt
 
 -- or none.
-pub no-function-name : (c : ℕ) → (nameSort c ≡ choice.FunctionName → ⊥) → expand table n-functionName c ≡ none
+pub no-function-name : (c : ℕ) → (name_sort c ≡ choice.FunctionName → ⊥) → expand table n-function_name c ≡ none
 no-function-name c h =
-    is-lacking (expand table n-functionName c)
-    (where-passed (λ c. lacking (expand table n-functionName c)) (λ c. not (eqb (nameSort c) choice.FunctionName)) no-function-name-test no-function-name-past c (rw (ne_eqb (nameSort c) choice.FunctionName h) tt))
+    is-lacking (expand table n-function_name c)
+    (where-passed (λ c. lacking (expand table n-function_name c)) (λ c. not (eqb (name_sort c) choice.FunctionName)) no-function-name-test no-function-name-past c (rw (ne_eqb (name_sort c) choice.FunctionName h) tt))
 
 -- A type item's name,
-pub flat-alias-name : sortOf (ex means (nt n-aliasName)) ≡ shape.flat
-unfolding sortOf ex means
+pub flat-alias-name : sort_of (ex means (nt n-alias_name)) ≡ shape.flat
+unfolding sort_of ex means
 flat-alias-name = refl
 
-abbrev anAlias : ℕ → Bool
-anAlias c = not (eqb (choose table n-aliasName c) 0)
+abbrev an_alias : ℕ → Bool
+an_alias c = not (eqb (choose table n-alias_name c) 0)
 
 -- none past the classes
-no-alias-past : {A : Type 0} (c : ℕ) → pastClasses ≤ c → T (anAlias c) → A
+no-alias-past : {A : Type 0} (c : ℕ) → past_classes ≤ c → T (an_alias c) → A
 unfolding row table
-no-alias-past c h t = absurd (rw (beyond n-aliasName c h) at t)
+no-alias-past c h t = absurd (rw (beyond n-alias_name c h) at t)
 
-is-alias-test : T (run (λ c. not (anAlias c) || alone (expand table n-aliasName c) c) pastClasses 0)
+is-alias-test : T (run (λ c. not (an_alias c) || alone (expand table n-alias_name c) c) past_classes 0)
 unfolding choose row look alt pick table
 is-alias-test = tt
 
-pub is-alias-name : (c : ℕ) → (choose table n-aliasName c ≡ 0 → ⊥) → expand table n-aliasName c ≡ some (tok c ∷ [])
+pub is-alias-name : (c : ℕ) → (choose table n-alias_name c ≡ 0 → ⊥) → expand table n-alias_name c ≡ some (tok c ∷ [])
 is-alias-name c h =
-    is-alone (expand table n-aliasName c) c (where-passed (λ c. alone (expand table n-aliasName c) c) anAlias is-alias-test (λ c h t. no-alias-past c h t) c (rw (ne_eqb (choose table n-aliasName c) 0 h) tt))
+    is-alone (expand table n-alias_name c) c (where-passed (λ c. alone (expand table n-alias_name c) c) an_alias is-alias-test (λ c h t. no-alias-past c h t) c (rw (ne_eqb (choose table n-alias_name c) 0 h) tt))
 
 -- or none.
-pub no-alias-name : (c : ℕ) → choose table n-aliasName c ≡ 0 → expand table n-aliasName c ≡ none
+pub no-alias-name : (c : ℕ) → choose table n-alias_name c ≡ 0 → expand table n-alias_name c ≡ none
 unfolding alt row pick table
-no-alias-name c h = ap (alt table n-aliasName) h
+no-alias-name c h = ap (alt table n-alias_name) h
 
-no-alias-end : choose table n-aliasName 0 ≡ 0
+no-alias-end : choose table n-alias_name 0 ≡ 0
 unfolding choose row look table
 no-alias-end = refl
 
-pub alias-pos : (c : ℕ) → (choose table n-aliasName c ≡ 0 → ⊥) → 0 < c
+pub alias-pos : (c : ℕ) → (choose table n-alias_name c ≡ 0 → ⊥) → 0 < c
 alias-pos zero h = absurd (h no-alias-end)
 alias-pos (suc c) h = omega arith
 
-alias-identifier-test : T (run (λ c. not (anAlias c) || has t.identifiers c) pastClasses 0)
+alias-identifier-test : T (run (λ c. not (an_alias c) || has t.identifiers c) past_classes 0)
 unfolding has choose row look table
 alias-identifier-test = tt
 
 -- A class that the table has as a type item's name is an identifier's.
-pub expanded-alias-name : (c : ℕ) {rhs : List Sym} → expand table n-aliasName c ≡ some rhs → has t.identifiers c ≡ true
+pub expanded-alias-name : (c : ℕ) {rhs : List Sym} → expand table n-alias_name c ≡ some rhs → has t.identifiers c ≡ true
 expanded-alias-name c e =
     is_true (has t.identifiers c)
-    (where-passed (has t.identifiers) anAlias alias-identifier-test (λ c h t. no-alias-past c h t) c (rw (ne_eqb (choose table n-aliasName c) 0 (λ z. differ (sym (ap lacking (sym (no-alias-name c z) ∙ e))))) tt))
+    (where-passed (has t.identifiers) an_alias alias-identifier-test (λ c h t. no-alias-past c h t) c (rw (ne_eqb (choose table n-alias_name c) 0 (λ z. differ (sym (ap lacking (sym (no-alias-name c z) ∙ e))))) tt))
 
-sort-identifier-test : T (run (λ c. not (not (eqb (nameSort c) 0)) || has t.identifiers c) pastClasses 0)
-unfolding nameSort has
+sort-identifier-test : T (run (λ c. not (not (eqb (name_sort c) 0)) || has t.identifiers c) past_classes 0)
+unfolding name_sort has
 sort-identifier-test = tt
 
-sort-identifier-past : (c : ℕ) → pastClasses ≤ c → T (not (eqb (nameSort c) 0)) → T (has t.identifiers c)
+sort-identifier-past : (c : ℕ) → past_classes ≤ c → T (not (eqb (name_sort c) 0)) → T (has t.identifiers c)
 sort-identifier-past c h t = absurd (rw (no-name-past c h) at t)
 
--- The names that `nameSort` tells are the identifiers.
-pub sort-identifier : (c : ℕ) → (nameSort c ≡ 0 → ⊥) → has t.identifiers c ≡ true
-sort-identifier c h = is_true (has t.identifiers c) (where-passed (λ c. has t.identifiers c) (λ c. not (eqb (nameSort c) 0)) sort-identifier-test sort-identifier-past c (rw (ne_eqb (nameSort c) 0 h) tt))
+-- The names that `name_sort` tells are the identifiers.
+pub sort-identifier : (c : ℕ) → (name_sort c ≡ 0 → ⊥) → has t.identifiers c ≡ true
+sort-identifier c h = is_true (has t.identifiers c) (where-passed (λ c. has t.identifiers c) (λ c. not (eqb (name_sort c) 0)) sort-identifier-test sort-identifier-past c (rw (ne_eqb (name_sort c) 0 h) tt))
 
-no_end : nameSort 0 ≡ 0
-unfolding nameSort has
+no_end : name_sort 0 ≡ 0
+unfolding name_sort has
 no_end = refl
 
 -- A class that the table has as an identifier is one.
@@ -167,8 +167,8 @@ expanded-identifier c e = sort-identifier c (λ z. none-some (sym (no-identifier
     none-some p = differ (sym (ap lacking p))
 
 -- After a name: `::` and one more, or nothing.
-pub flat-more : sortOf (ex means (nt n-path-many-DoubleColon)) ≡ shape.flat
-unfolding sortOf ex means
+pub flat-more : sort_of (ex means (nt n-path-many-DoubleColon)) ≡ shape.flat
+unfolding sort_of ex means
 flat-more = refl
 
 pub more-names : (c : ℕ) → c ≡ t.DoubleColon → expand table n-path-many-DoubleColon c ≡ some (tok t.DoubleColon ∷ nt n-identifier ∷ nt n-path-many-DoubleColon ∷ [])
@@ -180,12 +180,12 @@ unfolding choose row look alt pick table
 no-more-names c h = goes n-path-many-DoubleColon 1 c (miss t.DoubleColon 2 [] 1 h refl) refl
 
 -- The end is no name.
-pub name-pos : (c : ℕ) → (nameSort c ≡ 0 → ⊥) → 0 < c
+pub name-pos : (c : ℕ) → (name_sort c ≡ 0 → ⊥) → 0 < c
 name-pos zero h = absurd (h no_end)
 name-pos (suc c) h = omega arith
 
-other-sort : (c : ℕ) → has t.functionNames c ≡ false → nameSort c ≡ choice.FunctionName → ⊥
-unfolding nameSort
+other-sort : (c : ℕ) → has t.function_names c ≡ false → name_sort c ≡ choice.FunctionName → ⊥
+unfolding name_sort
 other-sort c q e = go (has t.identifiers c) (sym (ap (λ (b : Bool). cond b choice.FunctionName (cond (has t.identifiers c) choice.ReservedName 0)) q) ∙ e)
   where
     go : (b : Bool) → ◌≡◌ {A = ℕ} (cond b choice.ReservedName 0) choice.FunctionName → ⊥
@@ -193,36 +193,36 @@ other-sort c q e = go (has t.identifiers c) (sym (ap (λ (b : Bool). cond b choi
     go false e = omega arith
 
 -- A class that the table has as a function's name is one.
-pub expanded-function-name : (c : ℕ) {rhs : List Sym} → expand table n-functionName c ≡ some rhs → has t.functionNames c ≡ true
-expanded-function-name c {rhs} e = go (has t.functionNames c) refl
+pub expanded-function-name : (c : ℕ) {rhs : List Sym} → expand table n-function_name c ≡ some rhs → has t.function_names c ≡ true
+expanded-function-name c {rhs} e = go (has t.function_names c) refl
   where
     none-some : {l : List Sym} → ◌≡◌ {A = Option (List Sym)} none (some l) → ⊥
     none-some p = differ (sym (ap lacking p))
 
-    go : (b : Bool) → has t.functionNames c ≡ b → has t.functionNames c ≡ true
+    go : (b : Bool) → has t.function_names c ≡ b → has t.function_names c ≡ true
     go true q = q
     go false q = absurd (none-some (sym (no-function-name c (other-sort c q)) ∙ e))
 
 -- In a function, a parameter, an enum construction and an enum arm every name is a record.
-pub role-named : (K c : ℕ) → has family.namesKept K ≡ true → roleOf K c ≡ cond (has t.identifiers c) asName aMark
-unfolding roleOf
+pub role-named : (K c : ℕ) → has family.names_kept K ≡ true → role_of K c ≡ cond (has t.identifiers c) asName aMark
+unfolding role_of
 role-named K c h = λ i. cond (h i) (cond (has t.identifiers c) asName aMark) (cond (eqb K kind.Call) (cond (has callees c) asName (cond (eqb c t.DecLiteral) as_number aMark)) aMark)
 
-pub name-role : (K c : ℕ) → has family.namesKept K ≡ true → has t.identifiers c ≡ true → roleOf K c ≡ asName
+pub name-role : (K c : ℕ) → has family.names_kept K ≡ true → has t.identifiers c ≡ true → role_of K c ≡ asName
 name-role K c h e = role-named K c h ∙ ap (λ (b : Bool). cond b asName aMark) e
 
 -- So such records differ in no token.
-pub arranged-names : (K n : ℕ) → has family.namesKept K ≡ true → (is : Items) → arranged K n is ≡ arranged kind.EnumConstruction n is
+pub arranged-names : (K n : ℕ) → has family.names_kept K ≡ true → (is : Items) → arranged K n is ≡ arranged kind.EnumConstruction n is
 unfolding arranged has
 arranged-names K n h own.none = refl
 arranged-names K n h (mark t r) = ap₂ (λ (ρ : Role) (u : Items). placed ρ n t u) (role-named K t.class h ∙ sym (role-named kind.EnumConstruction t.class refl)) (arranged-names K n h r)
 arranged-names K n h (sub k l i js r) = ap (sub k l i js) (arranged-names K n h r)
 
 -- In a call a function's name is one.
-pub call-role : (c : ℕ) → has t.functionNames c ≡ true → roleOf kind.Call c ≡ asName
-unfolding roleOf has
+pub call-role : (c : ℕ) → has t.function_names c ≡ true → role_of kind.Call c ≡ asName
+unfolding role_of has
 call-role c e = go (eqb t.Jet c) refl
   where
-    go : (b : Bool) → eqb t.Jet c ≡ b → roleOf kind.Call c ≡ asName
+    go : (b : Bool) → eqb t.Jet c ≡ b → role_of kind.Call c ≡ asName
     go true q = rw q refl
     go false q = rw (q, e) refl

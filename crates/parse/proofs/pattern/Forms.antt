@@ -9,46 +9,46 @@ use Rattle.lexer.specs.Classes as t
 use Rattle.theory.specs.Grammar.{Sym, tok, nt, on, look, row, alt, pick}
 use Rattle.theory.specs.Machine.{choose, expand}
 use Rattle.theory.specs.Ebnf as shape
-use Rattle.theory.specs.Ebnf.{sortOf, kindsOf}
+use Rattle.theory.specs.Ebnf.{sort_of, kinds_of}
 use Rattle.theory.specs.Same.{ex}
 use Rattle.own.specs.Tree.{Tok}
 use Rattle.own.specs.Law.{Sort, word}
 use Rattle.own.specs.Kinds as kind
-use Rattle.grammar.specs.shapes.Shapes.{shapes}
-use Rattle.grammar.specs.shapes.Tables.{means, table}
-use Rattle.grammar.specs.records.Records.{Head, head, plain, head_of, form_of, patternName, text_of, firstTok, opening, aMark, roleOf}
-use Rattle.grammar.specs.shapes.ShapeKind.{ArrayPatternShape, NamePatternShape, TuplePatternShape}
-use Rattle.grammar.specs.shapes.TablesIndex.{n-identifier, n-list-pattern, n-pattern, n-tail-pattern}
-use Rattle.parse.specs.Contract.{Text, text, tokAt, Stands}
+use Rattle.grammar.specs.Shapes.Shapes.{shapes}
+use Rattle.grammar.specs.Shapes.Tables.{means, table}
+use Rattle.grammar.specs.Records.Records.{Head, head, plain, head_of, form_of, pattern_name_head, text_of, first_tok, opening, aMark, role_of}
+use Rattle.grammar.specs.Shapes.ShapeKind.{ArrayPatternShape, NamePatternShape, TuplePatternShape}
+use Rattle.grammar.specs.Shapes.TablesIndex.{n-identifier, n-list-pattern, n-pattern, n-tail-pattern}
+use Rattle.parse.specs.Contract.{Text, text, tok_at, Stands}
 use Rattle.parse.specs.declared.State.{State}
 use Rattle.parse.specs.Choice as choice
 use Rattle.parse.proofs.choice.Chosen.{where-chosen, alone, is-alone, hit, miss, goes}
-use Rattle.parse.proofs.rule.Marks.{keeping, keeping-mark, keeps-between}
-use Rattle.parse.proofs.rule.Amid.{Amid}
-use Rattle.parse.proofs.rule.Steps.{decided}
-use Rattle.parse.proofs.rule.Closing.{Rule}
-use Rattle.parse.proofs.rule.Commas.{Rows}
+use Rattle.parse.proofs.Rule.Marks.{keeping, keeping-mark, keeps-between}
+use Rattle.parse.proofs.Rule.Amid.{Amid}
+use Rattle.parse.proofs.Rule.Steps.{decided}
+use Rattle.parse.proofs.Rule.Closing.{Rule}
+use Rattle.parse.proofs.Rule.Commas.{Rows}
 
 -- The rules of patterns.
-abbrev pub namedRhs : List Sym
-namedRhs = nt n-identifier ∷ []
+abbrev pub named_rhs : List Sym
+named_rhs = nt n-identifier ∷ []
 
-abbrev pub tupleRhs : List Sym
-tupleRhs = tok t.LParen ∷ nt n-list-pattern ∷ tok t.RParen ∷ []
+abbrev pub tuple_rhs : List Sym
+tuple_rhs = tok t.LParen ∷ nt n-list-pattern ∷ tok t.RParen ∷ []
 
-abbrev pub arrayRhs : List Sym
-arrayRhs = tok t.LBracket ∷ nt n-list-pattern ∷ tok t.RBracket ∷ []
+abbrev pub array_rhs : List Sym
+array_rhs = tok t.LBracket ∷ nt n-list-pattern ∷ tok t.RBracket ∷ []
 
-pub named_rule : Rule n-pattern choice.NamePattern NamePatternShape namedRhs
-unfolding ex means kindsOf shapes row table alt pick
+pub named_rule : Rule n-pattern choice.NamePattern NamePatternShape named_rhs
+unfolding ex means kinds_of shapes row table alt pick
 named_rule = record { category = refl; from_one = refl; kind = refl; rule = refl }
 
-pub tuple-rule : Rule n-pattern choice.TuplePattern TuplePatternShape tupleRhs
-unfolding ex means kindsOf shapes row table alt pick
+pub tuple-rule : Rule n-pattern choice.TuplePattern TuplePatternShape tuple_rhs
+unfolding ex means kinds_of shapes row table alt pick
 tuple-rule = record { category = refl; from_one = refl; kind = refl; rule = refl }
 
-pub array-rule : Rule n-pattern choice.ArrayPattern ArrayPatternShape arrayRhs
-unfolding ex means kindsOf shapes row table alt pick
+pub array-rule : Rule n-pattern choice.ArrayPattern ArrayPatternShape array_rhs
+unfolding ex means kinds_of shapes row table alt pick
 array-rule = record { category = refl; from_one = refl; kind = refl; rule = refl }
 
 -- The tokens that they begin with.
@@ -69,8 +69,8 @@ module _ (c : ℕ) where
   unfolding choose row table look
   at-array e = eqb→eq c t.LBracket (where-chosen n-pattern choice.ArrayPattern (λ a. eqb a t.LBracket) tt tt c e)
 
-pub flat-named : sortOf (ex means (nt n-identifier)) ≡ shape.flat
-unfolding sortOf ex means
+pub flat-named : sort_of (ex means (nt n-identifier)) ≡ shape.flat
+unfolding sort_of ex means
 flat-named = refl
 
 -- No pattern begins with another class.
@@ -127,9 +127,9 @@ unfolding look
 both-more c h = miss t.RParen 1 (on t.RBracket 1 ∷ []) 2 (closes-not c t.RParen h (inl refl)) (miss t.RBracket 1 [] 2 (closes-not c t.RBracket h (inr refl)) refl)
 
 pub pattern-rows : Rows n-list-pattern n-tail-pattern n-pattern Closes
-unfolding sortOf ex means choose row table look alt pick
+unfolding sort_of ex means choose row table look alt pick
 pattern-rows = record {
-  flat-list = refl;
+  flat_list = refl;
   flat_tail = refl;
   ends = λ c h. goes n-list-pattern 1 c (both_ends c h) refl;
   more = λ c h. goes n-list-pattern 2 c (both-more c h) refl;
@@ -147,22 +147,22 @@ module _ {x : Text} {K : ℕ} {N : ℕ → Type 0} {full left : List Sym} {st : 
   unfolding head_of form_of
   array_head d = refl
 
-name-kind : (p : List ℕ) (c : ℕ) → ((patternName p c).kind ≡ kind.IgnorePattern) ⊎ ((patternName p c).kind ≡ kind.IdentifierPattern)
-unfolding patternName
+name-kind : (p : List ℕ) (c : ℕ) → ((pattern_name_head p c).kind ≡ kind.IgnorePattern) ⊎ ((pattern_name_head p c).kind ≡ kind.IdentifierPattern)
+unfolding pattern_name_head
 name-kind p c = go (eqb c t.Ident && same p (ascii "_"))
   where
     go : (b : Bool) → ((cond b (plain kind.IgnorePattern) (plain kind.IdentifierPattern)).kind ≡ kind.IgnorePattern) ⊎ ((cond b (plain kind.IgnorePattern) (plain kind.IdentifierPattern)).kind ≡ kind.IdentifierPattern)
     go true = inl refl
     go false = inr refl
 
-module _ {k : ℕ} (p : List ℕ) (c : ℕ) (e : plain k ≡ patternName p c) where
+module _ {k : ℕ} (p : List ℕ) (c : ℕ) (e : plain k ≡ pattern_name_head p c) where
   kind-is : (kind.IdentifierPattern ≤ k) × (k ≤ kind.IgnorePattern)
   kind-is = go (name-kind p c)
     where
-      f : k ≡ (patternName p c).kind
+      f : k ≡ (pattern_name_head p c).kind
       f = ap (λ (u : Head). u.kind) e
 
-      go : ((patternName p c).kind ≡ kind.IgnorePattern) ⊎ ((patternName p c).kind ≡ kind.IdentifierPattern) → (kind.IdentifierPattern ≤ k) × (k ≤ kind.IgnorePattern)
+      go : ((pattern_name_head p c).kind ≡ kind.IgnorePattern) ⊎ ((pattern_name_head p c).kind ≡ kind.IdentifierPattern) → (kind.IdentifierPattern ≤ k) × (k ≤ kind.IgnorePattern)
       go (inl g) = (omega (arith, f, g), omega (arith, f, g))
       go (inr g) = (omega (arith, f, g), omega (arith, f, g))
 
@@ -175,12 +175,12 @@ module _ {k : ℕ} (p : List ℕ) (c : ℕ) (e : plain k ≡ patternName p c) wh
   keeping-kind : T (keeping k)
   keeping-kind = keeps-between kind.IdentifierPattern kind.IgnorePattern k tt kind-is.0 kind-is.1
 
-  pub named-role : (d : ℕ) → roleOf k d ≡ aMark
+  pub named-role : (d : ℕ) → role_of k d ≡ aMark
   named-role d = keeping-mark k d keeping-kind
 
-pub named-head : (d w : List ℕ) (n : ℕ) {st : State} (r : State) {k : ℕ} → Stands (text d w n) st → r.at ≡ st.at → plain k ≡ patternName (part_of d st.start st.stop) st.class
-    → decided (text d w n) NamePatternShape (word st.class ∷ []) (tokAt (text d w n) r.at ∷ []) ≡ head k 0 0
-unfolding head_of form_of opening text_of firstTok text
+pub named-head : (d w : List ℕ) (n : ℕ) {st : State} (r : State) {k : ℕ} → Stands (text d w n) st → r.at ≡ st.at → plain k ≡ pattern_name_head (part_of d st.start st.stop) st.class
+    → decided (text d w n) NamePatternShape (word st.class ∷ []) (tok_at (text d w n) r.at ∷ []) ≡ head k 0 0
+unfolding head_of form_of opening text_of first_tok text
 named-head d w n {st} r s a e =
-    ap (λ (i : ℕ). patternName (part_of d (tokAt (text d w n) i).start (tokAt (text d w n) i).stop) st.class) a
-    ∙ ap₂ (λ (i j : ℕ). patternName (part_of d i j) st.class) (sym s.start_is) (sym s.stop_is) ∙ sym e
+    ap (λ (i : ℕ). pattern_name_head (part_of d (tok_at (text d w n) i).start (tok_at (text d w n) i).stop) st.class) a
+    ∙ ap₂ (λ (i j : ℕ). pattern_name_head (part_of d i j) st.class) (sym s.start_is) (sym s.stop_is) ∙ sym e

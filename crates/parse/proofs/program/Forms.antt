@@ -10,58 +10,58 @@ use Rattle.text.specs.Lists.{has}
 use Rattle.theory.specs.Grammar.{Sym, tok, nt, on, look, row, alt, pick}
 use Rattle.theory.specs.Machine.{choose, expand}
 use Rattle.theory.specs.Ebnf as shape
-use Rattle.theory.specs.Ebnf.{sortOf, kindsOf}
+use Rattle.theory.specs.Ebnf.{sort_of, kinds_of}
 use Rattle.theory.specs.Same.{ex}
-use Rattle.theory.specs.Walk.{n-tok, n-flat, n-sub, k-tok, k-nt, k-eat, k-in}
+use Rattle.theory.specs.Walk.{n-tok, n-flat, n-sub, k_tok, k_nt, k_eat, k_in}
 use Rattle.own.specs.Tree.{Tok, marks}
 use Rattle.own.specs.Law.{Sort, word, child, sorts}
 use Rattle.own.specs.Kinds as kind
 use Rattle.kinds.specs.Fields.{counted}
 use Rattle.kinds.specs.Families as family
 use Rattle.lexer.specs.Classes as t
-use Rattle.grammar.specs.shapes.Shapes.{shapes}
-use Rattle.grammar.specs.shapes.Tables.{means, table}
-use Rattle.grammar.specs.records.Records.{head, sees, head_of, form_of, functionHead}
-use Rattle.grammar.specs.records.Faults.{Fault}
-use Rattle.grammar.specs.shapes.ShapeKind.{FunctionShape, ParameterShape}
-use Rattle.grammar.specs.shapes.TablesIndex.{n-block, n-function, n-function-optional-Arrow, n-function-optional-Pub, n-functionName, n-identifier, n-list-parameter, n-parameter, n-tail-parameter, n-type}
+use Rattle.grammar.specs.Shapes.Shapes.{shapes}
+use Rattle.grammar.specs.Shapes.Tables.{means, table}
+use Rattle.grammar.specs.Records.Records.{head, sees, head_of, form_of, function_head}
+use Rattle.grammar.specs.Records.Faults.{Fault}
+use Rattle.grammar.specs.Shapes.ShapeKind.{FunctionShape, ParameterShape}
+use Rattle.grammar.specs.Shapes.TablesIndex.{n-block, n-function, n-function-optional-Arrow, n-function-optional-Pub, n-function_name, n-identifier, n-list-parameter, n-parameter, n-tail-parameter, n-type}
 use Rattle.parse.specs.contracts.Step.{the_type}
-use Rattle.parse.specs.Contract.{Text, classes, nameSort, Read, Stuck, raw, Ready, Near, Info, asItems, Went, Parsed, read, stuck, Only, TypeKind, ExprKind, u32Count}
+use Rattle.parse.specs.Contract.{Text, classes, name_sort, Read, Stuck, raw, Ready, Near, Info, as_items, Went, Parsed, read, stuck, Only, TypeKind, ExprKind, u32_count}
 use Rattle.parse.specs.Infos.{Optional, Parameters}
 use Rattle.parse.specs.declared.State.{State}
 use Rattle.parse.specs.declared.Step.{Step}
 use Rattle.parse.specs.declared.Step.TheVariants.{Next}
 use Rattle.parse.specs.Choice as choice
-use Rattle.parse.proofs.rule.ByClass.{run, sweep, beyond, has-past, pastClasses}
+use Rattle.parse.proofs.Rule.ByClass.{run, sweep, beyond, has-past, past_classes}
 use Rattle.parse.proofs.choice.Chosen.{hit, miss, goes}
-use Rattle.parse.proofs.rule.Marks.{sign, sign-mark}
+use Rattle.parse.proofs.Rule.Marks.{sign, sign-mark}
 use Rattle.parse.proofs.names.Rows.{sort-identifier}
-use Rattle.parse.proofs.rule.Amid.{Amid, then-went, went}
-use Rattle.parse.proofs.rule.Steps.{decided}
-use Rattle.parse.proofs.rule.Closing.{Opened, Rule, enters}
-use Rattle.parse.proofs.rule.Commas.{AnyN, Rows, arranged-zero, arranged-only, comma-mark, finish}
-use Rattle.parse.proofs.rule.Pieces.{sees-append, counted-append}
+use Rattle.parse.proofs.Rule.Amid.{Amid, then-went, went}
+use Rattle.parse.proofs.Rule.Steps.{decided}
+use Rattle.parse.proofs.Rule.Closing.{Opened, Rule, enters}
+use Rattle.parse.proofs.Rule.Commas.{AnyN, Rows, arranged-zero, arranged-only, comma-mark, finish}
+use Rattle.parse.proofs.Rule.Pieces.{sees-append, counted-append}
 
 -- The rules of a function and of a parameter.
-abbrev pub functionRhs : List Sym
-functionRhs = nt n-function-optional-Pub ∷ tok t.Fn ∷ nt n-functionName ∷ tok t.LParen ∷ nt n-list-parameter ∷ tok t.RParen ∷ nt n-function-optional-Arrow ∷ nt n-block ∷ []
+abbrev pub function_rhs : List Sym
+function_rhs = nt n-function-optional-Pub ∷ tok t.Fn ∷ nt n-function_name ∷ tok t.LParen ∷ nt n-list-parameter ∷ tok t.RParen ∷ nt n-function-optional-Arrow ∷ nt n-block ∷ []
 
-abbrev pub parameterRhs : List Sym
-parameterRhs = nt n-identifier ∷ tok t.Colon ∷ nt n-type ∷ []
+abbrev pub parameter_rhs : List Sym
+parameter_rhs = nt n-identifier ∷ tok t.Colon ∷ nt n-type ∷ []
 
-pub function-rule : Rule n-function 1 FunctionShape functionRhs
-unfolding ex means kindsOf shapes row table alt pick
+pub function-rule : Rule n-function 1 FunctionShape function_rhs
+unfolding ex means kinds_of shapes row table alt pick
 function-rule = record { category = refl; from_one = refl; kind = refl; rule = refl }
 
-pub parameter-rule : Rule n-parameter 1 ParameterShape parameterRhs
-unfolding ex means kindsOf shapes row table alt pick
+pub parameter-rule : Rule n-parameter 1 ParameterShape parameter_rhs
+unfolding ex means kinds_of shapes row table alt pick
 parameter-rule = record { category = refl; from_one = refl; kind = refl; rule = refl }
 
 -- The rows of a list of parameters.
 pub parameter-rows : Rows n-list-parameter n-tail-parameter n-parameter (λ c. c ≡ t.RParen)
-unfolding sortOf ex means choose row table look alt pick
+unfolding sort_of ex means choose row table look alt pick
 parameter-rows = record {
-  flat-list = refl;
+  flat_list = refl;
   flat_tail = refl;
   ends = λ c h. goes n-list-parameter 1 c (hit t.RParen 1 [] 2 h) refl;
   more = λ c h. goes n-list-parameter 2 c (miss t.RParen 1 [] 2 h refl) refl;
@@ -70,12 +70,12 @@ parameter-rows = record {
 }
 
 -- What may stand before `fn` and after `)`.
-pub flat-public : sortOf (ex means (nt n-function-optional-Pub)) ≡ shape.flat
-unfolding sortOf ex means
+pub flat-public : sort_of (ex means (nt n-function-optional-Pub)) ≡ shape.flat
+unfolding sort_of ex means
 flat-public = refl
 
-pub flat-arrow : sortOf (ex means (nt n-function-optional-Arrow)) ≡ shape.flat
-unfolding sortOf ex means
+pub flat-arrow : sort_of (ex means (nt n-function-optional-Arrow)) ≡ shape.flat
+unfolding sort_of ex means
 flat-arrow = refl
 
 module _ {a : ℕ} where
@@ -97,43 +97,43 @@ module _ {a : ℕ} where
 
 -- A parameter begins with an identifier, and with nothing else.
 
-is-test : T (run (λ c. not (has t.identifiers c) || eqb (choose table n-parameter c) 1) pastClasses 0)
+is-test : T (run (λ c. not (has t.identifiers c) || eqb (choose table n-parameter c) 1) past_classes 0)
 unfolding has choose row look table
 is-test = tt
 
 pub at-parameter : (c : ℕ) → has t.identifiers c ≡ true → choose table n-parameter c ≡ 1
-at-parameter c e = go (ltb c pastClasses) refl
+at-parameter c e = go (ltb c past_classes) refl
   where
-    go : (b : Bool) → ltb c pastClasses ≡ b → choose table n-parameter c ≡ 1
-    go true h = eqb→eq (choose table n-parameter c) 1 (implied (has t.identifiers c) (eqb (choose table n-parameter c) 1) (sweep (λ c. not (has t.identifiers c) || eqb (choose table n-parameter c) 1) is-test c (ltb-true c pastClasses h)) (rw e tt))
-    go false h = absurd (differ (sym (has-past t.identifiers c tt (ltb-false c pastClasses h)) ∙ e))
+    go : (b : Bool) → ltb c past_classes ≡ b → choose table n-parameter c ≡ 1
+    go true h = eqb→eq (choose table n-parameter c) 1 (implied (has t.identifiers c) (eqb (choose table n-parameter c) 1) (sweep (λ c. not (has t.identifiers c) || eqb (choose table n-parameter c) 1) is-test c (ltb-true c past_classes h)) (rw e tt))
+    go false h = absurd (differ (sym (has-past t.identifiers c tt (ltb-false c past_classes h)) ∙ e))
 
-either-test : T (run (λ c. eqb (choose table n-parameter c) 1 || (eqb (choose table n-parameter c) 0 || false)) pastClasses 0)
+either-test : T (run (λ c. eqb (choose table n-parameter c) 1 || (eqb (choose table n-parameter c) 0 || false)) past_classes 0)
 unfolding choose row look table
 either-test = tt
 
-lacks-test : T (run (λ c. not (eqb (choose table n-parameter c) 0) || eqb (choose table n-identifier c) 0) pastClasses 0)
+lacks-test : T (run (λ c. not (eqb (choose table n-parameter c) 0) || eqb (choose table n-identifier c) 0) past_classes 0)
 unfolding choose row look table
 lacks-test = tt
 
 -- Where a parameter begins or the table has nothing, neither for it nor for an identifier.
 pub parameter-or : (c : ℕ) → (choose table n-parameter c ≡ 1) ⊎ ((expand table n-parameter c ≡ none) × (expand table n-identifier c ≡ none))
 unfolding row table alt pick
-parameter-or c = go (ltb c pastClasses) refl
+parameter-or c = go (ltb c past_classes) refl
   where
     lacks : choose table n-parameter c ≡ 0 → choose table n-identifier c ≡ 0 → (choose table n-parameter c ≡ 1) ⊎ ((expand table n-parameter c ≡ none) × (expand table n-identifier c ≡ none))
     lacks e f = inr (ap (alt table n-parameter) e, ap (alt table n-identifier) f)
 
-    low : c < pastClasses → (b d : Bool) → eqb (choose table n-parameter c) 1 ≡ b → eqb (choose table n-parameter c) 0 ≡ d → T (b || (d || false)) → (choose table n-parameter c ≡ 1) ⊎ ((expand table n-parameter c ≡ none) × (expand table n-identifier c ≡ none))
+    low : c < past_classes → (b d : Bool) → eqb (choose table n-parameter c) 1 ≡ b → eqb (choose table n-parameter c) 0 ≡ d → T (b || (d || false)) → (choose table n-parameter c ≡ 1) ⊎ ((expand table n-parameter c ≡ none) × (expand table n-identifier c ≡ none))
     low l true d e f h = inl (eqb→eq (choose table n-parameter c) 1 (rw e tt))
     low l false true e f h =
         lacks (eqb→eq (choose table n-parameter c) 0 (rw f tt))
         (eqb→eq (choose table n-identifier c) 0 (implied (eqb (choose table n-parameter c) 0) (eqb (choose table n-identifier c) 0) (sweep (λ c. not (eqb (choose table n-parameter c) 0) || eqb (choose table n-identifier c) 0) lacks-test c l) (rw f tt)))
     low l false false e f h = absurd h
 
-    go : (b : Bool) → ltb c pastClasses ≡ b → (choose table n-parameter c ≡ 1) ⊎ ((expand table n-parameter c ≡ none) × (expand table n-identifier c ≡ none))
-    go true h = low (ltb-true c pastClasses h) (eqb (choose table n-parameter c) 1) (eqb (choose table n-parameter c) 0) refl refl (sweep (λ c. eqb (choose table n-parameter c) 1 || (eqb (choose table n-parameter c) 0 || false)) either-test c (ltb-true c pastClasses h))
-    go false h = lacks (beyond n-parameter c (ltb-false c pastClasses h)) (beyond n-identifier c (ltb-false c pastClasses h))
+    go : (b : Bool) → ltb c past_classes ≡ b → (choose table n-parameter c ≡ 1) ⊎ ((expand table n-parameter c ≡ none) × (expand table n-identifier c ≡ none))
+    go true h = low (ltb-true c past_classes h) (eqb (choose table n-parameter c) 1) (eqb (choose table n-parameter c) 0) refl refl (sweep (λ c. eqb (choose table n-parameter c) 1 || (eqb (choose table n-parameter c) 0 || false)) either-test c (ltb-true c past_classes h))
+    go false h = lacks (beyond n-parameter c (ltb-false c past_classes h)) (beyond n-identifier c (ltb-false c past_classes h))
 
 abbrev lacking : Option (List Sym) → Bool
 lacking none = true
@@ -141,8 +141,8 @@ lacking (some l) = false
 
 -- Where the table has nothing for a nonterminal, it is stuck there.
 stuck-here : (x : Text) {A : ℕ} {τ : List Sym} {at p : ℕ} → expand table A (get_or (classes x) at 0) ≡ none → Stuck x (nt A ∷ τ) at p → p ≡ at
-stuck-here x e (k-nt f) = refl
-stuck-here x e (k-in f h) = absurd (differ (sym (ap lacking (sym e ∙ f))))
+stuck-here x e (k_nt f) = refl
+stuck-here x e (k_in f h) = absurd (differ (sym (ap lacking (sym e ∙ f))))
 
 -- A parameter is refused where its name is.
 pub parameter-passed : {x : Text} {st r : State} {F : Option Fault} {wrap wrap' : shape.Items → shape.Items} {I J : Info} {l l₁ l₀ l' : List ℕ} {s : Step} → Ready x st → Opened x st r F
@@ -151,17 +151,17 @@ parameter-passed y o k (read h) = absurd (omega arith)
 parameter-passed {x} {st} {r} y o k (stuck {p = p} h g) = stuck h (λ τ. go τ (parameter-or st.class))
   where
     cls : get_or (classes x) st.at 0 ≡ st.class
-    cls = sym y.stands.class-is
+    cls = sym y.stands.class_is
 
     go : (τ : List Sym) → (choose table n-parameter st.class ≡ 1) ⊎ ((expand table n-parameter st.class ≡ none) × (expand table n-identifier st.class ≡ none)) → Stuck x (nt n-parameter ∷ τ) st.at p
     go τ (inl e) = enters parameter-rule y e o τ p (g (tok t.Colon ∷ nt n-type ∷ τ))
     go τ (inr e) =
-        let here : Stuck x (nt n-identifier ∷ τ) st.at p = subst (λ i. Stuck x (nt n-identifier ∷ τ) i p) o.at-is (g τ) in
-        subst (λ q. Stuck x (nt n-parameter ∷ τ) st.at q) (sym (stuck-here x (ap (expand table n-identifier) cls ∙ e.1) here)) (k-nt (ap (expand table n-parameter) cls ∙ e.0))
+        let here : Stuck x (nt n-identifier ∷ τ) st.at p = subst (λ i. Stuck x (nt n-identifier ∷ τ) i p) o.at_is (g τ) in
+        subst (λ q. Stuck x (nt n-parameter ∷ τ) st.at q) (sym (stuck-here x (ap (expand table n-identifier) cls ∙ e.1) here)) (k_nt (ap (expand table n-parameter) cls ∙ e.0))
 
 -- The state with a record reserved is near.
 pub opened-near : {x : Text} {st r : State} {F : Option Fault} → Ready x st → Opened x st r F → Near x r
-opened-near y o = record { stands = o.stands; short = y.short; few = omega (arith, o.out-is, o.at-is, y.few) }
+opened-near y o = record { stands = o.stands; short = y.short; few = omega (arith, o.out_is, o.at_is, y.few) }
 
 -- The head of a parameter.
 pub parameter-head : {x : Text} {K : ℕ} {N : ℕ → Type 0} {full left : List Sym} {st : State} {l : List ℕ} {w : List Sort} {ms : List Tok} {m : ℕ} {st₁ : State} {l₁ : List ℕ}
@@ -169,11 +169,11 @@ pub parameter-head : {x : Text} {K : ℕ} {N : ℕ → Type 0} {full left : List
 unfolding head_of form_of
 parameter-head d = refl
 
-pub named-parameter : has family.namesKept kind.Parameter ≡ true
+pub named-parameter : has family.names_kept kind.Parameter ≡ true
 unfolding has
 named-parameter = refl
 
-pub named-function : has family.namesKept kind.Function ≡ true
+pub named-function : has family.names_kept kind.Function ≡ true
 unfolding has
 named-function = refl
 
@@ -212,7 +212,7 @@ only-others c d n (word a ∷ w) o = ap₂ (λ (a b : Bool). a || b) (ne_eqb a d
 only-others c d n (child k l h a ∷ w) o = only-others c d n w o
 
 optional-went : {x : Text} {full : List Sym} {st : State} {l : List ℕ} {w : List Sort} {ms : List Tok} {m : ℕ} {st₁ : State} {l₁ : List ℕ} {a b : ℕ} (c n : ℕ)
-    → Amid x 0 AnyN full [] st l w ms m st₁ l₁ → T (sign c) → Only c w → a ≡ cond (sees c w) n 0 → counted (kind.Parameter ∷ []) w ≡ 0 → Went x full asItems (Optional c n) st l st₁ l₁ a b
+    → Amid x 0 AnyN full [] st l w ms m st₁ l₁ → T (sign c) → Only c w → a ≡ cond (sees c w) n 0 → counted (kind.Parameter ∷ []) w ≡ 0 → Went x full as_items (Optional c n) st l st₁ l₁ a b
 optional-went {x} {st = st} c n d h o e k =
     let J = raw x st.at d.pre in
     let p : Only c (sorts J) = subst (Only c) (sym d.sorted) o in
@@ -221,40 +221,40 @@ optional-went {x} {st = st} c n d h o e k =
       roles = λ K i. arranged-only K i c (sign-mark K c h) J p ∙ sym same;
       there = e ∙ ap (λ u. cond (sees c u) n 0) (sym d.sorted);
       others = λ q g. only-others c q g (sorts J) p;
-      no-parameters = ap (counted (kind.Parameter ∷ [])) d.sorted ∙ k;
+      no_parameters = ap (counted (kind.Parameter ∷ [])) d.sorted ∙ k;
     })
 
 module _ {x : Text} {full : List Sym} {st : State} {l : List ℕ} {ms : List Tok} {m : ℕ} {st₁ : State} {l₁ : List ℕ} {b : ℕ} where
-  pub nothing-went : (c n : ℕ) → T (sign c) → Amid x 0 AnyN full [] st l [] ms m st₁ l₁ → Went x full asItems (Optional c n) st l st₁ l₁ 0 b
+  pub nothing-went : (c n : ℕ) → T (sign c) → Amid x 0 AnyN full [] st l [] ms m st₁ l₁ → Went x full as_items (Optional c n) st l st₁ l₁ 0 b
   unfolding sees counted
   nothing-went c n h d = optional-went c n d h tt refl refl
 
-  pub public-went : Amid x 0 AnyN full [] st l (word t.Pub ∷ []) ms m st₁ l₁ → Went x full asItems (Optional t.Pub 1) st l st₁ l₁ 1 b
+  pub public-went : Amid x 0 AnyN full [] st l (word t.Pub ∷ []) ms m st₁ l₁ → Went x full as_items (Optional t.Pub 1) st l st₁ l₁ 1 b
   unfolding sees counted
   public-went d = optional-went t.Pub 1 d tt (refl, tt) refl refl
 
-  pub arrow-went : {k low high c : ℕ} → TypeKind k → Amid x 0 AnyN full [] st l (word t.Arrow ∷ child k low high c ∷ []) ms m st₁ l₁ → Went x full asItems (Optional t.Arrow 2) st l st₁ l₁ 2 b
+  pub arrow-went : {k low high c : ℕ} → TypeKind k → Amid x 0 AnyN full [] st l (word t.Arrow ∷ child k low high c ∷ []) ms m st₁ l₁ → Went x full as_items (Optional t.Arrow 2) st l st₁ l₁ 2 b
   unfolding sees counted has
   arrow-went {k} {low} {high} {c} h d = optional-went t.Arrow 2 d tt (refl, tt) refl (ap (λ (b : Bool). cond (b || false) 1 0 + 0) (ne_eqb kind.Parameter k (λ e. omega (arith, h.0))))
 
 -- A function begins with `pub` or `fn`, and with nothing else.
-abbrev begins : ℕ → Type 0
-begins c = (c ≡ t.Pub) ⊎ (c ≡ t.Fn)
+abbrev Begins : ℕ → Type 0
+Begins c = (c ≡ t.Pub) ⊎ (c ≡ t.Fn)
 
-at-function : (c : ℕ) → begins c → choose table n-function c ≡ 1
+at-function : (c : ℕ) → Begins c → choose table n-function c ≡ 1
 unfolding choose row look table
 at-function c (inl e) = ap (choose table n-function) e
 at-function c (inr e) = ap (choose table n-function) e
 
-pub function-or : (c : ℕ) → (choose table n-function c ≡ 1) ⊎ ((expand table n-function c ≡ none) × (begins c → ⊥))
+pub function-or : (c : ℕ) → (choose table n-function c ≡ 1) ⊎ ((expand table n-function c ≡ none) × (Begins c → ⊥))
 unfolding choose row look table alt pick
 function-or c = go (eqb c t.Pub) refl (eqb c t.Fn) refl
   where
-    neither : eqb c t.Pub ≡ false → eqb c t.Fn ≡ false → begins c → ⊥
+    neither : eqb c t.Pub ≡ false → eqb c t.Fn ≡ false → Begins c → ⊥
     neither e f (inl h) = differ (sym e ∙ eq-eqb c t.Pub h)
     neither e f (inr h) = differ (sym f ∙ eq-eqb c t.Fn h)
 
-    go : (a : Bool) → eqb c t.Pub ≡ a → (b : Bool) → eqb c t.Fn ≡ b → (choose table n-function c ≡ 1) ⊎ ((expand table n-function c ≡ none) × (begins c → ⊥))
+    go : (a : Bool) → eqb c t.Pub ≡ a → (b : Bool) → eqb c t.Fn ≡ b → (choose table n-function c ≡ 1) ⊎ ((expand table n-function c ≡ none) × (Begins c → ⊥))
     go true e b f = inl (at-function c (inl (eqb→eq c 1 (rw e tt))))
     go false e true f = inl (at-function c (inr (eqb→eq c t.Fn (rw f tt))))
     go false e false f = inr (goes n-function 0 c (miss t.Pub 1 (on t.Fn 1 ∷ []) 0 (λ h. neither e f (inl h)) (miss t.Fn 1 [] 0 (λ h. neither e f (inr h)) refl)) refl, neither e f)
@@ -265,8 +265,8 @@ flatly (shape.token c) = false
 flatly (shape.node C) = false
 
 no_node : {C : ℕ} → ex means (nt n-function-optional-Pub) ≡ shape.child C → ⊥
-unfolding sortOf
-no_node e = differ (sym (ap flatly (sym flat-public ∙ ap sortOf e)))
+unfolding sort_of
+no_node e = differ (sym (ap flatly (sym flat-public ∙ ap sort_of e)))
 
 abbrev or_nothing : Option (List Sym) → List Sym
 or_nothing none = []
@@ -276,44 +276,44 @@ or_nothing (some l) = l
 empty-rhs : {c : ℕ} {rhs : List Sym} → (c ≡ t.Pub → ⊥) → expand table n-function-optional-Pub c ≡ some rhs → rhs ≡ []
 empty-rhs h e = ap or_nothing (sym e ∙ no-public h)
 
-four-read : (x : Text) {σ : List Sym} {at j : ℕ} {r : shape.Items} → Read x (tok t.Fn ∷ σ) at r j → begins (get_or (classes x) at 0)
+four-read : (x : Text) {σ : List Sym} {at j : ℕ} {r : shape.Items} → Read x (tok t.Fn ∷ σ) at r j → Begins (get_or (classes x) at 0)
 four-read x (n-tok h e p) = inr e
 
-begins-read : (x : Text) {σ : List Sym} {at j : ℕ} {r : shape.Items} → Read x (nt n-function-optional-Pub ∷ tok t.Fn ∷ σ) at r j → begins (get_or (classes x) at 0)
+begins-read : (x : Text) {σ : List Sym} {at j : ℕ} {r : shape.Items} → Read x (nt n-function-optional-Pub ∷ tok t.Fn ∷ σ) at r j → Begins (get_or (classes x) at 0)
 begins-read x (n-sub C i k c y f e p q) = absurd (no_node c)
 begins-read x {σ} {at} {j} {r} (n-flat {rhs = rhs} f e p) = go (eqb (get_or (classes x) at 0) 1) refl
   where
-    go : (b : Bool) → eqb (get_or (classes x) at 0) 1 ≡ b → begins (get_or (classes x) at 0)
+    go : (b : Bool) → eqb (get_or (classes x) at 0) 1 ≡ b → Begins (get_or (classes x) at 0)
     go true q = inl (eqb→eq (get_or (classes x) at 0) 1 (rw q tt))
     go false q = four-read x (subst (λ (u : List Sym). Read x (u ++ (tok t.Fn ∷ σ)) at r j) (empty-rhs (λ h. differ (sym q ∙ eq-eqb (get_or (classes x) at 0) 1 h)) e) p)
 
-four-stuck : (x : Text) {σ : List Sym} {at p : ℕ} → (begins (get_or (classes x) at 0) → ⊥) → Stuck x (tok t.Fn ∷ σ) at p → p ≡ at
-four-stuck x n (k-tok g) = refl
-four-stuck x n (k-eat i e g) = absurd (n (inr e))
+four-stuck : (x : Text) {σ : List Sym} {at p : ℕ} → (Begins (get_or (classes x) at 0) → ⊥) → Stuck x (tok t.Fn ∷ σ) at p → p ≡ at
+four-stuck x n (k_tok g) = refl
+four-stuck x n (k_eat i e g) = absurd (n (inr e))
 
-begins-stuck : (x : Text) {σ : List Sym} {at p : ℕ} → (begins (get_or (classes x) at 0) → ⊥) → Stuck x (nt n-function-optional-Pub ∷ tok t.Fn ∷ σ) at p → p ≡ at
-begins-stuck x n (k-nt e) = refl
-begins-stuck x {σ} {at} {p} n (k-in {rhs = rhs} e h) = four-stuck x n (subst (λ (u : List Sym). Stuck x (u ++ (tok t.Fn ∷ σ)) at p) (empty-rhs (λ g. n (inl g)) e) h)
+begins-stuck : (x : Text) {σ : List Sym} {at p : ℕ} → (Begins (get_or (classes x) at 0) → ⊥) → Stuck x (nt n-function-optional-Pub ∷ tok t.Fn ∷ σ) at p → p ≡ at
+begins-stuck x n (k_nt e) = refl
+begins-stuck x {σ} {at} {p} n (k_in {rhs = rhs} e h) = four-stuck x n (subst (λ (u : List Sym). Stuck x (u ++ (tok t.Fn ∷ σ)) at p) (empty-rhs (λ g. n (inl g)) e) h)
 
 -- Where its symbols were read a function begins,
-pub function-begins : {x : Text} {st r : State} {F : Option Fault} {items : shape.Items} {j : ℕ} → Ready x st → Opened x st r F → Read x functionRhs r.at items j → choose table n-function st.class ≡ 1
+pub function-begins : {x : Text} {st r : State} {F : Option Fault} {items : shape.Items} {j : ℕ} → Ready x st → Opened x st r F → Read x function_rhs r.at items j → choose table n-function st.class ≡ 1
 function-begins {x} {st} y o h =
-    at-function st.class (subst begins (ap (λ i. get_or (classes x) i 0) o.at-is ∙ sym y.stands.class-is) (begins-read x h))
+    at-function st.class (subst Begins (ap (λ i. get_or (classes x) i 0) o.at_is ∙ sym y.stands.class_is) (begins-read x h))
 
 -- and where they are stuck it is.
-pub function-enters : {x : Text} {st r : State} {F : Option Fault} → Ready x st → Opened x st r F → (τ : List Sym) (p : ℕ) → Stuck x (functionRhs ++ τ) r.at p → Stuck x (nt n-function ∷ τ) st.at p
+pub function-enters : {x : Text} {st r : State} {F : Option Fault} → Ready x st → Opened x st r F → (τ : List Sym) (p : ℕ) → Stuck x (function_rhs ++ τ) r.at p → Stuck x (nt n-function ∷ τ) st.at p
 function-enters {x} {st} {r} y o τ p h = go (function-or st.class)
   where
     cls : get_or (classes x) st.at 0 ≡ st.class
-    cls = sym y.stands.class-is
+    cls = sym y.stands.class_is
 
-    here : Stuck x (functionRhs ++ τ) st.at p
-    here = subst (λ i. Stuck x (functionRhs ++ τ) i p) o.at-is h
+    here : Stuck x (function_rhs ++ τ) st.at p
+    here = subst (λ i. Stuck x (function_rhs ++ τ) i p) o.at_is h
 
-    go : (choose table n-function st.class ≡ 1) ⊎ ((expand table n-function st.class ≡ none) × (begins st.class → ⊥)) → Stuck x (nt n-function ∷ τ) st.at p
+    go : (choose table n-function st.class ≡ 1) ⊎ ((expand table n-function st.class ≡ none) × (Begins st.class → ⊥)) → Stuck x (nt n-function ∷ τ) st.at p
     go (inl e) = enters function-rule y e o τ p h
     go (inr e) =
-        subst (λ q. Stuck x (nt n-function ∷ τ) st.at q) (sym (begins-stuck x (λ b. e.1 (subst begins cls b)) here)) (k-nt (ap (expand table n-function) cls ∙ e.0))
+        subst (λ q. Stuck x (nt n-function ∷ τ) st.at q) (sym (begins-stuck x (λ b. e.1 (subst Begins cls b)) here)) (k_nt (ap (expand table n-function) cls ∙ e.0))
 
 -- No block begins with another class.
 pub no_block : (c : ℕ) → (c ≡ t.LBrace → ⊥) → expand table n-block c ≡ none
@@ -327,7 +327,7 @@ pub record Optioned (x : Text) (K : ℕ) (N : ℕ → Type 0) (full left : List 
   pub k : ℕ
   pub there : a ≡ cond (sees c W) n 0
   pub others : (d : ℕ) → (d ≡ c → ⊥) → sees d W ≡ false
-  pub no-parameters : counted (kind.Parameter ∷ []) W ≡ 0
+  pub no_parameters : counted (kind.Parameter ∷ []) W ≡ 0
   pub amid : Amid x K N full left st l (w ++ W) (ms ++ more) (m + k) st₂ l₂
 
 -- Its parameters: a of them.
@@ -336,11 +336,11 @@ pub record Listed (x : Text) (K : ℕ) (N : ℕ → Type 0) (full left : List Sy
   pub more : List Tok
   pub k : ℕ
   pub commas : Only t.Comma W
-  pub count-is : counted (kind.Parameter ∷ []) W ≡ a
+  pub count_is : counted (kind.Parameter ∷ []) W ≡ a
   pub amid : Amid x K N full left st l (w ++ W) (ms ++ more) (m + k) st₂ l₂
 
 module _ {x : Text} {K : ℕ} {N : ℕ → Type 0} {full left : List Sym} {st : State} {l : List ℕ} {w : List Sort} {ms : List Tok} {m : ℕ} {st₁ : State} {l₁ : List ℕ} {s : Sym} {st₂ : State} {l₂ : List ℕ} {a b : ℕ} {r : Step} where
-  pub then-optional : {c n : ℕ} → Amid x K N full (s ∷ left) st l w ms m st₁ l₁ → Parsed x (s ∷ []) asItems (Optional c n) st₁ l₁ l₂ r → r ≡ Next st₂ a b → Optioned x K N full left st l w ms m c n a st₂ l₂
+  pub then-optional : {c n : ℕ} → Amid x K N full (s ∷ left) st l w ms m st₁ l₁ → Parsed x (s ∷ []) as_items (Optional c n) st₁ l₁ l₂ r → r ≡ Next st₂ a b → Optioned x K N full left st l w ms m c n a st₂ l₂
   then-optional d p e =
       let q = went e p in
       record {
@@ -349,11 +349,11 @@ module _ {x : Text} {K : ℕ} {N : ℕ → Type 0} {full left : List Sym} {st : 
         k = q.m;
         there = q.info.there;
         others = q.info.others;
-        no-parameters = q.info.no-parameters;
+        no_parameters = q.info.no_parameters;
         amid = then-went d q (λ n g. q.info.roles K n);
       }
 
-  pub then-parameters : Amid x K N full (s ∷ left) st l w ms m st₁ l₁ → Parsed x (s ∷ []) asItems Parameters st₁ l₁ l₂ r → r ≡ Next st₂ a b → Listed x K N full left st l w ms m a st₂ l₂
+  pub then-parameters : Amid x K N full (s ∷ left) st l w ms m st₁ l₁ → Parsed x (s ∷ []) as_items Parameters st₁ l₁ l₂ r → r ≡ Next st₂ a b → Listed x K N full left st l w ms m a st₂ l₂
   then-parameters d p e =
       let q = went e p in
       record {
@@ -361,25 +361,25 @@ module _ {x : Text} {K : ℕ} {N : ℕ → Type 0} {full left : List Sym} {st : 
         more = marks (raw x st₁.at q.items);
         k = q.m;
         commas = q.info.commas;
-        count-is = q.info.count-is;
+        count_is = q.info.count_is;
         amid = then-went d q (λ n g. arranged-only K n t.Comma (comma-mark K) (raw x st₁.at q.items) q.info.commas ∙ sym q.info.same);
       }
 
 -- A function's name is an identifier, and neither `pub` nor an arrow.
-pub name-identifier : (c : ℕ) → has t.functionNames c ≡ true → has t.identifiers c ≡ true
-unfolding nameSort
+pub name-identifier : (c : ℕ) → has t.function_names c ≡ true → has t.identifiers c ≡ true
+unfolding name_sort
 name-identifier c e = sort-identifier c (λ z. two (sym (ap (λ (b : Bool). cond b choice.FunctionName (cond (has t.identifiers c) choice.ReservedName 0)) e) ∙ z))
   where
     two : ◌≡◌ {A = ℕ} choice.FunctionName 0 → ⊥
     two z = omega arith
 
-name-no-pub : (c : ℕ) → has t.functionNames c ≡ true → c ≡ t.Pub → ⊥
+name-no-pub : (c : ℕ) → has t.function_names c ≡ true → c ≡ t.Pub → ⊥
 unfolding has
-name-no-pub c e q = differ (sym (ap (has t.functionNames) q) ∙ e)
+name-no-pub c e q = differ (sym (ap (has t.function_names) q) ∙ e)
 
-name-no-arrow : (c : ℕ) → has t.functionNames c ≡ true → c ≡ t.Arrow → ⊥
+name-no-arrow : (c : ℕ) → has t.function_names c ≡ true → c ≡ t.Arrow → ⊥
 unfolding has
-name-no-arrow c e q = differ (sym (ap (has t.functionNames) q) ∙ e)
+name-no-arrow c e q = differ (sym (ap (has t.function_names) q) ∙ e)
 
 -- What is seen in one piece.
 or-none : (a b : Bool) → b ≡ false → (a || b) ≡ a
@@ -406,7 +406,7 @@ uncounted : (w v : List Sort) {n : ℕ} → counted (kind.Parameter ∷ []) w �
 uncounted w v e f = omega (arith, counted-append (kind.Parameter ∷ []) w v)
 
 -- The head of a function, of what it is made of: nothing or `pub`, `fn`, its name, its parameters in parentheses, nothing or its type, its block.
-module _ (W₁ W₃ W₄ : List Sort) (c k l h d : ℕ) {low more number : ℕ} (name : has t.functionNames c ≡ true) (there₁ : low ≡ cond (sees t.Pub W₁) 1 0) (others₁ : (d : ℕ) → (d ≡ t.Pub → ⊥) → sees d W₁ ≡ false)
+module _ (W₁ W₃ W₄ : List Sort) (c k l h d : ℕ) {low more number : ℕ} (name : has t.function_names c ≡ true) (there₁ : low ≡ cond (sees t.Pub W₁) 1 0) (others₁ : (d : ℕ) → (d ≡ t.Pub → ⊥) → sees d W₁ ≡ false)
     (none₁ : counted (kind.Parameter ∷ []) W₁ ≡ 0) (commas : Only t.Comma W₃) (count : counted (kind.Parameter ∷ []) W₃ ≡ number) (there₄ : more ≡ cond (sees t.Arrow W₄) 2 0)
     (others₄ : (d : ℕ) → (d ≡ t.Arrow → ⊥) → sees d W₄ ≡ false) (none₄ : counted (kind.Parameter ∷ []) W₄ ≡ 0) (body : ExprKind k) where
   abbrev w₄ : List Sort
@@ -442,12 +442,12 @@ module _ (W₁ W₃ W₄ : List Sort) (c k l h d : ℕ) {low more number : ℕ} 
       uncounted (w₆ ++ W₄) (child k l h d ∷ []) (uncounted w₆ W₄ (uncounted (w₄ ++ W₃) (word t.RParen ∷ []) b (counted-word t.RParen)) none₄) (counted_none k l h d body)
 
   pub function-head : (x : Text) (ms : List Tok) → decided x FunctionShape w₈ ms ≡ head kind.Function (low + more) number
-  unfolding head_of form_of functionHead
+  unfolding head_of form_of function_head
   function-head x ms =
       (λ i. head kind.Function (cond (sees-pub i) 1 0 + cond (sees-arrow i) 2 0) (counts i)) ∙ ap₂ (λ (a b : ℕ). head kind.Function (a + b) number) (sym there₁) (sym there₄)
 
 -- Its low is small.
-pub low_fits : (v w : List Sort) {low more : ℕ} → low ≡ cond (sees t.Pub v) 1 0 → more ≡ cond (sees t.Arrow w) 2 0 → low + more < u32Count
+pub low_fits : (v w : List Sort) {low more : ℕ} → low ≡ cond (sees t.Pub v) 1 0 → more ≡ cond (sees t.Arrow w) 2 0 → low + more < u32_count
 low_fits v w {low} {more} e f = omega (arith, one (sees t.Pub v), two (sees t.Arrow w))
   where
     one : (b : Bool) → cond b 1 0 ≤ 1

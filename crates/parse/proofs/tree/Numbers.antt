@@ -7,30 +7,30 @@ use Rattle.num.specs.Value.{largest, fitted}
 use Rattle.num.specs.ValueLaws.{Held, whole, lost, held}
 use Rattle.num.specs.declared.Value.{Value}
 use Rattle.own.specs.Kinds as kind
-use Rattle.kinds.specs.Shape.{halfRange}
+use Rattle.kinds.specs.Shape.{half_range}
 use Rattle.kinds.specs.Fields.{halves}
-use Rattle.grammar.specs.records.Records.{low_half, high_half}
-use Rattle.parse.specs.Contract.{numberKinds, Put, PutNumber, written, unwritten}
+use Rattle.grammar.specs.Records.Records.{low_half, high_half}
+use Rattle.parse.specs.Contract.{number_kinds, Put, PutNumber, written, unwritten}
 
 -- Two halves hold no larger number.
 halves_small : (n : ℕ) → T (halves (low_half n) (high_half n)) → n ≤ largest
 unfolding halves low_half high_half
-halves_small n t = let h = ltb→lt (n / halfRange) halfRange (second-of (ltb (n % halfRange) halfRange) (ltb (n / halfRange) halfRange) t) in omega arith
+halves_small n t = let h = ltb→lt (n / half_range) half_range (second-of (ltb (n % half_range) half_range) (ltb (n / half_range) half_range) t) in omega arith
 
 -- The kinds that hold a number.
-pub array-numbered : T (has numberKinds kind.ArrayType)
+pub array-numbered : T (has number_kinds kind.ArrayType)
 unfolding has
 array-numbered = tt
 
-pub list-numbered : T (has numberKinds kind.ListType)
+pub list-numbered : T (has number_kinds kind.ListType)
 unfolding has
 list-numbered = tt
 
-pub number-numbered : T (has numberKinds kind.Number)
+pub number-numbered : T (has number_kinds kind.Number)
 unfolding has
 number-numbered = tt
 
-pub put-number : {l l' : List ℕ} {here k b e z : ℕ} {v : Value} (n : ℕ) → v ≡ fitted n → T (has numberKinds k) → PutNumber l here k b e v z l' → Put l here k b e (low_half n) (high_half n) z l'
+pub put-number : {l l' : List ℕ} {here k b e z : ℕ} {v : Value} (n : ℕ) → v ≡ fitted n → T (has number_kinds k) → PutNumber l here k b e v z l' → Put l here k b e (low_half n) (high_half n) z l'
 put-number {l} {l'} {here} {k} {b} {e} {z} n f t p = go (held n) (subst (λ u. PutNumber l here k b e u z l') f p)
   where
     go : {u : Value} → Held n u → PutNumber l here k b e u z l' → Put l here k b e (low_half n) (high_half n) z l'

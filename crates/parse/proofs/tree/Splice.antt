@@ -2,9 +2,9 @@
 -- Assumes nothing.
 use Rattle.std.proofs.Common.{◌≡◌, ℕ, suc, ◌+◌, ◌-◌, ◌*◌, ◌<◌, ◌≤◌, List, [], ◌∷◌, ◌++◌, length, take, drop, set, sym, refl, ap, ◌∙◌, append_assoc, arith, length-append, length-take-le, take_at, drop_at}
 use lib.Seq.{sets, sets-eq, length-sets, set_comm}
-use Rattle.text.specs.Widths.{recWide}
+use Rattle.text.specs.Widths.{rec_wide}
 use Rattle.text.specs.Sets.{sets-append}
-use Rattle.own.specs.Words.{recThen}
+use Rattle.own.specs.Words.{rec_then}
 use Rattle.parse.specs.Contract.{Halved, Put}
 
 -- a word in front can be written last
@@ -19,13 +19,13 @@ sets-sets [] ws l i j h = refl
 sets-sets (v ∷ vs) ws l i j h = sets-sets vs ws (set l i v) (suc i) j (omega arith) ∙ ap (λ (m : List ℕ). sets m (suc i) vs) (sets-set ws l i j v (omega arith))
 
 -- The header law: a record written after what lies below it.
-pub header : (l : List ℕ) {l₁ l' : List ℕ} (ws : List ℕ) (out k b e low high z : ℕ) → l₁ ≡ sets l (recWide * (out + 1)) ws → Put l₁ out k b e low high z l' → Halved k low high → recWide * out + recWide ≤ length l
-    → l' ≡ sets l (recWide * out) (recThen k b e low high z ws)
+pub header : (l : List ℕ) {l₁ l' : List ℕ} (ws : List ℕ) (out k b e low high z : ℕ) → l₁ ≡ sets l (rec_wide * (out + 1)) ws → Put l₁ out k b e low high z l' → Halved k low high → rec_wide * out + rec_wide ≤ length l
+    → l' ≡ sets l (rec_wide * out) (rec_then k b e low high z ws)
 header l {l₁} ws out k b e low high z p q hold h =
-    let hd : List ℕ = recThen k b e low high z [] in
-    let n : length l₁ ≡ length l = ap length p ∙ length-sets l (recWide * (out + 1)) ws in
-    q.put hold (omega arith) ∙ ap (λ (m : List ℕ). sets m (recWide * out) hd) p ∙ sym (sets-sets hd ws l (recWide * out) (recWide * (out + 1)) (omega arith))
-    ∙ ap (λ (j : ℕ). sets (sets l (recWide * out) hd) j ws) (omega arith) ∙ sym (sets-append hd ws l (recWide * out))
+    let hd : List ℕ = rec_then k b e low high z [] in
+    let n : length l₁ ≡ length l = ap length p ∙ length-sets l (rec_wide * (out + 1)) ws in
+    q.put hold (omega arith) ∙ ap (λ (m : List ℕ). sets m (rec_wide * out) hd) p ∙ sym (sets-sets hd ws l (rec_wide * out) (rec_wide * (out + 1)) (omega arith))
+    ∙ ap (λ (j : ℕ). sets (sets l (rec_wide * out) hd) j ws) (omega arith) ∙ sym (sets-append hd ws l (rec_wide * out))
 
 -- the part of a buffer where two runs stand, turned round
 pub turns : (l₀ u v : List ℕ) (a m b : ℕ) → a + length u ≡ m → m + length v ≡ b → b ≤ length l₀ → {l l' : List ℕ} → l ≡ sets l₀ a (u ++ v)

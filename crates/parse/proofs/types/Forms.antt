@@ -6,77 +6,77 @@ use Rattle.text.specs.Part.{part_of}
 use Rattle.text.specs.Refusals as refusal
 use Rattle.text.specs.Lists.{has}
 use Rattle.num.specs.Digits as digits
-use Rattle.num.specs.Value.{decimalFrom, decimalOf, number_of}
+use Rattle.num.specs.Value.{decimal_from, decimal_of, number_of}
 use Rattle.num.specs.declared.Value.{Value}
-use Rattle.num.specs.Bound.{boundOk, lengthOk}
+use Rattle.num.specs.Bound.{bound_ok, length_ok}
 use Rattle.lexer.specs.Classes as t
 use Rattle.theory.specs.Grammar.{Sym, tok, nt, look, row, alt, pick}
 use Rattle.theory.specs.Machine.{choose, expand}
 use Rattle.theory.specs.Ebnf as shape
-use Rattle.theory.specs.Ebnf.{sortOf, kindsOf}
+use Rattle.theory.specs.Ebnf.{sort_of, kinds_of}
 use Rattle.theory.specs.Same.{ex}
 use Rattle.own.specs.Tree.{Tok, Items, marks}
-use Rattle.own.specs.Flat.{no-token}
+use Rattle.own.specs.Flat.{blank_tok}
 use Rattle.own.specs.Law.{Sort, word, sorts}
 use Rattle.own.specs.Kinds as kind
-use Rattle.grammar.specs.shapes.Shapes.{shapes}
-use Rattle.grammar.specs.shapes.Tables.{means, table}
-use Rattle.grammar.specs.records.Records.{Head, head, wide, plain, sees, head_of, form_of, low_half, high_half, typeName, text_of, first_of, opening, decimal, place_in, aMark, roleOf}
-use Rattle.grammar.specs.records.Faults.{unless, faultsAt, earliest}
-use Rattle.grammar.specs.shapes.ShapeKind.{ArrayTypeShape, EitherTypeShape, ListTypeShape, NamedTypeShape, OptionTypeShape, TupleTypeShape}
-use Rattle.grammar.specs.shapes.TablesIndex.{n-eitherType-optional-LAngle, n-list-type, n-listType-optional-LAngle, n-namedType, n-optionType-optional-LAngle, n-tail-type, n-type}
-use Rattle.parse.specs.Contract.{Text, fault, boundFault, lengthFault, Judged}
+use Rattle.grammar.specs.Shapes.Shapes.{shapes}
+use Rattle.grammar.specs.Shapes.Tables.{means, table}
+use Rattle.grammar.specs.Records.Records.{Head, head, wide, plain, sees, head_of, form_of, low_half, high_half, type_name_head, text_of, first_of, opening, decimal, place_in, aMark, role_of}
+use Rattle.grammar.specs.Records.Faults.{unless, faults_at, earliest}
+use Rattle.grammar.specs.Shapes.ShapeKind.{ArrayTypeShape, EitherTypeShape, ListTypeShape, NamedTypeShape, OptionTypeShape, TupleTypeShape}
+use Rattle.grammar.specs.Shapes.TablesIndex.{n-either_type-optional-LAngle, n-list-type, n-list_type-optional-LAngle, n-named_type, n-option_type-optional-LAngle, n-tail-type, n-type}
+use Rattle.parse.specs.Contract.{Text, fault, bound_fault, length_fault, Judged}
 use Rattle.parse.specs.declared.State.{State}
 use Rattle.parse.specs.Choice as choice
 use Rattle.parse.proofs.choice.Chosen.{where-chosen, alone, is-alone, hit, miss, goes}
-use Rattle.parse.proofs.rule.Marks.{keeping, keeping-mark, keeps-between}
-use Rattle.parse.proofs.rule.Amid.{Amid}
-use Rattle.parse.proofs.rule.Steps.{number_in, decided}
-use Rattle.parse.proofs.rule.Closing.{Rule}
-use Rattle.parse.proofs.rule.Heads.{unless-is}
-use Rattle.parse.proofs.rule.Commas.{Rows}
+use Rattle.parse.proofs.Rule.Marks.{keeping, keeping-mark, keeps-between}
+use Rattle.parse.proofs.Rule.Amid.{Amid}
+use Rattle.parse.proofs.Rule.Steps.{number_in, decided}
+use Rattle.parse.proofs.Rule.Closing.{Rule}
+use Rattle.parse.proofs.Rule.Heads.{unless-is}
+use Rattle.parse.proofs.Rule.Commas.{Rows}
 
 -- The rules of types.
-abbrev pub eitherRhs : List Sym
-eitherRhs = tok t.Either ∷ nt n-eitherType-optional-LAngle ∷ []
+abbrev pub either_rhs : List Sym
+either_rhs = tok t.Either ∷ nt n-either_type-optional-LAngle ∷ []
 
-abbrev pub optionRhs : List Sym
-optionRhs = tok t.Option ∷ nt n-optionType-optional-LAngle ∷ []
+abbrev pub option_rhs : List Sym
+option_rhs = tok t.Option ∷ nt n-option_type-optional-LAngle ∷ []
 
-abbrev pub listRhs : List Sym
-listRhs = tok t.List ∷ nt n-listType-optional-LAngle ∷ []
+abbrev pub list_rhs : List Sym
+list_rhs = tok t.List ∷ nt n-list_type-optional-LAngle ∷ []
 
-abbrev pub namedRhs : List Sym
-namedRhs = nt n-namedType ∷ []
+abbrev pub named_rhs : List Sym
+named_rhs = nt n-named_type ∷ []
 
-abbrev pub tupleRhs : List Sym
-tupleRhs = tok t.LParen ∷ nt n-list-type ∷ tok t.RParen ∷ []
+abbrev pub tuple_rhs : List Sym
+tuple_rhs = tok t.LParen ∷ nt n-list-type ∷ tok t.RParen ∷ []
 
-abbrev pub arrayRhs : List Sym
-arrayRhs = tok t.LBracket ∷ nt n-type ∷ tok t.Semi ∷ tok t.DecLiteral ∷ tok t.RBracket ∷ []
+abbrev pub array_rhs : List Sym
+array_rhs = tok t.LBracket ∷ nt n-type ∷ tok t.Semi ∷ tok t.DecLiteral ∷ tok t.RBracket ∷ []
 
-pub either-rule : Rule n-type choice.EitherType EitherTypeShape eitherRhs
-unfolding ex means kindsOf shapes row table alt pick
+pub either-rule : Rule n-type choice.EitherType EitherTypeShape either_rhs
+unfolding ex means kinds_of shapes row table alt pick
 either-rule = record { category = refl; from_one = refl; kind = refl; rule = refl }
 
-pub option-rule : Rule n-type choice.OptionType OptionTypeShape optionRhs
-unfolding ex means kindsOf shapes row table alt pick
+pub option-rule : Rule n-type choice.OptionType OptionTypeShape option_rhs
+unfolding ex means kinds_of shapes row table alt pick
 option-rule = record { category = refl; from_one = refl; kind = refl; rule = refl }
 
-pub list-rule : Rule n-type choice.ListType ListTypeShape listRhs
-unfolding ex means kindsOf shapes row table alt pick
+pub list-rule : Rule n-type choice.ListType ListTypeShape list_rhs
+unfolding ex means kinds_of shapes row table alt pick
 list-rule = record { category = refl; from_one = refl; kind = refl; rule = refl }
 
-pub named_rule : Rule n-type choice.NamedType NamedTypeShape namedRhs
-unfolding ex means kindsOf shapes row table alt pick
+pub named_rule : Rule n-type choice.NamedType NamedTypeShape named_rhs
+unfolding ex means kinds_of shapes row table alt pick
 named_rule = record { category = refl; from_one = refl; kind = refl; rule = refl }
 
-pub tuple-rule : Rule n-type choice.TupleType TupleTypeShape tupleRhs
-unfolding ex means kindsOf shapes row table alt pick
+pub tuple-rule : Rule n-type choice.TupleType TupleTypeShape tuple_rhs
+unfolding ex means kinds_of shapes row table alt pick
 tuple-rule = record { category = refl; from_one = refl; kind = refl; rule = refl }
 
-pub array-rule : Rule n-type choice.ArrayType ArrayTypeShape arrayRhs
-unfolding ex means kindsOf shapes row table alt pick
+pub array-rule : Rule n-type choice.ArrayType ArrayTypeShape array_rhs
+unfolding ex means kinds_of shapes row table alt pick
 array-rule = record { category = refl; from_one = refl; kind = refl; rule = refl }
 
 -- The tokens that they begin with.
@@ -93,9 +93,9 @@ module _ (c : ℕ) where
   unfolding choose row table look
   at-list e = eqb→eq c t.List (where-chosen n-type choice.ListType (λ a. eqb a t.List) tt tt c e)
 
-  pub at_named : choose table n-type c ≡ choice.NamedType → expand table n-namedType c ≡ some (tok c ∷ [])
+  pub at_named : choose table n-type c ≡ choice.NamedType → expand table n-named_type c ≡ some (tok c ∷ [])
   unfolding choose row table look alt pick
-  at_named e = is-alone (expand table n-namedType c) c (where-chosen n-type choice.NamedType (λ a. alone (expand table n-namedType a) a) tt tt c e)
+  at_named e = is-alone (expand table n-named_type c) c (where-chosen n-type choice.NamedType (λ a. alone (expand table n-named_type a) a) tt tt c e)
 
   pub at-tuple : choose table n-type c ≡ choice.TupleType → c ≡ t.LParen
   unfolding choose row table look
@@ -105,8 +105,8 @@ module _ (c : ℕ) where
   unfolding choose row table look
   at-array e = eqb→eq c t.LBracket (where-chosen n-type choice.ArrayType (λ a. eqb a t.LBracket) tt tt c e)
 
-pub flat-named : sortOf (ex means (nt n-namedType)) ≡ shape.flat
-unfolding sortOf ex means has
+pub flat-named : sort_of (ex means (nt n-named_type)) ≡ shape.flat
+unfolding sort_of ex means has
 flat-named = refl
 
 -- No type begins with another class.
@@ -126,47 +126,47 @@ no-type c i e h = ap (alt table n-type) (sym e) ∙ go i h
 
 -- What may follow `Either`, `Option` and `List`.
 module _ {a : ℕ} where
-  pub either-alone : (a ≡ t.LAngle → ⊥) → expand table n-eitherType-optional-LAngle a ≡ some []
+  pub either-alone : (a ≡ t.LAngle → ⊥) → expand table n-either_type-optional-LAngle a ≡ some []
   unfolding choose row table look alt pick
-  either-alone h = goes n-eitherType-optional-LAngle 1 a (miss t.LAngle 2 [] 1 h refl) refl
+  either-alone h = goes n-either_type-optional-LAngle 1 a (miss t.LAngle 2 [] 1 h refl) refl
 
-  pub either-angle : a ≡ t.LAngle → expand table n-eitherType-optional-LAngle a ≡ some (tok t.LAngle ∷ nt n-type ∷ tok t.Comma ∷ nt n-type ∷ tok t.RAngle ∷ [])
+  pub either-angle : a ≡ t.LAngle → expand table n-either_type-optional-LAngle a ≡ some (tok t.LAngle ∷ nt n-type ∷ tok t.Comma ∷ nt n-type ∷ tok t.RAngle ∷ [])
   unfolding choose row table look alt pick
-  either-angle h = goes n-eitherType-optional-LAngle 2 a (hit t.LAngle 2 [] 1 h) refl
+  either-angle h = goes n-either_type-optional-LAngle 2 a (hit t.LAngle 2 [] 1 h) refl
 
-  pub option-alone : (a ≡ t.LAngle → ⊥) → expand table n-optionType-optional-LAngle a ≡ some []
+  pub option-alone : (a ≡ t.LAngle → ⊥) → expand table n-option_type-optional-LAngle a ≡ some []
   unfolding choose row table look alt pick
-  option-alone h = goes n-optionType-optional-LAngle 1 a (miss t.LAngle 2 [] 1 h refl) refl
+  option-alone h = goes n-option_type-optional-LAngle 1 a (miss t.LAngle 2 [] 1 h refl) refl
 
-  pub option-angle : a ≡ t.LAngle → expand table n-optionType-optional-LAngle a ≡ some (tok t.LAngle ∷ nt n-type ∷ tok t.RAngle ∷ [])
+  pub option-angle : a ≡ t.LAngle → expand table n-option_type-optional-LAngle a ≡ some (tok t.LAngle ∷ nt n-type ∷ tok t.RAngle ∷ [])
   unfolding choose row table look alt pick
-  option-angle h = goes n-optionType-optional-LAngle 2 a (hit t.LAngle 2 [] 1 h) refl
+  option-angle h = goes n-option_type-optional-LAngle 2 a (hit t.LAngle 2 [] 1 h) refl
 
-  pub list-alone : (a ≡ t.LAngle → ⊥) → expand table n-listType-optional-LAngle a ≡ some []
+  pub list-alone : (a ≡ t.LAngle → ⊥) → expand table n-list_type-optional-LAngle a ≡ some []
   unfolding choose row table look alt pick
-  list-alone h = goes n-listType-optional-LAngle 1 a (miss t.LAngle 2 [] 1 h refl) refl
+  list-alone h = goes n-list_type-optional-LAngle 1 a (miss t.LAngle 2 [] 1 h refl) refl
 
-  pub list-angle : a ≡ t.LAngle → expand table n-listType-optional-LAngle a ≡ some (tok t.LAngle ∷ nt n-type ∷ tok t.Comma ∷ tok t.DecLiteral ∷ tok t.RAngle ∷ [])
+  pub list-angle : a ≡ t.LAngle → expand table n-list_type-optional-LAngle a ≡ some (tok t.LAngle ∷ nt n-type ∷ tok t.Comma ∷ tok t.DecLiteral ∷ tok t.RAngle ∷ [])
   unfolding choose row table look alt pick
-  list-angle h = goes n-listType-optional-LAngle 2 a (hit t.LAngle 2 [] 1 h) refl
+  list-angle h = goes n-list_type-optional-LAngle 2 a (hit t.LAngle 2 [] 1 h) refl
 
-pub flat-either : sortOf (ex means (nt n-eitherType-optional-LAngle)) ≡ shape.flat
-unfolding sortOf ex means
+pub flat-either : sort_of (ex means (nt n-either_type-optional-LAngle)) ≡ shape.flat
+unfolding sort_of ex means
 flat-either = refl
 
-pub flat-option : sortOf (ex means (nt n-optionType-optional-LAngle)) ≡ shape.flat
-unfolding sortOf ex means
+pub flat-option : sort_of (ex means (nt n-option_type-optional-LAngle)) ≡ shape.flat
+unfolding sort_of ex means
 flat-option = refl
 
-pub flat-list : sortOf (ex means (nt n-listType-optional-LAngle)) ≡ shape.flat
-unfolding sortOf ex means
-flat-list = refl
+pub flat_list : sort_of (ex means (nt n-list_type-optional-LAngle)) ≡ shape.flat
+unfolding sort_of ex means
+flat_list = refl
 
 -- The rows of lists of types and of patterns.
 pub type-rows : Rows n-list-type n-tail-type n-type (λ c. c ≡ t.RParen)
-unfolding sortOf ex means choose row table look alt pick
+unfolding sort_of ex means choose row table look alt pick
 type-rows = record {
-  flat-list = refl;
+  flat_list = refl;
   flat_tail = refl;
   ends = λ c h. goes n-list-type 1 c (hit t.RParen 1 [] 2 h) refl;
   more = λ c h. goes n-list-type 2 c (miss t.RParen 1 [] 2 h refl) refl;
@@ -214,9 +214,9 @@ pub wide_is : {H : Head} {K n u low high : ℕ} → H ≡ wide K n → n ≡ u �
 wide_is {K = K} e f p q = e ∙ ap (wide K) f ∙ ap₂ (head K) (sym p) (sym q)
 
 -- Without a decimal the number is 0.
-pub no_value : (draft : List ℕ) → decimalOf (text_of draft no-token) ≡ 0
-unfolding decimalOf text_of part_of decimalFrom digits.plain
-no_value draft = ap decimalOf (go (leb 0 0 && leb 0 (length draft)))
+pub no_value : (draft : List ℕ) → decimal_of (text_of draft blank_tok) ≡ 0
+unfolding decimal_of text_of part_of decimal_from digits.plain
+no_value draft = ap decimal_of (go (leb 0 0 && leb 0 (length draft)))
   where
     go : (b : Bool) → cond b (take (0 - 0) (drop 0 draft)) [] ≡ []
     go true = refl
@@ -232,21 +232,21 @@ zero_high = refl
 
 -- The refusals of a List's bound and of an array's length.
 module _ (draft : List ℕ) where
-  pub list-fault : (is : Items) {w : List Sort} (v : Value) (y : Tok) → sorts is ≡ word t.List ∷ word t.LAngle ∷ w → first_of t.DecLiteral (marks is) ≡ y → v ≡ number_of (text_of draft y) → earliest (faultsAt draft ListTypeShape is) ≡ fault (boundFault v) y.start
-  unfolding faultsAt sees decimal number_of boundFault
+  pub list-fault : (is : Items) {w : List Sort} (v : Value) (y : Tok) → sorts is ≡ word t.List ∷ word t.LAngle ∷ w → first_of t.DecLiteral (marks is) ≡ y → v ≡ number_of (text_of draft y) → earliest (faults_at draft ListTypeShape is) ≡ fault (bound_fault v) y.start
+  unfolding faults_at sees decimal number_of bound_fault
   list-fault is {w} v y e f g =
-      (λ i. earliest (unless (not (sees t.LAngle (e i)) || boundOk (number_of (text_of draft (f i)))) refusal.Bound (f i))) ∙ (λ i. earliest (unless (boundOk (sym g i)) refusal.Bound y))
-      ∙ unless-is y (boundOk v) refusal.Bound (λ q. omega arith)
+      (λ i. earliest (unless (not (sees t.LAngle (e i)) || bound_ok (number_of (text_of draft (f i)))) refusal.Bound (f i))) ∙ (λ i. earliest (unless (bound_ok (sym g i)) refusal.Bound y))
+      ∙ unless-is y (bound_ok v) refusal.Bound (λ q. omega arith)
 
-  pub list-alone-fault : (is : Items) → sorts is ≡ word t.List ∷ [] → earliest (faultsAt draft ListTypeShape is) ≡ fault 0 0
-  unfolding faultsAt sees decimal number_of unless earliest fault
-  list-alone-fault is e = λ i. earliest (unless (not (sees t.LAngle (e i)) || boundOk (number_of (text_of draft (first_of t.DecLiteral (marks is))))) refusal.Bound (first_of t.DecLiteral (marks is)))
+  pub list-alone-fault : (is : Items) → sorts is ≡ word t.List ∷ [] → earliest (faults_at draft ListTypeShape is) ≡ fault 0 0
+  unfolding faults_at sees decimal number_of unless earliest fault
+  list-alone-fault is e = λ i. earliest (unless (not (sees t.LAngle (e i)) || bound_ok (number_of (text_of draft (first_of t.DecLiteral (marks is))))) refusal.Bound (first_of t.DecLiteral (marks is)))
 
-  pub array-fault : (is : Items) (v : Value) (y : Tok) → first_of t.DecLiteral (marks is) ≡ y → v ≡ number_of (text_of draft y) → earliest (faultsAt draft ArrayTypeShape is) ≡ fault (lengthFault v) y.start
-  unfolding faultsAt decimal number_of lengthFault
+  pub array-fault : (is : Items) (v : Value) (y : Tok) → first_of t.DecLiteral (marks is) ≡ y → v ≡ number_of (text_of draft y) → earliest (faults_at draft ArrayTypeShape is) ≡ fault (length_fault v) y.start
+  unfolding faults_at decimal number_of length_fault
   array-fault is v y f g =
-      (λ i. earliest (unless (lengthOk (number_of (text_of draft (f i)))) refusal.Length (f i))) ∙ (λ i. earliest (unless (lengthOk (sym g i)) refusal.Length y))
-      ∙ unless-is y (lengthOk v) refusal.Length (λ q. omega arith)
+      (λ i. earliest (unless (length_ok (number_of (text_of draft (f i)))) refusal.Length (f i))) ∙ (λ i. earliest (unless (length_ok (sym g i)) refusal.Length y))
+      ∙ unless-is y (length_ok v) refusal.Length (λ q. omega arith)
 
 -- The refusal of a number stands at its token.
 pub judged-at : {outer inner r : State} {n n' p p' : ℕ} → Judged outer inner n p r → n ≡ n' → p ≡ p' → Judged outer inner n' p' r
@@ -258,12 +258,12 @@ module _ (c : ℕ) where
   unfolding choose row table look
   named-pos e = ltb→lt 0 c (where-chosen n-type choice.NamedType (λ a. ltb 0 a) tt tt c e)
 
-type-kind : (c : ℕ) → (kind.Alias ≤ (typeName c).kind) × ((typeName c).kind ≤ kind.Unsigned)
-unfolding typeName
-type-kind c = go (eqb c t.bool) (has t.unsignedTypes c) (has t.builtinTypes c)
+type-kind : (c : ℕ) → (kind.Alias ≤ (type_name_head c).kind) × ((type_name_head c).kind ≤ kind.Unsigned)
+unfolding type_name_head
+type-kind c = go (eqb c t.bool) (has t.unsigned_types c) (has t.builtin_types c)
   where
     its : Bool → Bool → Bool → ℕ
-    its x y z = (cond x (plain kind.BoolType) (cond y (head kind.Unsigned (2 ^ place_in 0 0 t.unsignedTypes c) 0) (cond z (head kind.Builtin (place_in 0 0 t.builtinTypes c) 0) (plain kind.Alias)))).kind
+    its x y z = (cond x (plain kind.BoolType) (cond y (head kind.Unsigned (2 ^ place_in 0 0 t.unsigned_types c) 0) (cond z (head kind.Builtin (place_in 0 0 t.builtin_types c) 0) (plain kind.Alias)))).kind
 
     go : (x y z : Bool) → (kind.Alias ≤ its x y z) × (its x y z ≤ kind.Unsigned)
     go true y z = (omega arith, omega arith)
@@ -271,9 +271,9 @@ type-kind c = go (eqb c t.bool) (has t.unsignedTypes c) (has t.builtinTypes c)
     go false false true = (omega arith, omega arith)
     go false false false = (omega arith, omega arith)
 
-module _ {k low : ℕ} (c : ℕ) (e : head k low 0 ≡ typeName c) where
+module _ {k low : ℕ} (c : ℕ) (e : head k low 0 ≡ type_name_head c) where
   kind-is : (kind.Alias ≤ k) × (k ≤ kind.Unsigned)
-  kind-is = let h = type-kind c in let f : k ≡ (typeName c).kind = ap (λ (u : Head). u.kind) e in (omega arith, omega arith)
+  kind-is = let h = type-kind c in let f : k ≡ (type_name_head c).kind = ap (λ (u : Head). u.kind) e in (omega arith, omega arith)
 
   pub named-kind : (kind.Alias ≤ k) × (k ≤ kind.ListType)
   named-kind = (kind-is.0, omega (arith, kind-is.1))
@@ -284,9 +284,9 @@ module _ {k low : ℕ} (c : ℕ) (e : head k low 0 ≡ typeName c) where
   keeping-kind : T (keeping k)
   keeping-kind = keeps-between kind.Alias kind.Unsigned k tt kind-is.0 kind-is.1
 
-  pub named-role : (d : ℕ) → roleOf k d ≡ aMark
+  pub named-role : (d : ℕ) → role_of k d ≡ aMark
   named-role d = keeping-mark k d keeping-kind
 
-pub named-head : (x : Text) (t : Tok) (c : ℕ) {k low : ℕ} → head k low 0 ≡ typeName c → decided x NamedTypeShape (word c ∷ []) (t ∷ []) ≡ head k low 0
+pub named-head : (x : Text) (t : Tok) (c : ℕ) {k low : ℕ} → head k low 0 ≡ type_name_head c → decided x NamedTypeShape (word c ∷ []) (t ∷ []) ≡ head k low 0
 unfolding head_of form_of opening
 named-head x t c e = sym e

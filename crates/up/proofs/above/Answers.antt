@@ -1,13 +1,13 @@
 -- From the parent of the record before i from parent to parent, up to the first that reaches over i.
 -- Assumes nothing.
 use Rattle.std.proofs.Common.{arith}
-use Rattle.up.specs.Buffer.{sizeIn, size-before}
+use Rattle.up.specs.Buffer.{size_in, size-before}
 use Rattle.up.specs.Climb.{less, climbs, resumes, held-before, held-by, held-by-none}
 use Rattle.up.proofs.above.Goals as goal
 
 pub returns-then-tree-w-gt1-clause-is : goal.returns-then-tree-w-gt1-clause-is
 returns-then-tree-w-gt1-clause-is c =
-    held-before (sizeIn c.args.tree.now) c.args.i c.requires.i_nonzero
+    held-before (size_in c.args.tree.now) c.args.i c.requires.i_nonzero
     (omega (arith, c.if-tree-w-gt1.true, size-before c.args.tree.now c.requires.i_nonzero c.requires.w_value))
 
 pub loop-p-init : goal.loop-p-init

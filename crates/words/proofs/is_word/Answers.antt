@@ -2,7 +2,7 @@
 -- Assumes nothing.
 use Rattle.std.proofs.Common.{refl, sym, ◌∙◌, ap}
 use Rattle.text.specs.Same.{same}
-use Rattle.text.specs.Ascii.{ascii, asciiFrom}
+use Rattle.text.specs.Ascii.{ascii, ascii_from}
 use Rattle.text.specs.SameLaws.{same_length}
 use Rattle.words.specs.Layout.{letters}
 use Rattle.words.proofs.Laws.{word-there}
@@ -12,7 +12,7 @@ pub returns-then-p-n : goal.returns-then-p-n
 returns-then-p-n c = sym (same_length _ _ (λ e. c.if-p-n.true (e ∙ sym c.size-n.ensures)))
 
 pub stands-requires : goal.stands-requires
-unfolding letters ascii asciiFrom
+unfolding letters ascii ascii_from
 stands-requires c = (refl, (word-there c.begin-start.ensures _ (c.if-p-n.false ∙ c.size-n.ensures)).0)
 
 pub returns : goal.returns

@@ -1,7 +1,7 @@
 -- The lexemes that are left, with the tokens found, are those of the draft.
 -- Assumes nothing.
 use Rattle.std.proofs.Common.{◌≡◌, cond, eqb, sym, ◌∙◌, ap, arith}
-use Rattle.lexer.specs.Limits.{judgedIn}
+use Rattle.lexer.specs.Limits.{judged_in}
 use Rattle.lexer.proofs.Filling.{fill_start, over-stays, fill-leads, fill-trivia, fill-token, fill-refused, fill-answer, fill-held}
 use Rattle.lexer.proofs.limits.fill.Goals.{then-not-put, else-not-put}
 use Rattle.lexer.proofs.limits.fill.Goals as goal
@@ -41,7 +41,7 @@ loop-kind-preserved c = fill-trivia c.loop-kind.invariant _ (sym c.step_with-fou
 
 pub returns-in-Refused-clause-result_value : goal.returns-in-Refused-clause-result_value
 returns-in-Refused-clause-result_value c =
-    sym (ap (judgedIn _) (fill-refused c.loop-kind.invariant _ _ (sym c.step_with-found.ensures ∙ c.in-Refused.is)))
+    sym (ap (judged_in _) (fill-refused c.loop-kind.invariant _ _ (sym c.step_with-found.ensures ∙ c.in-Refused.is)))
 
 pub returns-in-Nothing-clause-result_value : goal.returns-in-Nothing-clause-result_value
 returns-in-Nothing-clause-result_value c =

@@ -1,7 +1,7 @@
 -- Without `::` and a name behind it, a name is a word.
 -- Assumes nothing.
 use Rattle.std.proofs.Common.{sym, ◌∙◌, ap, arith}
-use Rattle.lexer.specs.Chars.{among, nameStarts}
+use Rattle.lexer.specs.Chars.{among, name_starts}
 use Rattle.lexer.proofs.Names.{no-macro, not-path, not_named}
 use Rattle.lexer.proofs.scan.colon_word.Goals as goal
 
@@ -13,4 +13,4 @@ word-requires c =
 pub word-requires-2 : goal.word-requires-2
 word-requires-2 c =
     let n = c.requires.named in
-    (n.0, not_named _ _ _ n.0 (ap (among nameStarts) (sym c.peek-2.ensures) ∙ sym c.starts_name.ensures ∙ c.if-starts_name.false), no-macro _ _ _ n.0 (λ z. absurd (omega (arith, n.1))))
+    (n.0, not_named _ _ _ n.0 (ap (among name_starts) (sym c.peek-2.ensures) ∙ sym c.starts_name.ensures ∙ c.if-starts_name.false), no-macro _ _ _ n.0 (λ z. absurd (omega (arith, n.1))))

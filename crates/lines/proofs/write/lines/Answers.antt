@@ -1,6 +1,6 @@
 -- Assumes nothing.
 use Rattle.std.proofs.Common.{◌≡◌, ◌+◌, ◌-◌, ◌*◌, arith}
-use Rattle.text.specs.Widths.{recWide}
+use Rattle.text.specs.Widths.{rec_wide}
 use Rattle.lines.proofs.Listing.{listing_start, line-fits, listing-more, listing-end}
 use Rattle.lines.proofs.write.lines.Goals as goal
 
@@ -12,8 +12,8 @@ line-p-requires-clause-line_in_bounds c = line-fits c.loop-i.invariant c.loop-i-
 
 pub loop-i-preserved : goal.loop-i-preserved
 loop-i-preserved c =
-    let w = recWide * c.loop-i.i in
-    let e : w + recWide - w ≡ recWide = omega arith in
+    let w = rec_wide * c.loop-i.i in
+    let e : w + rec_wide - w ≡ rec_wide = omega arith in
     listing-more c.loop-i.invariant c.loop-i-test.true c.line-p.ensures.end (rw e at c.line-p.ensures.bytes)
 
 pub returns : goal.returns

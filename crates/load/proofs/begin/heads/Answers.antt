@@ -1,7 +1,7 @@
 -- `heads` meets its contract.
 -- Assumes nothing.
 use Rattle.std.proofs.Common.{refl}
-use Rattle.load.specs.children.Table.{heads}
+use Rattle.load.specs.Children.Table.{heads}
 use Rattle.load.proofs.begin.heads.Goals as goal
 
 pub returns : goal.returns

@@ -1,7 +1,7 @@
 -- `verdict` meets its contract.
 -- Assumes nothing.
 use Rattle.std.proofs.Common.{rules}
-use Rattle.load.specs.check.Judge as spec
+use Rattle.load.specs.Checks.Judge as spec
 use Rattle.load.proofs.CheckLaws.{verdict-end, verdict-not}
 use Rattle.load.proofs.check.verdict.Goals as goal
 

@@ -1,7 +1,7 @@
 -- `ends` meets its contract.
 -- Assumes nothing.
 use Rattle.std.proofs.Common.{ℕ, ap, eqb}
-use Rattle.load.specs.children.Run as run
+use Rattle.load.specs.Children.Run as run
 use Rattle.load.proofs.walk.ends.Goals as goal
 
 pub returns : goal.returns

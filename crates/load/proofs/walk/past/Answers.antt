@@ -1,7 +1,7 @@
 -- `past` meets its contract.
 -- Assumes nothing.
 use Rattle.std.proofs.Common.{arith}
-use Rattle.load.specs.check.Judge.{asRec}
+use Rattle.load.specs.Checks.Judge.{as_rec}
 use Rattle.load.proofs.WalkLaws.{cue-within, sum-small, past_is}
 use Rattle.load.proofs.walk.past.Goals as goal
 
@@ -18,4 +18,4 @@ pub overflow_add-result-3 : goal.overflow_add-result-3
 overflow_add-result-3 c = omega (arith, sum-small _ _ _ _ c.requires.small.patterns c.requires.size_nonzero c.requires.size_le_left c.one-3.ensures)
 
 pub returns : goal.returns
-returns c = past_is c.args.seen (asRec c.args.child) c.cue-its.ensures c.entry.ensures.is c.one.ensures c.one-2.ensures c.one-3.ensures
+returns c = past_is c.args.seen (as_rec c.args.child) c.cue-its.ensures c.entry.ensures.is c.one.ensures c.one-2.ensures c.one-3.ensures

@@ -2,13 +2,13 @@
 -- Assumes nothing.
 use Rattle.std.proofs.Common.{arith, ◌∙◌}
 use Rattle.lines.specs.Lines.{widths}
-use Rattle.load.specs.check.GivenWays.{sizesIn}
+use Rattle.load.specs.Checks.GivenWays.{sizes_in}
 use Rattle.up.specs.Climb.{less, climbs, resumes, held-before, held-by, held-by-none}
 use Rattle.load.proofs.ways.above.Goals as goal
 
 pub returns-then-size-gt1 : goal.returns-then-size-gt1
 returns-then-size-gt1 c =
-    held-before (sizesIn widths c.args.text.now) c.args.i (omega (arith, c.if-i-eq0.false)) (omega (arith, c.if-size-gt1.true, c.size.ensures))
+    held-before (sizes_in widths c.args.text.now) c.args.i (omega (arith, c.if-i-eq0.false)) (omega (arith, c.if-size-gt1.true, c.size.ensures))
 
 pub loop-p-init : goal.loop-p-init
 loop-p-init c = resumes (omega (arith, c.if-i-eq0.false)) (omega (arith, c.if-size-gt1.false, c.size.ensures)) c.requires.before_value

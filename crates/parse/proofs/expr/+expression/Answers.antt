@@ -1,24 +1,24 @@
 -- Assumes nothing.
 use Rattle.std.proofs.Common.{not, [], ◌∷◌, ◌++◌, get_or, sym, refl, ap, ◌∙◌, inl, inr, arith}
 use Rattle.theory.specs.Grammar.{tok, nt}
-use Rattle.theory.specs.Walk.{k-nt}
+use Rattle.theory.specs.Walk.{k_nt}
 use Rattle.theory.specs.Machine.{expand}
 use Rattle.lexer.specs.Classes as class
 use Rattle.own.specs.Kinds as kind
 use Rattle.own.specs.Law.{word, child}
-use Rattle.grammar.specs.records.Records.{lone}
-use Rattle.grammar.specs.shapes.Tables.{table}
-use Rattle.grammar.specs.shapes.TablesIndex.{n-arguments, n-arm-choice, n-arm-choice-optional-Comma, n-bare-optional-DoubleColon, n-block, n-functionName, n-list-expression, n-named-optional, n-single, n-type}
-use Rattle.grammar.specs.shapes.ShapeKind.{ArrayShape, AssignmentShape, BareShape, BlockShape, CastCallShape, FoldingShape, ForWhileShape, ListShape, NamedShape, ParensShape, SimpleCallShape, TypedShape}
-use Rattle.parse.specs.Contract.{text, classes, tokAt, reserved, read, stuck, ExprKind}
+use Rattle.grammar.specs.Records.Records.{lone}
+use Rattle.grammar.specs.Shapes.Tables.{table}
+use Rattle.grammar.specs.Shapes.TablesIndex.{n-arguments, n-arm-choice, n-arm-choice-optional-Comma, n-bare-optional-DoubleColon, n-block, n-function_name, n-list-expression, n-named-optional, n-single, n-type}
+use Rattle.grammar.specs.Shapes.ShapeKind.{ArrayShape, AssignmentShape, BareShape, BlockShape, CastCallShape, FoldingShape, ForWhileShape, ListShape, NamedShape, ParensShape, SimpleCallShape, TypedShape}
+use Rattle.parse.specs.Contract.{text, classes, tok_at, reserved, read, stuck, ExprKind}
 use Rattle.parse.specs.Infos as info
-use Rattle.parse.proofs.rule.Amid.{starts, then_turns, then-passed}
-use Rattle.parse.proofs.rule.Closing.{opens, opens-clean, as-nonterminal, enters}
-use Rattle.parse.proofs.rule.Chain.{further, onward-ahead, advances, then-eats, then-lacks, then-node}
-use Rattle.parse.proofs.rule.Marks.{sign-mark, keeping-mark, word-mark}
-use Rattle.parse.proofs.rule.Commas.{AnyN}
-use Rattle.parse.proofs.rule.Commas as lined
-use Rattle.parse.proofs.rule.Heads.{shut, shut-judged, value-text}
+use Rattle.parse.proofs.Rule.Amid.{starts, then_turns, then-passed}
+use Rattle.parse.proofs.Rule.Closing.{opens, opens-clean, as-nonterminal, enters}
+use Rattle.parse.proofs.Rule.Chain.{further, onward-ahead, advances, then-eats, then-lacks, then-node}
+use Rattle.parse.proofs.Rule.Marks.{sign-mark, keeping-mark, word-mark}
+use Rattle.parse.proofs.Rule.Commas.{AnyN}
+use Rattle.parse.proofs.Rule.Commas as lined
+use Rattle.parse.proofs.Rule.Heads.{shut, shut-judged, value-text}
 use Rattle.parse.proofs.token.Tokens.{length-text}
 use Rattle.parse.proofs.names.Chain as chain2
 use Rattle.parse.proofs.pattern.Forms as pattern
@@ -30,14 +30,14 @@ use Rattle.parse.proofs.expr.MatchForm as match
 use Rattle.parse.proofs.expr.CallForms as call
 use Rattle.parse.proofs.expr.CallLaws as law
 use Rattle.parse.proofs.expr.NameRules as rule
-use Rattle.parse.proofs.rule.Refused.{refusal}
+use Rattle.parse.proofs.Rule.Refused.{refusal}
 use Rattle.parse.proofs.expr.+expression.Goals as goal
 
 pub arm-head-head-requires : goal.arm-head-head-requires
 arm-head-head-requires t c =
     let y = c.requires.ready in
     let o = opens y c.reserve.ensures in
-    record { stands = o.stands; short = y.short; few = omega (arith, o.at-is, o.out-is, c.requires.out_lt_at) }
+    record { stands = o.stands; short = y.short; few = omega (arith, o.at_is, o.out_is, c.requires.out_lt_at) }
 
 pub arm-returns-in_default : goal.arm-returns-in_default
 arm-returns-in_default t c =
@@ -51,7 +51,7 @@ arm-returns-in_default-arrow t c =
     let o = opens y c.reserve.ensures in
     let n = c.in-Next.number in
     let b = armed.begins-there y o c.head-head.ensures c.in-Next.is in
-    let d0 = starts (info.armKind n) AnyN armed.armSymbols c.args.tree.now o.stands in
+    let d0 = starts (info.arm_kind n) AnyN armed.arm_symbols c.args.tree.now o.stands in
     let d1 = armed.then-head d0 c.head-head.ensures c.in-Next.is in
     then-lacks d1.amid (refusal c.in_default-arrow.is) (enters armed.arm_is y b o) c.eat-arrow.ensures
 
@@ -60,9 +60,9 @@ arm-body-rest-requires t c =
     let y = c.requires.ready in
     let o = opens y c.reserve.ensures in
     let n = c.in-Next.number in
-    let d0 = starts (info.armKind n) AnyN armed.armSymbols c.args.tree.now o.stands in
+    let d0 = starts (info.arm_kind n) AnyN armed.arm_symbols c.args.tree.now o.stands in
     let d1 = armed.then-head d0 c.head-head.ensures c.in-Next.is in
-    let d2 = then-eats d1.amid (omega arith) c.eat-arrow.ensures c.in-Next-arrow.is (sign-mark (info.armKind n) class.FatArrow tt) in
+    let d2 = then-eats d1.amid (omega arith) c.eat-arrow.ensures c.in-Next-arrow.is (sign-mark (info.arm_kind n) class.FatArrow tt) in
     let f2 = further y o d2 (omega arith) in
     let q = length-text c.args.draft.now c.args.tokens.now c.args.count in
     (omega (arith, f2.ahead, f2.within, q, c.decreases), f2.ready)
@@ -73,9 +73,9 @@ arm-returns-in_default-rest t c =
     let o = opens y c.reserve.ensures in
     let n = c.in-Next.number in
     let b = armed.begins-there y o c.head-head.ensures c.in-Next.is in
-    let d0 = starts (info.armKind n) AnyN armed.armSymbols c.args.tree.now o.stands in
+    let d0 = starts (info.arm_kind n) AnyN armed.arm_symbols c.args.tree.now o.stands in
     let d1 = armed.then-head d0 c.head-head.ensures c.in-Next.is in
-    let d2 = then-eats d1.amid (omega arith) c.eat-arrow.ensures c.in-Next-arrow.is (sign-mark (info.armKind n) class.FatArrow tt) in
+    let d2 = then-eats d1.amid (omega arith) c.eat-arrow.ensures c.in-Next-arrow.is (sign-mark (info.arm_kind n) class.FatArrow tt) in
     then-passed d2 (refusal c.in_default-rest.is) (enters armed.arm_is y b o) c.body-rest.ensures
 
 pub arm-returns : goal.arm-returns
@@ -84,9 +84,9 @@ arm-returns t c =
     let o = opens y c.reserve.ensures in
     let n = c.in-Next.number in
     let b = armed.begins-there y o c.head-head.ensures c.in-Next.is in
-    let d0 = starts (info.armKind n) AnyN armed.armSymbols c.args.tree.now o.stands in
+    let d0 = starts (info.arm_kind n) AnyN armed.arm_symbols c.args.tree.now o.stands in
     let d1 = armed.then-head d0 c.head-head.ensures c.in-Next.is in
-    let d2 = then-eats d1.amid (omega arith) c.eat-arrow.ensures c.in-Next-arrow.is (sign-mark (info.armKind n) class.FatArrow tt) in
+    let d2 = then-eats d1.amid (omega arith) c.eat-arrow.ensures c.in-Next-arrow.is (sign-mark (info.arm_kind n) class.FatArrow tt) in
     let d3 = armed.then-body d2 c.body-rest.ensures c.in-Next-rest.is in
     as-nonterminal armed.arm_is y b (read (armed.arm-shut n c.in-Next.other d1.W d3.W y o (armed.shifted d1.W d3.W d3.amid) (omega arith) d1.so d3.so (armed.head-low c.head-head.ensures c.in-Next.is) c.head-h.ensures c.close.ensures))
 
@@ -126,8 +126,8 @@ array-exprs-inner-requires t c =
     let y = c.requires.ready in
     let e = c.requires.class_value in
     let o = opens y c.reserve.ensures in
-    let d0 = starts kind.Array AnyN form.arrayRhs c.args.tree.now o.stands in
-    let k = o.class-is ∙ form.at-array c.args.st.class e in
+    let d0 = starts kind.Array AnyN form.array_rhs c.args.tree.now o.stands in
+    let k = o.class_is ∙ form.at-array c.args.st.class e in
     let d1 = advances d0 k (omega arith) c.advance-a.ensures (sign-mark kind.Array class.LBracket tt) in
     let f1 = further y o d1 (omega arith) in
     let q = length-text c.args.draft.now c.args.tokens.now c.args.count in
@@ -138,8 +138,8 @@ array-returns-in_default t c =
     let y = c.requires.ready in
     let e = c.requires.class_value in
     let o = opens y c.reserve.ensures in
-    let d0 = starts kind.Array AnyN form.arrayRhs c.args.tree.now o.stands in
-    let k = o.class-is ∙ form.at-array c.args.st.class e in
+    let d0 = starts kind.Array AnyN form.array_rhs c.args.tree.now o.stands in
+    let k = o.class_is ∙ form.at-array c.args.st.class e in
     let d1 = advances d0 k (omega arith) c.advance-a.ensures (sign-mark kind.Array class.LBracket tt) in
     then-passed d1 (refusal c.in_default.is) (enters form.array-rule y e o) c.exprs-inner.ensures
 
@@ -148,8 +148,8 @@ array-returns-in_default-bracket t c =
     let y = c.requires.ready in
     let e = c.requires.class_value in
     let o = opens y c.reserve.ensures in
-    let d0 = starts kind.Array AnyN form.arrayRhs c.args.tree.now o.stands in
-    let k = o.class-is ∙ form.at-array c.args.st.class e in
+    let d0 = starts kind.Array AnyN form.array_rhs c.args.tree.now o.stands in
+    let k = o.class_is ∙ form.at-array c.args.st.class e in
     let d1 = advances d0 k (omega arith) c.advance-a.ensures (sign-mark kind.Array class.LBracket tt) in
     let d2 = elem.then-lone d1 c.exprs-inner.ensures c.in-Next.is in
     then-lacks d2.amid (refusal c.in_default-bracket.is) (enters form.array-rule y e o) c.eat-bracket.ensures
@@ -159,8 +159,8 @@ array-returns t c =
     let y = c.requires.ready in
     let e = c.requires.class_value in
     let o = opens y c.reserve.ensures in
-    let d0 = starts kind.Array AnyN form.arrayRhs c.args.tree.now o.stands in
-    let k = o.class-is ∙ form.at-array c.args.st.class e in
+    let d0 = starts kind.Array AnyN form.array_rhs c.args.tree.now o.stands in
+    let k = o.class_is ∙ form.at-array c.args.st.class e in
     let d1 = advances d0 k (omega arith) c.advance-a.ensures (sign-mark kind.Array class.LBracket tt) in
     let d2 = elem.then-lone d1 c.exprs-inner.ensures c.in-Next.is in
     let d3 = then-eats d2.amid (omega arith) c.eat-bracket.ensures c.in-Next-bracket.is (sign-mark kind.Array class.RBracket tt) in
@@ -171,8 +171,8 @@ assign-pattern-left-requires t c =
     let y = c.requires.ready in
     let e = form.at-assign c.args.st.class c.requires.class_value in
     let o = opens y c.reserve.ensures in
-    let d0 = starts kind.Let AnyN form.assignRhs c.args.tree.now o.stands in
-    let d1 = advances d0 (o.class-is ∙ c.requires.class_value) (omega arith) c.advance-a.ensures (sign-mark kind.Let class.Let tt) in
+    let d0 = starts kind.Let AnyN form.assign_rhs c.args.tree.now o.stands in
+    let d1 = advances d0 (o.class_is ∙ c.requires.class_value) (omega arith) c.advance-a.ensures (sign-mark kind.Let class.Let tt) in
     let f1 = further y o d1 (omega arith) in
     f1.ready
 
@@ -181,8 +181,8 @@ assign-returns-in_default t c =
     let y = c.requires.ready in
     let e = form.at-assign c.args.st.class c.requires.class_value in
     let o = opens y c.reserve.ensures in
-    let d0 = starts kind.Let AnyN form.assignRhs c.args.tree.now o.stands in
-    let d1 = advances d0 (o.class-is ∙ c.requires.class_value) (omega arith) c.advance-a.ensures (sign-mark kind.Let class.Let tt) in
+    let d0 = starts kind.Let AnyN form.assign_rhs c.args.tree.now o.stands in
+    let d1 = advances d0 (o.class_is ∙ c.requires.class_value) (omega arith) c.advance-a.ensures (sign-mark kind.Let class.Let tt) in
     then-passed d1 (refusal c.in_default.is) (enters form.assign-rule y e o) c.pattern-left.ensures
 
 pub assign-returns-in_default-colon : goal.assign-returns-in_default-colon
@@ -190,8 +190,8 @@ assign-returns-in_default-colon t c =
     let y = c.requires.ready in
     let e = form.at-assign c.args.st.class c.requires.class_value in
     let o = opens y c.reserve.ensures in
-    let d0 = starts kind.Let AnyN form.assignRhs c.args.tree.now o.stands in
-    let d1 = advances d0 (o.class-is ∙ c.requires.class_value) (omega arith) c.advance-a.ensures (sign-mark kind.Let class.Let tt) in
+    let d0 = starts kind.Let AnyN form.assign_rhs c.args.tree.now o.stands in
+    let d1 = advances d0 (o.class_is ∙ c.requires.class_value) (omega arith) c.advance-a.ensures (sign-mark kind.Let class.Let tt) in
     let d2 = then-node d1 c.pattern-left.ensures c.in-Next.is in
     then-lacks d2.amid (refusal c.in_default-colon.is) (enters form.assign-rule y e o) c.eat-colon.ensures
 
@@ -200,8 +200,8 @@ assign-ty-middle-requires t c =
     let y = c.requires.ready in
     let e = form.at-assign c.args.st.class c.requires.class_value in
     let o = opens y c.reserve.ensures in
-    let d0 = starts kind.Let AnyN form.assignRhs c.args.tree.now o.stands in
-    let d1 = advances d0 (o.class-is ∙ c.requires.class_value) (omega arith) c.advance-a.ensures (sign-mark kind.Let class.Let tt) in
+    let d0 = starts kind.Let AnyN form.assign_rhs c.args.tree.now o.stands in
+    let d1 = advances d0 (o.class_is ∙ c.requires.class_value) (omega arith) c.advance-a.ensures (sign-mark kind.Let class.Let tt) in
     let d2 = then-node d1 c.pattern-left.ensures c.in-Next.is in
     let d3 = then-eats d2.amid (omega arith) c.eat-colon.ensures c.in-Next-colon.is (sign-mark kind.Let class.Colon tt) in
     let f3 = further y o d3 (omega arith) in
@@ -212,8 +212,8 @@ assign-returns-in_default-middle t c =
     let y = c.requires.ready in
     let e = form.at-assign c.args.st.class c.requires.class_value in
     let o = opens y c.reserve.ensures in
-    let d0 = starts kind.Let AnyN form.assignRhs c.args.tree.now o.stands in
-    let d1 = advances d0 (o.class-is ∙ c.requires.class_value) (omega arith) c.advance-a.ensures (sign-mark kind.Let class.Let tt) in
+    let d0 = starts kind.Let AnyN form.assign_rhs c.args.tree.now o.stands in
+    let d1 = advances d0 (o.class_is ∙ c.requires.class_value) (omega arith) c.advance-a.ensures (sign-mark kind.Let class.Let tt) in
     let d2 = then-node d1 c.pattern-left.ensures c.in-Next.is in
     let d3 = then-eats d2.amid (omega arith) c.eat-colon.ensures c.in-Next-colon.is (sign-mark kind.Let class.Colon tt) in
     then-passed d3 (refusal c.in_default-middle.is) (enters form.assign-rule y e o) c.ty-middle.ensures
@@ -223,8 +223,8 @@ assign-returns-in_default-equal t c =
     let y = c.requires.ready in
     let e = form.at-assign c.args.st.class c.requires.class_value in
     let o = opens y c.reserve.ensures in
-    let d0 = starts kind.Let AnyN form.assignRhs c.args.tree.now o.stands in
-    let d1 = advances d0 (o.class-is ∙ c.requires.class_value) (omega arith) c.advance-a.ensures (sign-mark kind.Let class.Let tt) in
+    let d0 = starts kind.Let AnyN form.assign_rhs c.args.tree.now o.stands in
+    let d1 = advances d0 (o.class_is ∙ c.requires.class_value) (omega arith) c.advance-a.ensures (sign-mark kind.Let class.Let tt) in
     let d2 = then-node d1 c.pattern-left.ensures c.in-Next.is in
     let d3 = then-eats d2.amid (omega arith) c.eat-colon.ensures c.in-Next-colon.is (sign-mark kind.Let class.Colon tt) in
     let d4 = then-node d3 c.ty-middle.ensures c.in-Next-middle.is in
@@ -235,8 +235,8 @@ assign-expr-right-requires t c =
     let y = c.requires.ready in
     let e = form.at-assign c.args.st.class c.requires.class_value in
     let o = opens y c.reserve.ensures in
-    let d0 = starts kind.Let AnyN form.assignRhs c.args.tree.now o.stands in
-    let d1 = advances d0 (o.class-is ∙ c.requires.class_value) (omega arith) c.advance-a.ensures (sign-mark kind.Let class.Let tt) in
+    let d0 = starts kind.Let AnyN form.assign_rhs c.args.tree.now o.stands in
+    let d1 = advances d0 (o.class_is ∙ c.requires.class_value) (omega arith) c.advance-a.ensures (sign-mark kind.Let class.Let tt) in
     let d2 = then-node d1 c.pattern-left.ensures c.in-Next.is in
     let d3 = then-eats d2.amid (omega arith) c.eat-colon.ensures c.in-Next-colon.is (sign-mark kind.Let class.Colon tt) in
     let d4 = then-node d3 c.ty-middle.ensures c.in-Next-middle.is in
@@ -250,8 +250,8 @@ assign-returns-in_default-right t c =
     let y = c.requires.ready in
     let e = form.at-assign c.args.st.class c.requires.class_value in
     let o = opens y c.reserve.ensures in
-    let d0 = starts kind.Let AnyN form.assignRhs c.args.tree.now o.stands in
-    let d1 = advances d0 (o.class-is ∙ c.requires.class_value) (omega arith) c.advance-a.ensures (sign-mark kind.Let class.Let tt) in
+    let d0 = starts kind.Let AnyN form.assign_rhs c.args.tree.now o.stands in
+    let d1 = advances d0 (o.class_is ∙ c.requires.class_value) (omega arith) c.advance-a.ensures (sign-mark kind.Let class.Let tt) in
     let d2 = then-node d1 c.pattern-left.ensures c.in-Next.is in
     let d3 = then-eats d2.amid (omega arith) c.eat-colon.ensures c.in-Next-colon.is (sign-mark kind.Let class.Colon tt) in
     let d4 = then-node d3 c.ty-middle.ensures c.in-Next-middle.is in
@@ -263,8 +263,8 @@ assign-returns t c =
     let y = c.requires.ready in
     let e = form.at-assign c.args.st.class c.requires.class_value in
     let o = opens y c.reserve.ensures in
-    let d0 = starts kind.Let AnyN form.assignRhs c.args.tree.now o.stands in
-    let d1 = advances d0 (o.class-is ∙ c.requires.class_value) (omega arith) c.advance-a.ensures (sign-mark kind.Let class.Let tt) in
+    let d0 = starts kind.Let AnyN form.assign_rhs c.args.tree.now o.stands in
+    let d1 = advances d0 (o.class_is ∙ c.requires.class_value) (omega arith) c.advance-a.ensures (sign-mark kind.Let class.Let tt) in
     let d2 = then-node d1 c.pattern-left.ensures c.in-Next.is in
     let d3 = then-eats d2.amid (omega arith) c.eat-colon.ensures c.in-Next-colon.is (sign-mark kind.Let class.Colon tt) in
     let d4 = then-node d3 c.ty-middle.ensures c.in-Next-middle.is in
@@ -277,8 +277,8 @@ block-elems-inner-requires t c =
     let y = c.requires.ready in
     let e = form.at_block c.args.st.class c.requires.class_value in
     let o = opens y c.reserve.ensures in
-    let d0 = starts kind.Block AnyN form.blockRhs c.args.tree.now o.stands in
-    let d1 = advances d0 (o.class-is ∙ c.requires.class_value) (omega arith) c.advance-a.ensures (sign-mark kind.Block class.LBrace tt) in
+    let d0 = starts kind.Block AnyN form.block_rhs c.args.tree.now o.stands in
+    let d1 = advances d0 (o.class_is ∙ c.requires.class_value) (omega arith) c.advance-a.ensures (sign-mark kind.Block class.LBrace tt) in
     let f1 = further y o d1 (omega arith) in
     let q = length-text c.args.draft.now c.args.tokens.now c.args.count in
     (omega (arith, f1.ahead, f1.within, q, c.decreases), f1.ready)
@@ -288,8 +288,8 @@ block-returns-in_default t c =
     let y = c.requires.ready in
     let e = form.at_block c.args.st.class c.requires.class_value in
     let o = opens y c.reserve.ensures in
-    let d0 = starts kind.Block AnyN form.blockRhs c.args.tree.now o.stands in
-    let d1 = advances d0 (o.class-is ∙ c.requires.class_value) (omega arith) c.advance-a.ensures (sign-mark kind.Block class.LBrace tt) in
+    let d0 = starts kind.Block AnyN form.block_rhs c.args.tree.now o.stands in
+    let d1 = advances d0 (o.class_is ∙ c.requires.class_value) (omega arith) c.advance-a.ensures (sign-mark kind.Block class.LBrace tt) in
     then-passed d1 (refusal c.in_default.is) (enters form.block-rule y e o) c.elems-inner.ensures
 
 pub block-returns-in_default-brace : goal.block-returns-in_default-brace
@@ -297,8 +297,8 @@ block-returns-in_default-brace t c =
     let y = c.requires.ready in
     let e = form.at_block c.args.st.class c.requires.class_value in
     let o = opens y c.reserve.ensures in
-    let d0 = starts kind.Block AnyN form.blockRhs c.args.tree.now o.stands in
-    let d1 = advances d0 (o.class-is ∙ c.requires.class_value) (omega arith) c.advance-a.ensures (sign-mark kind.Block class.LBrace tt) in
+    let d0 = starts kind.Block AnyN form.block_rhs c.args.tree.now o.stands in
+    let d1 = advances d0 (o.class_is ∙ c.requires.class_value) (omega arith) c.advance-a.ensures (sign-mark kind.Block class.LBrace tt) in
     let d2 = elem.then-elements d1 c.elems-inner.ensures c.in-Next.is in
     then-lacks d2.amid (refusal c.in_default-brace.is) (enters form.block-rule y e o) c.eat-brace.ensures
 
@@ -307,8 +307,8 @@ block-returns t c =
     let y = c.requires.ready in
     let e = form.at_block c.args.st.class c.requires.class_value in
     let o = opens y c.reserve.ensures in
-    let d0 = starts kind.Block AnyN form.blockRhs c.args.tree.now o.stands in
-    let d1 = advances d0 (o.class-is ∙ c.requires.class_value) (omega arith) c.advance-a.ensures (sign-mark kind.Block class.LBrace tt) in
+    let d0 = starts kind.Block AnyN form.block_rhs c.args.tree.now o.stands in
+    let d1 = advances d0 (o.class_is ∙ c.requires.class_value) (omega arith) c.advance-a.ensures (sign-mark kind.Block class.LBrace tt) in
     let d2 = elem.then-elements d1 c.elems-inner.ensures c.in-Next.is in
     let d3 = then-eats d2.amid (omega arith) c.eat-brace.ensures c.in-Next-brace.is (sign-mark kind.Block class.RBrace tt) in
     as-nonterminal form.block-rule y e (read (shut BlockShape tt y o d3 (omega arith) (form.block-head d2.W d3 d2.so) tt ExprKind (form.expr-kind (omega arith, omega arith)) c.close.ensures))
@@ -317,39 +317,39 @@ pub body-returns-in_default : goal.body-returns-in_default
 body-returns-in_default t c =
     let y = c.requires in
     let s0 = starts 0 AnyN (nt n-arm-choice ∷ []) c.args.tree.now y.stands in
-    let d0 = then_turns (nt n-block ∷ nt n-arm-choice-optional-Comma ∷ []) s0 armed.flat-body (armed.body-block (sym y.stands.class-is ∙ c.if-st-eq-LBRACE.true)) in
+    let d0 = then_turns (nt n-block ∷ nt n-arm-choice-optional-Comma ∷ []) s0 armed.flat-body (armed.body-block (sym y.stands.class_is ∙ c.if-st-eq-LBRACE.true)) in
     then-passed d0 (refusal c.in_default.is) (λ τ p h. h) c.block-inner.ensures
 
 pub body-returns-then-a-eq-COMMA : goal.body-returns-then-a-eq-COMMA
 body-returns-then-a-eq-COMMA t c =
     let y = c.requires in
     let s0 = starts 0 AnyN (nt n-arm-choice ∷ []) c.args.tree.now y.stands in
-    let d0 = then_turns (nt n-block ∷ nt n-arm-choice-optional-Comma ∷ []) s0 armed.flat-body (armed.body-block (sym y.stands.class-is ∙ c.if-st-eq-LBRACE.true)) in
+    let d0 = then_turns (nt n-block ∷ nt n-arm-choice-optional-Comma ∷ []) s0 armed.flat-body (armed.body-block (sym y.stands.class_is ∙ c.if-st-eq-LBRACE.true)) in
     let d1 = then-node d0 c.block-inner.ensures c.in-Next.is in
-    let d2 = advances (then_turns (tok class.Comma ∷ []) d1.amid armed.flat-comma (armed.a-comma (sym d1.amid.lays.stands.class-is ∙ c.if-a-eq-COMMA.true))) c.if-a-eq-COMMA.true (omega arith) c.advance-b.ensures (sign-mark 0 class.Comma tt) in
-    read (armed.body_is d1.kind d1.low d1.high d1.first (word class.Comma ∷ []) d2 d1.its-kind (inr refl))
+    let d2 = advances (then_turns (tok class.Comma ∷ []) d1.amid armed.flat-comma (armed.a-comma (sym d1.amid.lays.stands.class_is ∙ c.if-a-eq-COMMA.true))) c.if-a-eq-COMMA.true (omega arith) c.advance-b.ensures (sign-mark 0 class.Comma tt) in
+    read (armed.body_is d1.kind d1.low d1.high d1.first (word class.Comma ∷ []) d2 d1.its_kind (inr refl))
 
 pub body-returns-then-st-eq-LBRACE : goal.body-returns-then-st-eq-LBRACE
 body-returns-then-st-eq-LBRACE t c =
     let y = c.requires in
     let s0 = starts 0 AnyN (nt n-arm-choice ∷ []) c.args.tree.now y.stands in
-    let d0 = then_turns (nt n-block ∷ nt n-arm-choice-optional-Comma ∷ []) s0 armed.flat-body (armed.body-block (sym y.stands.class-is ∙ c.if-st-eq-LBRACE.true)) in
+    let d0 = then_turns (nt n-block ∷ nt n-arm-choice-optional-Comma ∷ []) s0 armed.flat-body (armed.body-block (sym y.stands.class_is ∙ c.if-st-eq-LBRACE.true)) in
     let d1 = then-node d0 c.block-inner.ensures c.in-Next.is in
-    let d3 = then_turns [] d1.amid armed.flat-comma (armed.no-comma (λ h. c.if-a-eq-COMMA.false (d1.amid.lays.stands.class-is ∙ h))) in
-    read (armed.body_is d1.kind d1.low d1.high d1.first [] d3 d1.its-kind (inl refl))
+    let d3 = then_turns [] d1.amid armed.flat-comma (armed.no-comma (λ h. c.if-a-eq-COMMA.false (d1.amid.lays.stands.class_is ∙ h))) in
+    read (armed.body_is d1.kind d1.low d1.high d1.first [] d3 d1.its_kind (inl refl))
 
 pub body-returns-in_default-other : goal.body-returns-in_default-other
 body-returns-in_default-other t c =
     let y = c.requires in
     let s0 = starts 0 AnyN (nt n-arm-choice ∷ []) c.args.tree.now y.stands in
-    let a0 = then_turns (nt n-single ∷ tok class.Comma ∷ []) s0 armed.flat-body (armed.body-single (λ h. c.if-st-eq-LBRACE.false (y.stands.class-is ∙ h))) in
+    let a0 = then_turns (nt n-single ∷ tok class.Comma ∷ []) s0 armed.flat-body (armed.body-single (λ h. c.if-st-eq-LBRACE.false (y.stands.class_is ∙ h))) in
     then-passed a0 (refusal c.in_default-other.is) (λ τ p h. h) c.single-other.ensures
 
 pub body-returns-in_default-comma : goal.body-returns-in_default-comma
 body-returns-in_default-comma t c =
     let y = c.requires in
     let s0 = starts 0 AnyN (nt n-arm-choice ∷ []) c.args.tree.now y.stands in
-    let a0 = then_turns (nt n-single ∷ tok class.Comma ∷ []) s0 armed.flat-body (armed.body-single (λ h. c.if-st-eq-LBRACE.false (y.stands.class-is ∙ h))) in
+    let a0 = then_turns (nt n-single ∷ tok class.Comma ∷ []) s0 armed.flat-body (armed.body-single (λ h. c.if-st-eq-LBRACE.false (y.stands.class_is ∙ h))) in
     let a1 = then-node a0 c.single-other.ensures c.in-Next-other.is in
     then-lacks a1.amid (refusal c.in_default-comma.is) (λ τ p h. h) c.eat-comma.ensures
 
@@ -357,10 +357,10 @@ pub body-returns : goal.body-returns
 body-returns t c =
     let y = c.requires in
     let s0 = starts 0 AnyN (nt n-arm-choice ∷ []) c.args.tree.now y.stands in
-    let a0 = then_turns (nt n-single ∷ tok class.Comma ∷ []) s0 armed.flat-body (armed.body-single (λ h. c.if-st-eq-LBRACE.false (y.stands.class-is ∙ h))) in
+    let a0 = then_turns (nt n-single ∷ tok class.Comma ∷ []) s0 armed.flat-body (armed.body-single (λ h. c.if-st-eq-LBRACE.false (y.stands.class_is ∙ h))) in
     let a1 = then-node a0 c.single-other.ensures c.in-Next-other.is in
     let a2 = then-eats a1.amid (omega arith) c.eat-comma.ensures c.in-Next-comma.is (sign-mark 0 class.Comma tt) in
-    read (armed.body_is a1.kind a1.low a1.high a1.first (word class.Comma ∷ []) a2 a1.its-kind (inr refl))
+    read (armed.body_is a1.kind a1.low a1.high a1.first (word class.Comma ∷ []) a2 a1.its_kind (inr refl))
 
 pub c::arguments-returns-in_default : goal.c::arguments-returns-in_default
 c::arguments-returns-in_default t c =
@@ -414,7 +414,7 @@ c::bare-returns-then-a-ne-DOUBLE_COLON t c =
     let z = call.for-bare c.args.st.class e in
     let ks = call.alone-kinds c.args.st.class c.alone.result c.alone.ensures in
     let a1 = law.first-mark y o z c.alone.result AnyN (nt n-bare-optional-DoubleColon ∷ []) c.args.tree.now c.advance-a.ensures (keeping-mark c.alone.result c.args.st.class (call.alone-keeps ks)) in
-    let a2 = then_turns [] a1 call.flat-bare (call.bare-alone (λ h. c.if-a-ne-DOUBLE_COLON.true (a1.lays.stands.class-is ∙ h))) in
+    let a2 = then_turns [] a1 call.flat-bare (call.bare-alone (λ h. c.if-a-ne-DOUBLE_COLON.true (a1.lays.stands.class_is ∙ h))) in
     as-nonterminal call.bare-rule y e (read (shut BareShape tt y o a2 (omega arith) (call.form-bare a2 ∙ call.alone-is c.args.st.class n ∙ sym c.alone.ensures) (call.alone-unturned ks) ExprKind (call.alone-kind ks) c.close.ensures))
 
 pub c::bound-function_name-inner-requires : goal.c::bound-function_name-inner-requires
@@ -424,7 +424,7 @@ c::bound-function_name-inner-requires t c =
     let o = opens-clean y refl refl in
     let g = rule.begun-apart c.args.st c.args.b c.requires.begun c.clean.ensures in
     let h = rule.apart-class c.args.b c.clean.ensures c.requires.class_value_2 in
-    let a1 = law.angled y o (call.for-folding c.args.st.class e) AnyN (nt n-functionName ∷ tok class.Comma ∷ tok class.DecLiteral ∷ tok class.RAngle ∷ nt n-arguments ∷ []) c.args.tree.now call.flat-folding (λ i h. call.folding-colons h) call.flat-bounded (λ i h. call.folding-angle h) (call.folding-mark c.args.st.class e) g h c.advance-d.ensures in
+    let a1 = law.angled y o (call.for-folding c.args.st.class e) AnyN (nt n-function_name ∷ tok class.Comma ∷ tok class.DecLiteral ∷ tok class.RAngle ∷ nt n-arguments ∷ []) c.args.tree.now call.flat-folding (λ i h. call.folding-colons h) call.flat-bounded (λ i h. call.folding-angle h) (call.folding-mark c.args.st.class e) g h c.advance-d.ensures in
     let f1 = further y o a1 (omega arith) in
     f1.ready
 
@@ -435,7 +435,7 @@ c::bound-returns-in_default t c =
     let o = opens-clean y refl refl in
     let g = rule.begun-apart c.args.st c.args.b c.requires.begun c.clean.ensures in
     let h = rule.apart-class c.args.b c.clean.ensures c.requires.class_value_2 in
-    let a1 = law.angled y o (call.for-folding c.args.st.class e) AnyN (nt n-functionName ∷ tok class.Comma ∷ tok class.DecLiteral ∷ tok class.RAngle ∷ nt n-arguments ∷ []) c.args.tree.now call.flat-folding (λ i h. call.folding-colons h) call.flat-bounded (λ i h. call.folding-angle h) (call.folding-mark c.args.st.class e) g h c.advance-d.ensures in
+    let a1 = law.angled y o (call.for-folding c.args.st.class e) AnyN (nt n-function_name ∷ tok class.Comma ∷ tok class.DecLiteral ∷ tok class.RAngle ∷ nt n-arguments ∷ []) c.args.tree.now call.flat-folding (λ i h. call.folding-colons h) call.flat-bounded (λ i h. call.folding-angle h) (call.folding-mark c.args.st.class e) g h c.advance-d.ensures in
     then-passed a1 (refusal c.in_default.is) (enters call.folding-rule y e o) c.function_name-inner.ensures
 
 pub c::bound-returns-in_default-comma : goal.c::bound-returns-in_default-comma
@@ -445,7 +445,7 @@ c::bound-returns-in_default-comma t c =
     let o = opens-clean y refl refl in
     let g = rule.begun-apart c.args.st c.args.b c.requires.begun c.clean.ensures in
     let h = rule.apart-class c.args.b c.clean.ensures c.requires.class_value_2 in
-    let a1 = law.angled y o (call.for-folding c.args.st.class e) AnyN (nt n-functionName ∷ tok class.Comma ∷ tok class.DecLiteral ∷ tok class.RAngle ∷ nt n-arguments ∷ []) c.args.tree.now call.flat-folding (λ i h. call.folding-colons h) call.flat-bounded (λ i h. call.folding-angle h) (call.folding-mark c.args.st.class e) g h c.advance-d.ensures in
+    let a1 = law.angled y o (call.for-folding c.args.st.class e) AnyN (nt n-function_name ∷ tok class.Comma ∷ tok class.DecLiteral ∷ tok class.RAngle ∷ nt n-arguments ∷ []) c.args.tree.now call.flat-folding (λ i h. call.folding-colons h) call.flat-bounded (λ i h. call.folding-angle h) (call.folding-mark c.args.st.class e) g h c.advance-d.ensures in
     let a2 = law.then-function-name a1 c.function_name-inner.ensures c.in-Next.is in
     then-lacks a2 (refusal c.in_default-comma.is) (enters call.folding-rule y e o) c.eat-comma.ensures
 
@@ -458,7 +458,7 @@ c::bound-decimal-size-requires t c =
     let g = rule.begun-apart c.args.st c.args.b c.requires.begun c.clean.ensures in
     let h = rule.apart-class c.args.b c.clean.ensures c.requires.class_value_2 in
     let N = law.Valued x c.in-Next-comma.g.at in
-    let d1 = law.angled y o (call.for-folding c.args.st.class e) N (nt n-functionName ∷ tok class.Comma ∷ tok class.DecLiteral ∷ tok class.RAngle ∷ nt n-arguments ∷ []) c.args.tree.now call.flat-folding (λ i h. call.folding-colons h) call.flat-bounded (λ i h. call.folding-angle h) (call.folding-mark c.args.st.class e) g h c.advance-d.ensures in
+    let d1 = law.angled y o (call.for-folding c.args.st.class e) N (nt n-function_name ∷ tok class.Comma ∷ tok class.DecLiteral ∷ tok class.RAngle ∷ nt n-arguments ∷ []) c.args.tree.now call.flat-folding (λ i h. call.folding-colons h) call.flat-bounded (λ i h. call.folding-angle h) (call.folding-mark c.args.st.class e) g h c.advance-d.ensures in
     let d2 = law.then-function-name d1 c.function_name-inner.ensures c.in-Next.is in
     let d3 = then-eats d2 (omega arith) c.eat-comma.ensures c.in-Next-comma.is (sign-mark kind.Call class.Comma tt) in
     let f3 = further y o d3 (omega arith) in
@@ -473,7 +473,7 @@ c::bound-returns-in_default-size t c =
     let g = rule.begun-apart c.args.st c.args.b c.requires.begun c.clean.ensures in
     let h = rule.apart-class c.args.b c.clean.ensures c.requires.class_value_2 in
     let N = law.Valued x c.in-Next-comma.g.at in
-    let d1 = law.angled y o (call.for-folding c.args.st.class e) N (nt n-functionName ∷ tok class.Comma ∷ tok class.DecLiteral ∷ tok class.RAngle ∷ nt n-arguments ∷ []) c.args.tree.now call.flat-folding (λ i h. call.folding-colons h) call.flat-bounded (λ i h. call.folding-angle h) (call.folding-mark c.args.st.class e) g h c.advance-d.ensures in
+    let d1 = law.angled y o (call.for-folding c.args.st.class e) N (nt n-function_name ∷ tok class.Comma ∷ tok class.DecLiteral ∷ tok class.RAngle ∷ nt n-arguments ∷ []) c.args.tree.now call.flat-folding (λ i h. call.folding-colons h) call.flat-bounded (λ i h. call.folding-angle h) (call.folding-mark c.args.st.class e) g h c.advance-d.ensures in
     let d2 = law.then-function-name d1 c.function_name-inner.ensures c.in-Next.is in
     let d3 = then-eats d2 (omega arith) c.eat-comma.ensures c.in-Next-comma.is (sign-mark kind.Call class.Comma tt) in
     then-passed d3 (refusal c.in_default-size.is) (enters call.folding-rule y e o) c.decimal-size.ensures
@@ -487,7 +487,7 @@ c::bound-returns-in_default-angle t c =
     let g = rule.begun-apart c.args.st c.args.b c.requires.begun c.clean.ensures in
     let h = rule.apart-class c.args.b c.clean.ensures c.requires.class_value_2 in
     let N = law.Valued x c.in-Next-comma.g.at in
-    let d1 = law.angled y o (call.for-folding c.args.st.class e) N (nt n-functionName ∷ tok class.Comma ∷ tok class.DecLiteral ∷ tok class.RAngle ∷ nt n-arguments ∷ []) c.args.tree.now call.flat-folding (λ i h. call.folding-colons h) call.flat-bounded (λ i h. call.folding-angle h) (call.folding-mark c.args.st.class e) g h c.advance-d.ensures in
+    let d1 = law.angled y o (call.for-folding c.args.st.class e) N (nt n-function_name ∷ tok class.Comma ∷ tok class.DecLiteral ∷ tok class.RAngle ∷ nt n-arguments ∷ []) c.args.tree.now call.flat-folding (λ i h. call.folding-colons h) call.flat-bounded (λ i h. call.folding-angle h) (call.folding-mark c.args.st.class e) g h c.advance-d.ensures in
     let d2 = law.then-function-name d1 c.function_name-inner.ensures c.in-Next.is in
     let d3 = then-eats d2 (omega arith) c.eat-comma.ensures c.in-Next-comma.is (sign-mark kind.Call class.Comma tt) in
     let d4 = law.then-bound d3 c.decimal-size.ensures c.in-Next-size.is in
@@ -503,7 +503,7 @@ c::bound-args-rest-requires t c =
     let h = rule.apart-class c.args.b c.clean.ensures c.requires.class_value_2 in
     let q = length-text c.args.draft.now c.args.tokens.now c.args.count in
     let N = law.Valued x c.in-Next-comma.g.at in
-    let d1 = law.angled y o (call.for-folding c.args.st.class e) N (nt n-functionName ∷ tok class.Comma ∷ tok class.DecLiteral ∷ tok class.RAngle ∷ nt n-arguments ∷ []) c.args.tree.now call.flat-folding (λ i h. call.folding-colons h) call.flat-bounded (λ i h. call.folding-angle h) (call.folding-mark c.args.st.class e) g h c.advance-d.ensures in
+    let d1 = law.angled y o (call.for-folding c.args.st.class e) N (nt n-function_name ∷ tok class.Comma ∷ tok class.DecLiteral ∷ tok class.RAngle ∷ nt n-arguments ∷ []) c.args.tree.now call.flat-folding (λ i h. call.folding-colons h) call.flat-bounded (λ i h. call.folding-angle h) (call.folding-mark c.args.st.class e) g h c.advance-d.ensures in
     let d2 = law.then-function-name d1 c.function_name-inner.ensures c.in-Next.is in
     let d3 = then-eats d2 (omega arith) c.eat-comma.ensures c.in-Next-comma.is (sign-mark kind.Call class.Comma tt) in
     let d4 = law.then-bound d3 c.decimal-size.ensures c.in-Next-size.is in
@@ -520,7 +520,7 @@ c::bound-returns-in_default-rest t c =
     let g = rule.begun-apart c.args.st c.args.b c.requires.begun c.clean.ensures in
     let h = rule.apart-class c.args.b c.clean.ensures c.requires.class_value_2 in
     let N = law.Valued x c.in-Next-comma.g.at in
-    let d1 = law.angled y o (call.for-folding c.args.st.class e) N (nt n-functionName ∷ tok class.Comma ∷ tok class.DecLiteral ∷ tok class.RAngle ∷ nt n-arguments ∷ []) c.args.tree.now call.flat-folding (λ i h. call.folding-colons h) call.flat-bounded (λ i h. call.folding-angle h) (call.folding-mark c.args.st.class e) g h c.advance-d.ensures in
+    let d1 = law.angled y o (call.for-folding c.args.st.class e) N (nt n-function_name ∷ tok class.Comma ∷ tok class.DecLiteral ∷ tok class.RAngle ∷ nt n-arguments ∷ []) c.args.tree.now call.flat-folding (λ i h. call.folding-colons h) call.flat-bounded (λ i h. call.folding-angle h) (call.folding-mark c.args.st.class e) g h c.advance-d.ensures in
     let d2 = law.then-function-name d1 c.function_name-inner.ensures c.in-Next.is in
     let d3 = then-eats d2 (omega arith) c.eat-comma.ensures c.in-Next-comma.is (sign-mark kind.Call class.Comma tt) in
     let d4 = law.then-bound d3 c.decimal-size.ensures c.in-Next-size.is in
@@ -537,7 +537,7 @@ c::bound-returns t c =
     let h = rule.apart-class c.args.b c.clean.ensures c.requires.class_value_2 in
     let p = call.folding-apart c.args.st.class e in
     let N = law.Valued x c.in-Next-comma.g.at in
-    let d1 = law.angled y o (call.for-folding c.args.st.class e) N (nt n-functionName ∷ tok class.Comma ∷ tok class.DecLiteral ∷ tok class.RAngle ∷ nt n-arguments ∷ []) c.args.tree.now call.flat-folding (λ i h. call.folding-colons h) call.flat-bounded (λ i h. call.folding-angle h) (call.folding-mark c.args.st.class e) g h c.advance-d.ensures in
+    let d1 = law.angled y o (call.for-folding c.args.st.class e) N (nt n-function_name ∷ tok class.Comma ∷ tok class.DecLiteral ∷ tok class.RAngle ∷ nt n-arguments ∷ []) c.args.tree.now call.flat-folding (λ i h. call.folding-colons h) call.flat-bounded (λ i h. call.folding-angle h) (call.folding-mark c.args.st.class e) g h c.advance-d.ensures in
     let d2 = law.then-function-name d1 c.function_name-inner.ensures c.in-Next.is in
     let d3 = then-eats d2 (omega arith) c.eat-comma.ensures c.in-Next-comma.is (sign-mark kind.Call class.Comma tt) in
     let d4 = law.then-bound d3 c.decimal-size.ensures c.in-Next-size.is in
@@ -548,7 +548,7 @@ c::bound-returns t c =
     as-nonterminal call.folding-rule y e (read (shut-judged FoldingShape y o d6.amid (omega (arith, d6.one)) (call.call-low c.args.st.class (call.folding-head d6.amid) c.call.ensures)
     (law.fold-number d6.amid p.decimal nd) tt ExprKind call.call-kind c.close.ensures
     (law.judged-at c.judged-z.ensures c.size_fault.ensures d3.lays.stands.start_is)
-    (λ is u v. call.fold-fault x.draft is c.args.st.class c.number-n.result (tokAt x c.in-Next-comma.g.at) u (law.fold-first d6.amid p.decimal nd is u v) vt)))
+    (λ is u v. call.fold-fault x.draft is c.args.st.class c.number-n.result (tok_at x c.in-Next-comma.g.at) u (law.fold-first d6.amid p.decimal nd is u v) vt)))
 
 pub c::built-path-rest-requires : goal.c::built-path-rest-requires
 c::built-path-rest-requires t c =
@@ -572,7 +572,7 @@ c::built-returns t c =
     let o = opens y refl in
     let z = rule.enum-begins y o c.requires.begun c.child-d.ensures.put c.child-d.ensures.value c.requires.leads in
     let d2 = law.then-path z.amid c.path-rest.ensures c.in-Next.is in
-    as-nonterminal z.by.rule y z.by.chosen (read (rule.shut-named z.by y o d2.amid (omega arith) (call.enum_is c.args.st.class d2.W z.by.name d2.angles d2.count-is) (call.enum-unseen c.args.st.class d2.W z.by.name d2.angles) tt ExprKind call.enum_kind c.close.ensures))
+    as-nonterminal z.by.rule y z.by.chosen (read (rule.shut-named z.by y o d2.amid (omega arith) (call.enum_is c.args.st.class d2.W z.by.name d2.angles d2.count_is) (call.enum-unseen c.args.st.class d2.W z.by.name d2.angles) tt ExprKind call.enum_kind c.close.ensures))
 
 pub c::called-wrap-requires : goal.c::called-wrap-requires
 c::called-wrap-requires t c =
@@ -592,7 +592,7 @@ c::called-arguments-inner-requires t c =
     let q = length-text c.args.draft.now c.args.tokens.now c.args.count in
     let p = call.named-apart c.args.st.class e in
     let d1 = law.first-called y o (call.for-named c.args.st.class e) AnyN (nt n-named-optional ∷ []) p mv c.callee-b.ensures in
-    (omega (arith, d1.ahead, d1.amid.lays.stands.within, q, o.at-is, c.decreases), law.nearly y o d1.amid)
+    (omega (arith, d1.ahead, d1.amid.lays.stands.within, q, o.at_is, c.decreases), law.nearly y o d1.amid)
 
 pub c::called-returns-in_default : goal.c::called-returns-in_default
 c::called-returns-in_default t c =
@@ -603,7 +603,7 @@ c::called-returns-in_default t c =
     let o = opens y refl in
     let p = call.named-apart c.args.st.class e in
     let d1 = law.first-called y o (call.for-named c.args.st.class e) AnyN (nt n-named-optional ∷ []) p mv c.callee-b.ensures in
-    let d2 = then_turns (nt n-arguments ∷ []) d1.amid call.flat-named (call.named-args (sym d1.amid.lays.stands.class-is ∙ d1.class-is ∙ k)) in
+    let d2 = then_turns (nt n-arguments ∷ []) d1.amid call.flat-named (call.named-args (sym d1.amid.lays.stands.class_is ∙ d1.class_is ∙ k)) in
     then-passed d2 (refusal c.in_default.is) (enters call.named_rule y e o) c.arguments-inner.ensures
 
 pub c::called-returns : goal.c::called-returns
@@ -615,7 +615,7 @@ c::called-returns t c =
     let o = opens y refl in
     let p = call.named-apart c.args.st.class e in
     let d1 = law.first-called y o (call.for-named c.args.st.class e) AnyN (nt n-named-optional ∷ []) p mv c.callee-b.ensures in
-    let d2 = then_turns (nt n-arguments ∷ []) d1.amid call.flat-named (call.named-args (sym d1.amid.lays.stands.class-is ∙ d1.class-is ∙ k)) in
+    let d2 = then_turns (nt n-arguments ∷ []) d1.amid call.flat-named (call.named-args (sym d1.amid.lays.stands.class_is ∙ d1.class_is ∙ k)) in
     let d3 = law.then-args d2 c.arguments-inner.ensures c.in-Next.is in
     as-nonterminal call.named_rule y e (read (shut NamedShape tt y o d3.amid (omega (arith, d3.one)) (call.call-low c.args.st.class (call.form-named d3.amid ∙ call.unwrapped-is c.args.st.class d3.W p (call.no-wrapper c.args.st.class c.wrapper.ensures c.if-wrapper-ne0.false) d3.commas) c.call.ensures) tt ExprKind call.call-kind c.close.ensures))
 
@@ -625,8 +625,8 @@ c::cast-ty-inner-requires t c =
     let e = c.requires.class_value in
     let o = opens y c.reserve.ensures in
     let q = length-text c.args.draft.now c.args.tokens.now c.args.count in
-    let d0 = starts kind.Call AnyN call.castRhs c.args.tree.now o.stands in
-    let d1 = advances d0 (o.class-is ∙ call.at-cast c.args.st.class e) (omega arith) c.advance-a.ensures (sign-mark kind.Call class.LAngle tt) in
+    let d0 = starts kind.Call AnyN call.cast_rhs c.args.tree.now o.stands in
+    let d1 = advances d0 (o.class_is ∙ call.at-cast c.args.st.class e) (omega arith) c.advance-a.ensures (sign-mark kind.Call class.LAngle tt) in
     let f1 = further y o d1 (omega arith) in
     f1.ready
 
@@ -635,8 +635,8 @@ c::cast-returns-in_default t c =
     let y = c.requires.ready in
     let e = c.requires.class_value in
     let o = opens y c.reserve.ensures in
-    let d0 = starts kind.Call AnyN call.castRhs c.args.tree.now o.stands in
-    let d1 = advances d0 (o.class-is ∙ call.at-cast c.args.st.class e) (omega arith) c.advance-a.ensures (sign-mark kind.Call class.LAngle tt) in
+    let d0 = starts kind.Call AnyN call.cast_rhs c.args.tree.now o.stands in
+    let d1 = advances d0 (o.class_is ∙ call.at-cast c.args.st.class e) (omega arith) c.advance-a.ensures (sign-mark kind.Call class.LAngle tt) in
     then-passed d1 (refusal c.in_default.is) (enters call.cast-rule y e o) c.ty-inner.ensures
 
 pub c::cast-returns-in_default-angle : goal.c::cast-returns-in_default-angle
@@ -644,8 +644,8 @@ c::cast-returns-in_default-angle t c =
     let y = c.requires.ready in
     let e = c.requires.class_value in
     let o = opens y c.reserve.ensures in
-    let d0 = starts kind.Call AnyN call.castRhs c.args.tree.now o.stands in
-    let d1 = advances d0 (o.class-is ∙ call.at-cast c.args.st.class e) (omega arith) c.advance-a.ensures (sign-mark kind.Call class.LAngle tt) in
+    let d0 = starts kind.Call AnyN call.cast_rhs c.args.tree.now o.stands in
+    let d1 = advances d0 (o.class_is ∙ call.at-cast c.args.st.class e) (omega arith) c.advance-a.ensures (sign-mark kind.Call class.LAngle tt) in
     let d2 = then-node d1 c.ty-inner.ensures c.in-Next.is in
     then-lacks d2.amid (refusal c.in_default-angle.is) (enters call.cast-rule y e o) c.eat-angle.ensures
 
@@ -654,8 +654,8 @@ c::cast-returns-in_default-colons t c =
     let y = c.requires.ready in
     let e = c.requires.class_value in
     let o = opens y c.reserve.ensures in
-    let d0 = starts kind.Call AnyN call.castRhs c.args.tree.now o.stands in
-    let d1 = advances d0 (o.class-is ∙ call.at-cast c.args.st.class e) (omega arith) c.advance-a.ensures (sign-mark kind.Call class.LAngle tt) in
+    let d0 = starts kind.Call AnyN call.cast_rhs c.args.tree.now o.stands in
+    let d1 = advances d0 (o.class_is ∙ call.at-cast c.args.st.class e) (omega arith) c.advance-a.ensures (sign-mark kind.Call class.LAngle tt) in
     let d2 = then-node d1 c.ty-inner.ensures c.in-Next.is in
     let d3 = then-eats d2.amid (omega arith) c.eat-angle.ensures c.in-Next-angle.is (sign-mark kind.Call class.RAngle tt) in
     then-lacks d3 (refusal c.in_default-colons.is) (enters call.cast-rule y e o) c.eat-colons.ensures
@@ -665,8 +665,8 @@ c::cast-returns-in_default-into t c =
     let y = c.requires.ready in
     let e = c.requires.class_value in
     let o = opens y c.reserve.ensures in
-    let d0 = starts kind.Call AnyN call.castRhs c.args.tree.now o.stands in
-    let d1 = advances d0 (o.class-is ∙ call.at-cast c.args.st.class e) (omega arith) c.advance-a.ensures (sign-mark kind.Call class.LAngle tt) in
+    let d0 = starts kind.Call AnyN call.cast_rhs c.args.tree.now o.stands in
+    let d1 = advances d0 (o.class_is ∙ call.at-cast c.args.st.class e) (omega arith) c.advance-a.ensures (sign-mark kind.Call class.LAngle tt) in
     let d2 = then-node d1 c.ty-inner.ensures c.in-Next.is in
     let d3 = then-eats d2.amid (omega arith) c.eat-angle.ensures c.in-Next-angle.is (sign-mark kind.Call class.RAngle tt) in
     let d4 = then-eats d3 (omega arith) c.eat-colons.ensures c.in-Next-colons.is (sign-mark kind.Call class.DoubleColon tt) in
@@ -678,8 +678,8 @@ c::cast-args-rest-requires t c =
     let e = c.requires.class_value in
     let o = opens y c.reserve.ensures in
     let q = length-text c.args.draft.now c.args.tokens.now c.args.count in
-    let d0 = starts kind.Call AnyN call.castRhs c.args.tree.now o.stands in
-    let d1 = advances d0 (o.class-is ∙ call.at-cast c.args.st.class e) (omega arith) c.advance-a.ensures (sign-mark kind.Call class.LAngle tt) in
+    let d0 = starts kind.Call AnyN call.cast_rhs c.args.tree.now o.stands in
+    let d1 = advances d0 (o.class_is ∙ call.at-cast c.args.st.class e) (omega arith) c.advance-a.ensures (sign-mark kind.Call class.LAngle tt) in
     let d2 = then-node d1 c.ty-inner.ensures c.in-Next.is in
     let d3 = then-eats d2.amid (omega arith) c.eat-angle.ensures c.in-Next-angle.is (sign-mark kind.Call class.RAngle tt) in
     let d4 = then-eats d3 (omega arith) c.eat-colons.ensures c.in-Next-colons.is (sign-mark kind.Call class.DoubleColon tt) in
@@ -692,8 +692,8 @@ c::cast-returns-in_default-rest t c =
     let y = c.requires.ready in
     let e = c.requires.class_value in
     let o = opens y c.reserve.ensures in
-    let d0 = starts kind.Call AnyN call.castRhs c.args.tree.now o.stands in
-    let d1 = advances d0 (o.class-is ∙ call.at-cast c.args.st.class e) (omega arith) c.advance-a.ensures (sign-mark kind.Call class.LAngle tt) in
+    let d0 = starts kind.Call AnyN call.cast_rhs c.args.tree.now o.stands in
+    let d1 = advances d0 (o.class_is ∙ call.at-cast c.args.st.class e) (omega arith) c.advance-a.ensures (sign-mark kind.Call class.LAngle tt) in
     let d2 = then-node d1 c.ty-inner.ensures c.in-Next.is in
     let d3 = then-eats d2.amid (omega arith) c.eat-angle.ensures c.in-Next-angle.is (sign-mark kind.Call class.RAngle tt) in
     let d4 = then-eats d3 (omega arith) c.eat-colons.ensures c.in-Next-colons.is (sign-mark kind.Call class.DoubleColon tt) in
@@ -705,8 +705,8 @@ c::cast-returns t c =
     let y = c.requires.ready in
     let e = c.requires.class_value in
     let o = opens y c.reserve.ensures in
-    let d0 = starts kind.Call AnyN call.castRhs c.args.tree.now o.stands in
-    let d1 = advances d0 (o.class-is ∙ call.at-cast c.args.st.class e) (omega arith) c.advance-a.ensures (sign-mark kind.Call class.LAngle tt) in
+    let d0 = starts kind.Call AnyN call.cast_rhs c.args.tree.now o.stands in
+    let d1 = advances d0 (o.class_is ∙ call.at-cast c.args.st.class e) (omega arith) c.advance-a.ensures (sign-mark kind.Call class.LAngle tt) in
     let d2 = then-node d1 c.ty-inner.ensures c.in-Next.is in
     let d3 = then-eats d2.amid (omega arith) c.eat-angle.ensures c.in-Next-angle.is (sign-mark kind.Call class.RAngle tt) in
     let d4 = then-eats d3 (omega arith) c.eat-colons.ensures c.in-Next-colons.is (sign-mark kind.Call class.DoubleColon tt) in
@@ -721,7 +721,7 @@ c::generic-returns-then-a-ne-DOUBLE_COLON t c =
     let o = opens y c.reserve.ensures in
     let z = rule.generic-rule g in
     let a1 = law.first-mark y o z.by.one_token kind.Variable AnyN (nt z.by.B ∷ []) c.args.tree.now c.advance-a.ensures (keeping-mark kind.Variable c.args.st.class tt) in
-    let a2 = then_turns [] a1 z.by.flat (z.alone (λ h. c.if-a-ne-DOUBLE_COLON.true (a1.lays.stands.class-is ∙ h))) in
+    let a2 = then_turns [] a1 z.by.flat (z.alone (λ h. c.if-a-ne-DOUBLE_COLON.true (a1.lays.stands.class_is ∙ h))) in
     as-nonterminal z.by.rule y z.by.chosen (read (rule.shut-named z.by y o a2 (omega arith) (call.variable-is c.args.st.class z.by.name z.variable) (call.alone-angle c.args.st.class z.by.name) tt ExprKind call.variable-kind c.close.ensures))
 
 pub c::generic-built-requires : goal.c::generic-built-requires
@@ -729,14 +729,14 @@ c::generic-built-requires t c =
     let y = c.requires.ready in
     let g = c.requires.generic in
     let b = law.begun c.reserve.ensures c.advance-a.ensures c.if-a-ne-DOUBLE_COLON.false c.advance-b.ensures in
-    (omega (arith, c.decreases), (y, (info.generic-leads g c.if-b-ne-LANGLE.true, b)))
+    (omega (arith, c.decreases), (y, (info.generic_leads g c.if-b-ne-LANGLE.true, b)))
 
 pub c::loops-function_name-inner-requires : goal.c::loops-function_name-inner-requires
 c::loops-function_name-inner-requires t c =
     let y = c.requires.ready in
     let e = c.requires.class_value in
     let o = opens y refl in
-    let d1 = law.angled y o (call.for-whiles c.args.st.class e) AnyN (nt n-functionName ∷ tok class.RAngle ∷ nt n-arguments ∷ []) c.args.tree.now call.flat-whiles (λ i h. call.whiles-colons h) call.flat-looped (λ i h. call.whiles-angle h) (call.whiles-mark c.args.st.class e) c.requires.begun c.requires.class_value_2 c.advance-d.ensures in
+    let d1 = law.angled y o (call.for-whiles c.args.st.class e) AnyN (nt n-function_name ∷ tok class.RAngle ∷ nt n-arguments ∷ []) c.args.tree.now call.flat-whiles (λ i h. call.whiles-colons h) call.flat-looped (λ i h. call.whiles-angle h) (call.whiles-mark c.args.st.class e) c.requires.begun c.requires.class_value_2 c.advance-d.ensures in
     let f1 = further y o d1 (omega arith) in
     f1.ready
 
@@ -745,7 +745,7 @@ c::loops-returns-in_default t c =
     let y = c.requires.ready in
     let e = c.requires.class_value in
     let o = opens y refl in
-    let d1 = law.angled y o (call.for-whiles c.args.st.class e) AnyN (nt n-functionName ∷ tok class.RAngle ∷ nt n-arguments ∷ []) c.args.tree.now call.flat-whiles (λ i h. call.whiles-colons h) call.flat-looped (λ i h. call.whiles-angle h) (call.whiles-mark c.args.st.class e) c.requires.begun c.requires.class_value_2 c.advance-d.ensures in
+    let d1 = law.angled y o (call.for-whiles c.args.st.class e) AnyN (nt n-function_name ∷ tok class.RAngle ∷ nt n-arguments ∷ []) c.args.tree.now call.flat-whiles (λ i h. call.whiles-colons h) call.flat-looped (λ i h. call.whiles-angle h) (call.whiles-mark c.args.st.class e) c.requires.begun c.requires.class_value_2 c.advance-d.ensures in
     then-passed d1 (refusal c.in_default.is) (enters call.whiles-rule y e o) c.function_name-inner.ensures
 
 pub c::loops-returns-in_default-angle : goal.c::loops-returns-in_default-angle
@@ -753,7 +753,7 @@ c::loops-returns-in_default-angle t c =
     let y = c.requires.ready in
     let e = c.requires.class_value in
     let o = opens y refl in
-    let d1 = law.angled y o (call.for-whiles c.args.st.class e) AnyN (nt n-functionName ∷ tok class.RAngle ∷ nt n-arguments ∷ []) c.args.tree.now call.flat-whiles (λ i h. call.whiles-colons h) call.flat-looped (λ i h. call.whiles-angle h) (call.whiles-mark c.args.st.class e) c.requires.begun c.requires.class_value_2 c.advance-d.ensures in
+    let d1 = law.angled y o (call.for-whiles c.args.st.class e) AnyN (nt n-function_name ∷ tok class.RAngle ∷ nt n-arguments ∷ []) c.args.tree.now call.flat-whiles (λ i h. call.whiles-colons h) call.flat-looped (λ i h. call.whiles-angle h) (call.whiles-mark c.args.st.class e) c.requires.begun c.requires.class_value_2 c.advance-d.ensures in
     let d2 = law.then-function-name d1 c.function_name-inner.ensures c.in-Next.is in
     then-lacks d2 (refusal c.in_default-angle.is) (enters call.whiles-rule y e o) c.eat-angle.ensures
 
@@ -763,7 +763,7 @@ c::loops-args-rest-requires t c =
     let e = c.requires.class_value in
     let o = opens y refl in
     let q = length-text c.args.draft.now c.args.tokens.now c.args.count in
-    let d1 = law.angled y o (call.for-whiles c.args.st.class e) AnyN (nt n-functionName ∷ tok class.RAngle ∷ nt n-arguments ∷ []) c.args.tree.now call.flat-whiles (λ i h. call.whiles-colons h) call.flat-looped (λ i h. call.whiles-angle h) (call.whiles-mark c.args.st.class e) c.requires.begun c.requires.class_value_2 c.advance-d.ensures in
+    let d1 = law.angled y o (call.for-whiles c.args.st.class e) AnyN (nt n-function_name ∷ tok class.RAngle ∷ nt n-arguments ∷ []) c.args.tree.now call.flat-whiles (λ i h. call.whiles-colons h) call.flat-looped (λ i h. call.whiles-angle h) (call.whiles-mark c.args.st.class e) c.requires.begun c.requires.class_value_2 c.advance-d.ensures in
     let d2 = law.then-function-name d1 c.function_name-inner.ensures c.in-Next.is in
     let d3 = then-eats d2 (omega arith) c.eat-angle.ensures c.in-Next-angle.is (sign-mark kind.Call class.RAngle tt) in
     let f3 = further y o d3 (omega arith) in
@@ -774,7 +774,7 @@ c::loops-returns-in_default-rest t c =
     let y = c.requires.ready in
     let e = c.requires.class_value in
     let o = opens y refl in
-    let d1 = law.angled y o (call.for-whiles c.args.st.class e) AnyN (nt n-functionName ∷ tok class.RAngle ∷ nt n-arguments ∷ []) c.args.tree.now call.flat-whiles (λ i h. call.whiles-colons h) call.flat-looped (λ i h. call.whiles-angle h) (call.whiles-mark c.args.st.class e) c.requires.begun c.requires.class_value_2 c.advance-d.ensures in
+    let d1 = law.angled y o (call.for-whiles c.args.st.class e) AnyN (nt n-function_name ∷ tok class.RAngle ∷ nt n-arguments ∷ []) c.args.tree.now call.flat-whiles (λ i h. call.whiles-colons h) call.flat-looped (λ i h. call.whiles-angle h) (call.whiles-mark c.args.st.class e) c.requires.begun c.requires.class_value_2 c.advance-d.ensures in
     let d2 = law.then-function-name d1 c.function_name-inner.ensures c.in-Next.is in
     let d3 = then-eats d2 (omega arith) c.eat-angle.ensures c.in-Next-angle.is (sign-mark kind.Call class.RAngle tt) in
     then-passed d3 (refusal c.in_default-rest.is) (enters call.whiles-rule y e o) c.args-rest.ensures
@@ -784,7 +784,7 @@ c::loops-returns t c =
     let y = c.requires.ready in
     let e = c.requires.class_value in
     let o = opens y refl in
-    let d1 = law.angled y o (call.for-whiles c.args.st.class e) AnyN (nt n-functionName ∷ tok class.RAngle ∷ nt n-arguments ∷ []) c.args.tree.now call.flat-whiles (λ i h. call.whiles-colons h) call.flat-looped (λ i h. call.whiles-angle h) (call.whiles-mark c.args.st.class e) c.requires.begun c.requires.class_value_2 c.advance-d.ensures in
+    let d1 = law.angled y o (call.for-whiles c.args.st.class e) AnyN (nt n-function_name ∷ tok class.RAngle ∷ nt n-arguments ∷ []) c.args.tree.now call.flat-whiles (λ i h. call.whiles-colons h) call.flat-looped (λ i h. call.whiles-angle h) (call.whiles-mark c.args.st.class e) c.requires.begun c.requires.class_value_2 c.advance-d.ensures in
     let d2 = law.then-function-name d1 c.function_name-inner.ensures c.in-Next.is in
     let d3 = then-eats d2 (omega arith) c.eat-angle.ensures c.in-Next-angle.is (sign-mark kind.Call class.RAngle tt) in
     let d4 = law.then-args d3 c.args-rest.ensures c.in-Next-rest.is in
@@ -797,7 +797,7 @@ c::named-returns-in_default t c =
     let o = opens y c.reserve.ensures in
     let n = call.named-name c.args.st.class e in
     let a1 = law.first-mark y o (call.for-named c.args.st.class e) kind.Variable AnyN (nt n-named-optional ∷ []) c.args.tree.now c.advance-a.ensures (keeping-mark kind.Variable c.args.st.class tt) in
-    let a2 = then_turns [] a1 call.flat-named (call.named-alone (λ h. c.in_default.in_default-own.rest.1 (a1.lays.stands.class-is ∙ h)) (λ h. c.in_default.in_default-own.rest.0.1 (a1.lays.stands.class-is ∙ h))) in
+    let a2 = then_turns [] a1 call.flat-named (call.named-alone (λ h. c.in_default.in_default-own.rest.1 (a1.lays.stands.class_is ∙ h)) (λ h. c.in_default.in_default-own.rest.0.1 (a1.lays.stands.class_is ∙ h))) in
     as-nonterminal call.named_rule y e (read (shut NamedShape tt y o a2 (omega arith) (call.form-named a2 ∙ call.variable-is c.args.st.class n (call.named-variable c.args.st.class e)) tt ExprKind call.variable-kind c.close.ensures))
 
 pub c::of_type-ty-inner-requires : goal.c::of_type-ty-inner-requires
@@ -897,7 +897,7 @@ c::simple-args-inner-requires t c =
     let q = length-text c.args.draft.now c.args.tokens.now c.args.count in
     let p = call.simple-apart c.args.st.class e in
     let d1 = law.first-called y o (call.for-simple c.args.st.class e) AnyN (nt n-arguments ∷ []) p c.advance-a.ensures c.callee-b.ensures in
-    (omega (arith, d1.ahead, d1.amid.lays.stands.within, q, o.at-is, c.decreases), law.nearly y o d1.amid)
+    (omega (arith, d1.ahead, d1.amid.lays.stands.within, q, o.at_is, c.decreases), law.nearly y o d1.amid)
 
 pub c::simple-returns-in_default : goal.c::simple-returns-in_default
 c::simple-returns-in_default t c =
@@ -929,7 +929,7 @@ c::wrap-args-inner-requires t c =
     let q = length-text c.args.draft.now c.args.tokens.now c.args.count in
     let z = call.for-named c.args.st.class e in
     let a1 = law.first-mark y o z kind.Left AnyN (nt n-named-optional ∷ []) c.args.tree.now mv (keeping-mark kind.Left c.args.st.class tt) in
-    let a2 = then_turns (nt n-arguments ∷ []) a1 call.flat-named (call.named-args (sym a1.lays.stands.class-is ∙ k)) in
+    let a2 = then_turns (nt n-arguments ∷ []) a1 call.flat-named (call.named-args (sym a1.lays.stands.class_is ∙ k)) in
     let f2 = further y o a2 (omega arith) in
     (omega (arith, f2.ahead, f2.within, q, c.decreases), law.near f2.ready)
 
@@ -943,7 +943,7 @@ c::wrap-returns-in_default t c =
     let o = opens y refl in
     let z = call.for-named c.args.st.class e in
     let a1 = law.first-mark y o z kind.Left AnyN (nt n-named-optional ∷ []) c.args.tree.now mv (keeping-mark kind.Left c.args.st.class tt) in
-    let a2 = then_turns (nt n-arguments ∷ []) a1 call.flat-named (call.named-args (sym a1.lays.stands.class-is ∙ k)) in
+    let a2 = then_turns (nt n-arguments ∷ []) a1 call.flat-named (call.named-args (sym a1.lays.stands.class_is ∙ k)) in
     then-passed a2 (refusal c.in_default.is) (enters call.named_rule y e o) c.args-inner.ensures
 
 pub c::wrap-returns-then-lone-eq1 : goal.c::wrap-returns-then-lone-eq1
@@ -957,7 +957,7 @@ c::wrap-returns-then-lone-eq1 t c =
     let p = call.named-apart c.args.st.class e in
     let z = call.for-named c.args.st.class e in
     let b1 = law.first-mark y o z c.wrapping.result AnyN (nt n-named-optional ∷ []) c.args.tree.now mv (keeping-mark c.wrapping.result c.args.st.class (call.wrapper-keeps c.args.st.class w c.wrapping.ensures)) in
-    let b2 = then_turns (nt n-arguments ∷ []) b1 call.flat-named (call.named-args (sym b1.lays.stands.class-is ∙ k)) in
+    let b2 = then_turns (nt n-arguments ∷ []) b1 call.flat-named (call.named-args (sym b1.lays.stands.class_is ∙ k)) in
     let b3 = law.then-args b2 c.args-inner.ensures c.in-Next.is in
     as-nonterminal call.named_rule y e (read (shut NamedShape tt y o b3.amid (omega (arith, b3.one)) (call.form-named b3.amid ∙ call.wrapper-is c.args.st.class w c.wrapping.ensures b3.W p b3.commas b3.lone_is c.if-lone-eq1.true) (call.wrapper-unturned c.args.st.class w c.wrapping.ensures) ExprKind (call.wrapper-kind c.args.st.class w c.wrapping.ensures) c.close.ensures))
 
@@ -972,11 +972,11 @@ c::wrap-returns t c =
     let p = call.named-apart c.args.st.class e in
     let z = call.for-named c.args.st.class e in
     let a1 = law.first-mark y o z kind.Left AnyN (nt n-named-optional ∷ []) c.args.tree.now mv (keeping-mark kind.Left c.args.st.class tt) in
-    let a2 = then_turns (nt n-arguments ∷ []) a1 call.flat-named (call.named-args (sym a1.lays.stands.class-is ∙ k)) in
+    let a2 = then_turns (nt n-arguments ∷ []) a1 call.flat-named (call.named-args (sym a1.lays.stands.class_is ∙ k)) in
     let n = law.near (further y o a2 (omega arith)).ready in
     let g = law.went-args c.args-inner.ensures c.in-Next.is in
     let d1 = law.first-name y o z kind.Call AnyN (nt n-named-optional ∷ []) mv (law.put-before n g c.child-z.ensures.put c.child-z.ensures.value c.exchange.ensures) refl (call.called-role c.args.st.class (call.wrapper-named c.args.st.class w)) in
-    let d2 = then_turns (nt n-arguments ∷ []) d1 call.flat-named (call.named-args (sym d1.lays.stands.class-is ∙ law.reserved-class c.args.a (reserved c.args.a) refl ∙ k)) in
+    let d2 = then_turns (nt n-arguments ∷ []) d1 call.flat-named (call.named-args (sym d1.lays.stands.class_is ∙ law.reserved-class c.args.a (reserved c.args.a) refl ∙ k)) in
     let d3 = law.then-args d2 (read (law.behind n g c.child-z.ensures.put c.child-z.ensures.value c.exchange.ensures)) refl in
     as-nonterminal call.named_rule y e (read (shut NamedShape tt y o d3.amid (omega (arith, d3.one)) (call.form-named d3.amid ∙ call.other-is c.args.st.class d3.W w p d3.commas d3.lone_is c.if-lone-eq1.false) tt ExprKind call.call-kind c.close-2.ensures))
 
@@ -987,7 +987,7 @@ cases-expr-inner-requires t c =
     let o = opens-clean y c.clean.ensures c.reserve.ensures in
     let k = match.at-match c.args.st.class h in
     let q = length-text c.args.draft.now c.args.tokens.now c.args.count in
-    let m1 = advances (starts kind.Match AnyN match.matchRhs c.args.tree.now o.stands) (o.class-is ∙ k) (omega arith) c.advance-a.ensures (sign-mark kind.Match class.Match tt) in
+    let m1 = advances (starts kind.Match AnyN match.match_rhs c.args.tree.now o.stands) (o.class_is ∙ k) (omega arith) c.advance-a.ensures (sign-mark kind.Match class.Match tt) in
     let f1 = further y o m1 (omega arith) in
     (omega (arith, f1.ahead, f1.within, q, c.decreases), f1.ready)
 
@@ -997,7 +997,7 @@ cases-returns-in_default t c =
     let h = c.requires.class_value in
     let o = opens-clean y c.clean.ensures c.reserve.ensures in
     let k = match.at-match c.args.st.class h in
-    let m1 = advances (starts kind.Match AnyN match.matchRhs c.args.tree.now o.stands) (o.class-is ∙ k) (omega arith) c.advance-a.ensures (sign-mark kind.Match class.Match tt) in
+    let m1 = advances (starts kind.Match AnyN match.match_rhs c.args.tree.now o.stands) (o.class_is ∙ k) (omega arith) c.advance-a.ensures (sign-mark kind.Match class.Match tt) in
     then-passed m1 (refusal c.in_default.is) (enters match.match-rule y h o) c.expr-inner.ensures
 
 pub cases-returns-in_default-open : goal.cases-returns-in_default-open
@@ -1018,7 +1018,7 @@ cases-arms-rest-requires t c =
     let q = length-text c.args.draft.now c.args.tokens.now c.args.count in
     let m3 = match.match₃ kind.Match o k c.advance-a.ensures c.expr-inner.ensures c.in-Next.is c.eat-open.ensures c.in-Next-open.is in
     let f3 = further y o m3 (omega arith) in
-    (omega (arith, f3.ahead, f3.within, q, c.decreases), (f3.ready, omega (arith, m3.lays.few, o.at-is, o.out-is, y.few)))
+    (omega (arith, f3.ahead, f3.within, q, c.decreases), (f3.ready, omega (arith, m3.lays.few, o.at_is, o.out_is, y.few)))
 
 pub cases-returns-in_default-rest : goal.cases-returns-in_default-rest
 cases-returns-in_default-rest t c =
@@ -1169,8 +1169,8 @@ list-returns-in_default t c =
     let y = c.requires.ready in
     let e = c.requires.class_value in
     let o = opens y c.reserve.ensures in
-    let d0 = starts kind.List AnyN form.listedRhs c.args.tree.now o.stands in
-    let k = o.class-is ∙ form.at_listed c.args.st.class e in
+    let d0 = starts kind.List AnyN form.listed_rhs c.args.tree.now o.stands in
+    let k = o.class_is ∙ form.at_listed c.args.st.class e in
     let d1 = advances d0 k (omega arith) c.advance-a.ensures (keeping-mark kind.List class.list! tt) in
     then-lacks d1 (refusal c.in_default.is) (enters form.listed-rule y e o) c.eat-open.ensures
 
@@ -1179,8 +1179,8 @@ list-exprs-inner-requires t c =
     let y = c.requires.ready in
     let e = c.requires.class_value in
     let o = opens y c.reserve.ensures in
-    let d0 = starts kind.List AnyN form.listedRhs c.args.tree.now o.stands in
-    let k = o.class-is ∙ form.at_listed c.args.st.class e in
+    let d0 = starts kind.List AnyN form.listed_rhs c.args.tree.now o.stands in
+    let k = o.class_is ∙ form.at_listed c.args.st.class e in
     let d1 = advances d0 k (omega arith) c.advance-a.ensures (keeping-mark kind.List class.list! tt) in
     let d2 = then-eats d1 (omega arith) c.eat-open.ensures c.in-Next.is (sign-mark kind.List class.LBracket tt) in
     let f2 = further y o d2 (omega arith) in
@@ -1192,8 +1192,8 @@ list-returns-in_default-inner t c =
     let y = c.requires.ready in
     let e = c.requires.class_value in
     let o = opens y c.reserve.ensures in
-    let d0 = starts kind.List AnyN form.listedRhs c.args.tree.now o.stands in
-    let k = o.class-is ∙ form.at_listed c.args.st.class e in
+    let d0 = starts kind.List AnyN form.listed_rhs c.args.tree.now o.stands in
+    let k = o.class_is ∙ form.at_listed c.args.st.class e in
     let d1 = advances d0 k (omega arith) c.advance-a.ensures (keeping-mark kind.List class.list! tt) in
     let d2 = then-eats d1 (omega arith) c.eat-open.ensures c.in-Next.is (sign-mark kind.List class.LBracket tt) in
     then-passed d2 (refusal c.in_default-inner.is) (enters form.listed-rule y e o) c.exprs-inner.ensures
@@ -1203,8 +1203,8 @@ list-returns-in_default-bracket t c =
     let y = c.requires.ready in
     let e = c.requires.class_value in
     let o = opens y c.reserve.ensures in
-    let d0 = starts kind.List AnyN form.listedRhs c.args.tree.now o.stands in
-    let k = o.class-is ∙ form.at_listed c.args.st.class e in
+    let d0 = starts kind.List AnyN form.listed_rhs c.args.tree.now o.stands in
+    let k = o.class_is ∙ form.at_listed c.args.st.class e in
     let d1 = advances d0 k (omega arith) c.advance-a.ensures (keeping-mark kind.List class.list! tt) in
     let d2 = then-eats d1 (omega arith) c.eat-open.ensures c.in-Next.is (sign-mark kind.List class.LBracket tt) in
     let d3 = elem.then-lone d2 c.exprs-inner.ensures c.in-Next-inner.is in
@@ -1215,8 +1215,8 @@ list-returns t c =
     let y = c.requires.ready in
     let e = c.requires.class_value in
     let o = opens y c.reserve.ensures in
-    let d0 = starts kind.List AnyN form.listedRhs c.args.tree.now o.stands in
-    let k = o.class-is ∙ form.at_listed c.args.st.class e in
+    let d0 = starts kind.List AnyN form.listed_rhs c.args.tree.now o.stands in
+    let k = o.class_is ∙ form.at_listed c.args.st.class e in
     let d1 = advances d0 k (omega arith) c.advance-a.ensures (keeping-mark kind.List class.list! tt) in
     let d2 = then-eats d1 (omega arith) c.eat-open.ensures c.in-Next.is (sign-mark kind.List class.LBracket tt) in
     let d3 = elem.then-lone d2 c.exprs-inner.ensures c.in-Next-inner.is in
@@ -1228,8 +1228,8 @@ parens-exprs-inner-requires t c =
     let y = c.requires.ready in
     let e = c.requires.class_value in
     let o = opens y c.reserve.ensures in
-    let d0 = starts kind.Parenthesised AnyN form.parensRhs c.args.tree.now o.stands in
-    let k = o.class-is ∙ form.at-parens c.args.st.class e in
+    let d0 = starts kind.Parenthesised AnyN form.parens_rhs c.args.tree.now o.stands in
+    let k = o.class_is ∙ form.at-parens c.args.st.class e in
     let d1 = advances d0 k (omega arith) c.advance-a.ensures (sign-mark kind.Parenthesised class.LParen tt) in
     let f1 = further y o d1 (omega arith) in
     let q = length-text c.args.draft.now c.args.tokens.now c.args.count in
@@ -1240,8 +1240,8 @@ parens-returns-in_default t c =
     let y = c.requires.ready in
     let e = c.requires.class_value in
     let o = opens y c.reserve.ensures in
-    let d0 = starts kind.Parenthesised AnyN form.parensRhs c.args.tree.now o.stands in
-    let k = o.class-is ∙ form.at-parens c.args.st.class e in
+    let d0 = starts kind.Parenthesised AnyN form.parens_rhs c.args.tree.now o.stands in
+    let k = o.class_is ∙ form.at-parens c.args.st.class e in
     let d1 = advances d0 k (omega arith) c.advance-a.ensures (sign-mark kind.Parenthesised class.LParen tt) in
     then-passed d1 (refusal c.in_default.is) (enters form.parens-rule y e o) c.exprs-inner.ensures
 
@@ -1250,8 +1250,8 @@ parens-returns-in_default-paren t c =
     let y = c.requires.ready in
     let e = c.requires.class_value in
     let o = opens y c.reserve.ensures in
-    let d0 = starts kind.Parenthesised AnyN form.parensRhs c.args.tree.now o.stands in
-    let k = o.class-is ∙ form.at-parens c.args.st.class e in
+    let d0 = starts kind.Parenthesised AnyN form.parens_rhs c.args.tree.now o.stands in
+    let k = o.class_is ∙ form.at-parens c.args.st.class e in
     let d1 = advances d0 k (omega arith) c.advance-a.ensures (sign-mark kind.Parenthesised class.LParen tt) in
     let d2 = elem.then-lone d1 c.exprs-inner.ensures c.in-Next.is in
     then-lacks d2.amid (refusal c.in_default-paren.is) (enters form.parens-rule y e o) c.eat-paren.ensures
@@ -1261,8 +1261,8 @@ parens-returns t c =
     let y = c.requires.ready in
     let e = c.requires.class_value in
     let o = opens y c.reserve.ensures in
-    let k = o.class-is ∙ form.at-parens c.args.st.class e in
-    let a0 = starts c.only.result AnyN form.parensRhs c.args.tree.now o.stands in
+    let k = o.class_is ∙ form.at-parens c.args.st.class e in
+    let a0 = starts c.only.result AnyN form.parens_rhs c.args.tree.now o.stands in
     let a1 = advances a0 k (omega arith) c.advance-a.ensures (sign-mark c.only.result class.LParen tt) in
     let a2 = elem.then-lone a1 c.exprs-inner.ensures c.in-Next.is in
     let a3 = then-eats a2.amid (omega arith) c.eat-paren.ensures c.in-Next-paren.is (sign-mark c.only.result class.RParen tt) in
@@ -1272,4 +1272,4 @@ parens-returns t c =
 pub single-returns-in_default : goal.single-returns-in_default
 single-returns-in_default t c =
     let y = c.requires in
-    stuck y.stands.within (λ τ. k-nt (ap (expand table n-single) (sym y.stands.class-is) ∙ form.no-single c.args.st.class c.singles.result c.singles.ensures c.in_default.in_default-own.rest))
+    stuck y.stands.within (λ τ. k_nt (ap (expand table n-single) (sym y.stands.class_is) ∙ form.no-single c.args.st.class c.singles.result c.singles.ensures c.in_default.in_default-own.rest))

@@ -1,9 +1,9 @@
 -- The measure of each member: eight times the tokens that are left, and a number for the calls that take none.
 -- Assumes nothing.
 use Rattle.std.proofs.Common.{◌+◌, ◌-◌, ◌*◌}
-use Rattle.grammar.specs.shapes.TablesIndex.{n-list-expression}
+use Rattle.grammar.specs.Shapes.TablesIndex.{n-list-expression}
 use Rattle.parse.specs.Contract.{text}
-use Rattle.parse.proofs.rule.Commas.{Lined}
+use Rattle.parse.proofs.Rule.Commas.{Lined}
 use Rattle.parse.proofs.expr.Elements as elem
 use Rattle.parse.proofs.expr.ArmsLoop as arm-loop
 use Rattle.parse.proofs.expr.+expression.Given as goal

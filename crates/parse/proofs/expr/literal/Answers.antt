@@ -1,13 +1,13 @@
 -- Assumes nothing.
 use Rattle.std.proofs.Common.{arith}
-use Rattle.grammar.specs.shapes.ShapeKind.{LiteralShape}
-use Rattle.parse.specs.Contract.{text, tokAt, read, ExprKind}
-use Rattle.parse.proofs.rule.Amid.{starts}
-use Rattle.parse.proofs.rule.Closing.{opens, as-nonterminal}
-use Rattle.parse.proofs.rule.Chain.{advances-one}
-use Rattle.parse.proofs.rule.Marks.{keeping-mark}
-use Rattle.parse.proofs.rule.Commas.{AnyN}
-use Rattle.parse.proofs.rule.Heads.{shut}
+use Rattle.grammar.specs.Shapes.ShapeKind.{LiteralShape}
+use Rattle.parse.specs.Contract.{text, tok_at, read, ExprKind}
+use Rattle.parse.proofs.Rule.Amid.{starts}
+use Rattle.parse.proofs.Rule.Closing.{opens, as-nonterminal}
+use Rattle.parse.proofs.Rule.Chain.{advances-one}
+use Rattle.parse.proofs.Rule.Marks.{keeping-mark}
+use Rattle.parse.proofs.Rule.Commas.{AnyN}
+use Rattle.parse.proofs.Rule.Heads.{shut}
 use Rattle.parse.proofs.expr.Forms as form
 use Rattle.parse.proofs.expr.literal.Goals as goal
 
@@ -18,6 +18,6 @@ returns c =
     let e = c.requires.class_value in
     let o = opens y c.reserve.ensures in
     let k = form.literal-kind c.args.st.class c.literal.ensures c.truth.ensures in
-    let d0 = starts c.literal.result AnyN form.literalRhs c.args.tree.now o.stands in
-    let d1 = advances-one d0 form.flat-literal (form.at_literal c.args.st.class e) o.class-is (form.literal-pos c.args.st.class e) c.advance-a.ensures (keeping-mark c.literal.result c.args.st.class (form.keeping-low c.literal.result (omega (arith, k.0), omega (arith, k.1)))) in
-    as-nonterminal form.literal-rule y e (read (shut LiteralShape tt y o d1 (omega arith) (form.literal-head c.args.st.class c.literal.ensures c.truth.ensures x (tokAt x c.reserve.result.at)) (form.not-match k.1 (omega arith)) ExprKind (form.expr-kind (omega (arith, k.0), omega (arith, k.1))) c.close.ensures))
+    let d0 = starts c.literal.result AnyN form.literal_rhs c.args.tree.now o.stands in
+    let d1 = advances-one d0 form.flat-literal (form.at_literal c.args.st.class e) o.class_is (form.literal-pos c.args.st.class e) c.advance-a.ensures (keeping-mark c.literal.result c.args.st.class (form.keeping-low c.literal.result (omega (arith, k.0), omega (arith, k.1)))) in
+    as-nonterminal form.literal-rule y e (read (shut LiteralShape tt y o d1 (omega arith) (form.literal-head c.args.st.class c.literal.ensures c.truth.ensures x (tok_at x c.reserve.result.at)) (form.not-match k.1 (omega arith)) ExprKind (form.expr-kind (omega (arith, k.0), omega (arith, k.1))) c.close.ensures))

@@ -2,9 +2,9 @@
 -- Assumes nothing.
 use Rattle.std.proofs.Common.{◌≡◌, ℕ, Bool, true, false, cond, ltb, sym, ap, ◌∙◌, ap₂, le-ltb, lt-ltb, eq-eqb, ne_eqb}
 use Rattle.std.proofs.Math.Option.{none, some}
-use Rattle.grammar.specs.records.Faults.{Fault, earlier}
+use Rattle.grammar.specs.Records.Faults.{Fault, earlier}
 use Rattle.parse.specs.Contract.{fault, sooner}
-use Rattle.parse.proofs.rule.Lists.{sooner-none}
+use Rattle.parse.proofs.Rule.Lists.{sooner-none}
 use Rattle.parse.proofs.fault.earlier.Goals as goal
 
 is_none : (n p : ℕ) → n ≡ 0 → fault n p ≡ none

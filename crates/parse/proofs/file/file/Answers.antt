@@ -1,7 +1,7 @@
 -- Assumes nothing.
 use Rattle.std.proofs.Common.{length, arith}
 use Rattle.parse.proofs.file.Forms as form
-use Rattle.parse.proofs.rule.Refused.{refusal}
+use Rattle.parse.proofs.Rule.Refused.{refusal}
 use Rattle.parse.proofs.file.file.Goals as goal
 
 pub offset_bounds-tree-from : goal.offset_bounds-tree-from

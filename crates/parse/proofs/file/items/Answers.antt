@@ -3,7 +3,7 @@ use Rattle.std.proofs.Common.{arith}
 use Rattle.parse.specs.Contract.{read}
 use Rattle.parse.proofs.file.Loop as loop
 use Rattle.parse.proofs.token.Tokens.{length-text}
-use Rattle.parse.proofs.rule.Refused.{refusal}
+use Rattle.parse.proofs.Rule.Refused.{refusal}
 use Rattle.parse.proofs.file.items.Goals as goal
 
 pub loop-here-init : goal.loop-here-init

@@ -2,15 +2,15 @@
 use Rattle.std.proofs.Common.{rules, [], ◌∷◌, sym, ◌∙◌, arith}
 use Rattle.theory.specs.Grammar.{tok, nt}
 use Rattle.parse.specs.Contract.{read}
-use Rattle.parse.proofs.rule.Amid.{starts}
-use Rattle.parse.proofs.rule.Chain.{advances}
-use Rattle.parse.proofs.rule.Marks.{keeping-mark}
-use Rattle.parse.proofs.rule.Commas.{AnyN}
+use Rattle.parse.proofs.Rule.Amid.{starts}
+use Rattle.parse.proofs.Rule.Chain.{advances}
+use Rattle.parse.proofs.Rule.Marks.{keeping-mark}
+use Rattle.parse.proofs.Rule.Commas.{AnyN}
 use Rattle.parse.proofs.heads.Forms as form
 use Rattle.lexer.specs.Classes as class
 use Rattle.own.specs.Kinds as kind
 use Rattle.own.specs.Arms as arm
-use Rattle.grammar.specs.shapes.TablesIndex.{n-head}
+use Rattle.grammar.specs.Shapes.TablesIndex.{n-head}
 use Rattle.parse.proofs.heads.head.Goals as goal
 
 pub returns-in-1 : goal.returns-in-1

@@ -2,7 +2,7 @@
 use Rattle.std.proofs.Common.{arith}
 use Rattle.parse.specs.Contract.{read}
 use Rattle.parse.proofs.heads.PairForms as pairs
-use Rattle.parse.proofs.rule.Refused.{refusal}
+use Rattle.parse.proofs.Rule.Refused.{refusal}
 use Rattle.parse.proofs.heads.more.Goals as goal
 
 pub loop-here-init : goal.loop-here-init

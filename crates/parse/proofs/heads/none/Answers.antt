@@ -2,16 +2,16 @@
 use Rattle.std.proofs.Common.{[], ◌∷◌, ◌∙◌, arith}
 use Rattle.theory.specs.Grammar.{tok, nt}
 use Rattle.parse.specs.Contract.{read}
-use Rattle.parse.proofs.rule.Amid.{then-passed, starts}
-use Rattle.parse.proofs.rule.Chain.{advances, onward}
-use Rattle.parse.proofs.rule.Marks.{keeping-mark}
-use Rattle.parse.proofs.rule.Commas.{AnyN}
+use Rattle.parse.proofs.Rule.Amid.{then-passed, starts}
+use Rattle.parse.proofs.Rule.Chain.{advances, onward}
+use Rattle.parse.proofs.Rule.Marks.{keeping-mark}
+use Rattle.parse.proofs.Rule.Commas.{AnyN}
 use Rattle.parse.proofs.heads.Forms as form
 use Rattle.lexer.specs.Classes as class
 use Rattle.own.specs.Kinds as kind
 use Rattle.own.specs.Arms as arm
-use Rattle.grammar.specs.shapes.TablesIndex.{n-head, n-head-optional, n-headPath}
-use Rattle.parse.proofs.rule.Refused.{refusal}
+use Rattle.grammar.specs.Shapes.TablesIndex.{n-head, n-head-optional, n-head_path}
+use Rattle.parse.proofs.Rule.Refused.{refusal}
 use Rattle.parse.proofs.heads.none.Goals as goal
 
 pub returns-then-a-ne-DOUBLE_COLON : goal.returns-then-a-ne-DOUBLE_COLON
@@ -35,7 +35,7 @@ path-rest-requires c =
     let p = form.named-token class.None (omega arith) y k c.advance-a.ensures o.put o.value in
     let b0 = form.named-first (tok class.None) (nt n-head-optional) y (form.none_row i.st.class e) (form.none-name k) p in
     let n = form.reserved-class c.advance-a.result o.value ∙ c.if-a-ne-DOUBLE_COLON.false in
-    let b1 = form.turns (nt n-headPath ∷ []) b0 form.flat-optional (form.optional-row c.child-c.result.class n) in
+    let b1 = form.turns (nt n-head_path ∷ []) b0 form.flat-optional (form.optional-row c.child-c.result.class n) in
     onward y b1
 
 pub returns-in_default : goal.returns-in_default
@@ -48,7 +48,7 @@ returns-in_default c =
     let p = form.named-token class.None (omega arith) y k c.advance-a.ensures o.put o.value in
     let b0 = form.named-first (tok class.None) (nt n-head-optional) y (form.none_row i.st.class e) (form.none-name k) p in
     let n = form.reserved-class c.advance-a.result o.value ∙ c.if-a-ne-DOUBLE_COLON.false in
-    let b1 = form.turns (nt n-headPath ∷ []) b0 form.flat-optional (form.optional-row c.child-c.result.class n) in
+    let b1 = form.turns (nt n-head_path ∷ []) b0 form.flat-optional (form.optional-row c.child-c.result.class n) in
     then-passed b1 (refusal c.in_default.is) (λ τ p h. h) c.path-rest.ensures
 
 pub returns : goal.returns
@@ -61,5 +61,5 @@ returns c =
     let p = form.named-token class.None (omega arith) y k c.advance-a.ensures o.put o.value in
     let b0 = form.named-first (tok class.None) (nt n-head-optional) y (form.none_row i.st.class e) (form.none-name k) p in
     let n = form.reserved-class c.advance-a.result o.value ∙ c.if-a-ne-DOUBLE_COLON.false in
-    let b1 = form.turns (nt n-headPath ∷ []) b0 form.flat-optional (form.optional-row c.child-c.result.class n) in
+    let b1 = form.turns (nt n-head_path ∷ []) b0 form.flat-optional (form.optional-row c.child-c.result.class n) in
     read (form.arm-went (form.none-name k) b1 c.path-rest.ensures c.in-Next.is)

@@ -2,12 +2,12 @@
 use Rattle.std.proofs.Common.{[], ◌∷◌, arith}
 use Rattle.theory.specs.Grammar.{tok, nt}
 use Rattle.parse.specs.Contract.{read}
-use Rattle.parse.proofs.rule.Amid.{then-passed}
-use Rattle.parse.proofs.rule.Chain.{then-lacks}
+use Rattle.parse.proofs.Rule.Amid.{then-passed}
+use Rattle.parse.proofs.Rule.Chain.{then-lacks}
 use Rattle.parse.proofs.heads.PairForms as pairs
 use Rattle.lexer.specs.Classes as class
-use Rattle.grammar.specs.shapes.TablesIndex.{n-pair, n-pattern, n-type}
-use Rattle.parse.proofs.rule.Refused.{refusal}
+use Rattle.grammar.specs.Shapes.TablesIndex.{n-pair, n-pattern, n-type}
+use Rattle.parse.proofs.Rule.Refused.{refusal}
 use Rattle.parse.proofs.heads.pair.Goals as goal
 
 pub returns-in_default : goal.returns-in_default

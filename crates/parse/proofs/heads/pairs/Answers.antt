@@ -2,26 +2,26 @@
 use Rattle.std.proofs.Common.{[], ◌∷◌, refl, arith}
 use Rattle.theory.specs.Grammar.{tok, nt}
 use Rattle.parse.specs.Contract.{read}
-use Rattle.parse.proofs.rule.Amid.{then-passed, went}
-use Rattle.parse.proofs.rule.Chain.{then-lacks}
+use Rattle.parse.proofs.Rule.Amid.{then-passed, went}
+use Rattle.parse.proofs.Rule.Chain.{then-lacks}
 use Rattle.parse.proofs.heads.PairForms as pairs
 use Rattle.lexer.specs.Classes as class
-use Rattle.grammar.specs.shapes.TablesIndex.{n-headPath-optional-LParen, n-pair, n-tail-pair}
-use Rattle.parse.proofs.rule.Refused.{refusal}
+use Rattle.grammar.specs.Shapes.TablesIndex.{n-head_path-optional-LParen, n-pair, n-tail-pair}
+use Rattle.parse.proofs.Rule.Refused.{refusal}
 use Rattle.parse.proofs.heads.pairs.Goals as goal
 
 pub returns-then-st-ne-LPAREN : goal.returns-then-st-ne-LPAREN
 returns-then-st-ne-LPAREN c =
     let i = c.args in
     let y = c.requires in
-    let s = pairs.on-starts (nt n-headPath-optional-LParen ∷ []) i.tree.now y in
+    let s = pairs.on-starts (nt n-head_path-optional-LParen ∷ []) i.tree.now y in
     read (pairs.on-many (pairs.on-turns [] s pairs.flat-pairs (pairs.no-pairs-row i.st.class c.if-st-ne-LPAREN.true)) refl)
 
 pub pair-first-requires : goal.pair-first-requires
 pair-first-requires c =
     let i = c.args in
     let y = c.requires in
-    let s = pairs.on-starts (nt n-headPath-optional-LParen ∷ []) i.tree.now y in
+    let s = pairs.on-starts (nt n-head_path-optional-LParen ∷ []) i.tree.now y in
     let d0 = pairs.on-turns (tok class.LParen ∷ nt n-pair ∷ nt n-tail-pair ∷ tok class.RParen ∷ []) s pairs.flat-pairs (pairs.pairs-row i.st.class c.if-st-ne-LPAREN.false) in
     let d1 = pairs.on-sign d0 tt (λ e. omega arith) c.if-st-ne-LPAREN.false c.advance-a.ensures in
     pairs.on-ready y d1
@@ -30,7 +30,7 @@ pub returns-in_default : goal.returns-in_default
 returns-in_default c =
     let i = c.args in
     let y = c.requires in
-    let s = pairs.on-starts (nt n-headPath-optional-LParen ∷ []) i.tree.now y in
+    let s = pairs.on-starts (nt n-head_path-optional-LParen ∷ []) i.tree.now y in
     let d0 = pairs.on-turns (tok class.LParen ∷ nt n-pair ∷ nt n-tail-pair ∷ tok class.RParen ∷ []) s pairs.flat-pairs (pairs.pairs-row i.st.class c.if-st-ne-LPAREN.false) in
     let d1 = pairs.on-sign d0 tt (λ e. omega arith) c.if-st-ne-LPAREN.false c.advance-a.ensures in
     then-passed d1.amid (refusal c.in_default.is) (λ τ p h. h) c.pair-first.ensures
@@ -39,7 +39,7 @@ pub more-rest-requires : goal.more-rest-requires
 more-rest-requires c =
     let i = c.args in
     let y = c.requires in
-    let s = pairs.on-starts (nt n-headPath-optional-LParen ∷ []) i.tree.now y in
+    let s = pairs.on-starts (nt n-head_path-optional-LParen ∷ []) i.tree.now y in
     let d0 = pairs.on-turns (tok class.LParen ∷ nt n-pair ∷ nt n-tail-pair ∷ tok class.RParen ∷ []) s pairs.flat-pairs (pairs.pairs-row i.st.class c.if-st-ne-LPAREN.false) in
     let d1 = pairs.on-sign d0 tt (λ e. omega arith) c.if-st-ne-LPAREN.false c.advance-a.ensures in
     let d2 = pairs.on-pair d1 c.pair-first.ensures c.in-Next.is in
@@ -49,7 +49,7 @@ pub returns-in_default-rest : goal.returns-in_default-rest
 returns-in_default-rest c =
     let i = c.args in
     let y = c.requires in
-    let s = pairs.on-starts (nt n-headPath-optional-LParen ∷ []) i.tree.now y in
+    let s = pairs.on-starts (nt n-head_path-optional-LParen ∷ []) i.tree.now y in
     let d0 = pairs.on-turns (tok class.LParen ∷ nt n-pair ∷ nt n-tail-pair ∷ tok class.RParen ∷ []) s pairs.flat-pairs (pairs.pairs-row i.st.class c.if-st-ne-LPAREN.false) in
     let d1 = pairs.on-sign d0 tt (λ e. omega arith) c.if-st-ne-LPAREN.false c.advance-a.ensures in
     let d2 = pairs.on-pair d1 c.pair-first.ensures c.in-Next.is in
@@ -59,7 +59,7 @@ pub returns-in_default-paren : goal.returns-in_default-paren
 returns-in_default-paren c =
     let i = c.args in
     let y = c.requires in
-    let s = pairs.on-starts (nt n-headPath-optional-LParen ∷ []) i.tree.now y in
+    let s = pairs.on-starts (nt n-head_path-optional-LParen ∷ []) i.tree.now y in
     let d0 = pairs.on-turns (tok class.LParen ∷ nt n-pair ∷ nt n-tail-pair ∷ tok class.RParen ∷ []) s pairs.flat-pairs (pairs.pairs-row i.st.class c.if-st-ne-LPAREN.false) in
     let d1 = pairs.on-sign d0 tt (λ e. omega arith) c.if-st-ne-LPAREN.false c.advance-a.ensures in
     let d2 = pairs.on-pair d1 c.pair-first.ensures c.in-Next.is in
@@ -71,7 +71,7 @@ pub returns : goal.returns
 returns c =
     let i = c.args in
     let y = c.requires in
-    let s = pairs.on-starts (nt n-headPath-optional-LParen ∷ []) i.tree.now y in
+    let s = pairs.on-starts (nt n-head_path-optional-LParen ∷ []) i.tree.now y in
     let d0 = pairs.on-turns (tok class.LParen ∷ nt n-pair ∷ nt n-tail-pair ∷ tok class.RParen ∷ []) s pairs.flat-pairs (pairs.pairs-row i.st.class c.if-st-ne-LPAREN.false) in
     let d1 = pairs.on-sign d0 tt (λ e. omega arith) c.if-st-ne-LPAREN.false c.advance-a.ensures in
     let d2 = pairs.on-pair d1 c.pair-first.ensures c.in-Next.is in

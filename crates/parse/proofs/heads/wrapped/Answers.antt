@@ -2,16 +2,16 @@
 use Rattle.std.proofs.Common.{[], ◌∷◌, sym, refl, ◌∙◌, arith}
 use Rattle.theory.specs.Grammar.{tok, nt}
 use Rattle.parse.specs.Contract.{text, read, raw}
-use Rattle.parse.proofs.rule.Amid.{then-passed, went, starts, then-went}
-use Rattle.parse.proofs.rule.Chain.{then-lacks, advances, advances-one, then-eats, onward}
-use Rattle.parse.proofs.rule.Marks.{keeping-mark}
-use Rattle.parse.proofs.rule.Commas.{AnyN}
+use Rattle.parse.proofs.Rule.Amid.{then-passed, went, starts, then-went}
+use Rattle.parse.proofs.Rule.Chain.{then-lacks, advances, advances-one, then-eats, onward}
+use Rattle.parse.proofs.Rule.Marks.{keeping-mark}
+use Rattle.parse.proofs.Rule.Commas.{AnyN}
 use Rattle.parse.proofs.heads.Forms as form
 use Rattle.lexer.specs.Classes as class
 use Rattle.own.specs.Kinds as kind
 use Rattle.own.specs.Law.{sorts}
-use Rattle.grammar.specs.shapes.TablesIndex.{n-head, n-head-choice, n-head-word, n-pair}
-use Rattle.parse.proofs.rule.Refused.{refusal}
+use Rattle.grammar.specs.Shapes.TablesIndex.{n-head, n-head-choice, n-head-word, n-pair}
+use Rattle.parse.proofs.Rule.Refused.{refusal}
 use Rattle.parse.proofs.heads.wrapped.Goals as goal
 
 pub pair-inner-requires : goal.pair-inner-requires

@@ -2,7 +2,7 @@
 -- Assumes nothing.
 use Rattle.std.proofs.Common.{arith}
 use Rattle.parse.specs.Contract.{read}
-use Rattle.parse.proofs.rule.Refused.{refusal}
+use Rattle.parse.proofs.Rule.Refused.{refusal}
 use Rattle.parse.proofs.names.Steps.{ready-near}
 use Rattle.parse.proofs.names.Joined.{joined-starts, joined-less, joined-within, joined-again, names-passed, first-ready, names-few, next-ready, next-passed, names-went}
 use Rattle.parse.proofs.names.names.Goals as goal

@@ -14,7 +14,7 @@ returns-then-class-eq-BOOL_TYPE c = sym (by-class _ ∙ rw (le-ltb _ _ c.if-clas
 pub returns-then-class-lt-CTX8 : goal.returns-then-class-lt-CTX8
 returns-then-class-lt-CTX8 c =
     let i = c.args.class - t.u1 in
-    let h : i < length t.unsignedTypes = omega (arith, c.if-class-lt-CTX8.true) in
+    let h : i < length t.unsigned_types = omega (arith, c.if-class-lt-CTX8.true) in
     sym (by-class _ ∙ rw (le-ltb _ _ c.if-class-lt-BOOL_TYPE.false, ne_eqb _ _ c.if-class-eq-BOOL_TYPE.false, lt-ltb _ _ c.if-class-lt-CTX8.true, shifted i h) refl)
 
 pub returns-then-class-le-LAST : goal.returns-then-class-le-LAST

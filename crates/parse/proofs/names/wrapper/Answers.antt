@@ -4,7 +4,7 @@ use Rattle.std.proofs.Common.{ℕ, [], ◌∷◌, arith}
 use Rattle.text.specs.Lists.{has}
 use Rattle.lexer.specs.Classes as t
 use Rattle.kinds.specs.Rules.{wrappers}
-use Rattle.grammar.specs.records.Records.{place_in}
+use Rattle.grammar.specs.Records.Records.{place_in}
 use Rattle.parse.proofs.choice.Keys.{keyed, unkeyed, place-past}
 use Rattle.parse.proofs.names.wrapper.Goals as goal
 

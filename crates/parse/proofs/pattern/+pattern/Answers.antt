@@ -1,23 +1,23 @@
 -- Assumes nothing.
 use Rattle.std.proofs.Common.{rules, sym, ap, ◌∙◌, arith}
-use Rattle.theory.specs.Walk.{k-nt}
+use Rattle.theory.specs.Walk.{k_nt}
 use Rattle.theory.specs.Machine.{expand}
-use Rattle.grammar.specs.shapes.Tables.{table}
+use Rattle.grammar.specs.Shapes.Tables.{table}
 use Rattle.parse.specs.Contract.{read, stuck, PatternKind}
-use Rattle.parse.proofs.rule.Amid.{starts, then-passed}
-use Rattle.parse.proofs.rule.Closing.{opens, as-nonterminal, enters}
-use Rattle.parse.proofs.rule.Chain.{further, advances, then-eats, then-lacks}
+use Rattle.parse.proofs.Rule.Amid.{starts, then-passed}
+use Rattle.parse.proofs.Rule.Closing.{opens, as-nonterminal, enters}
+use Rattle.parse.proofs.Rule.Chain.{further, advances, then-eats, then-lacks}
 use Rattle.parse.proofs.token.Tokens.{length-text}
-use Rattle.parse.proofs.rule.Marks.{sign-mark}
-use Rattle.parse.proofs.rule.Commas.{AnyN, Lined}
-use Rattle.parse.proofs.rule.Commas as lined
-use Rattle.parse.proofs.rule.Heads.{shut}
+use Rattle.parse.proofs.Rule.Marks.{sign-mark}
+use Rattle.parse.proofs.Rule.Commas.{AnyN, Lined}
+use Rattle.parse.proofs.Rule.Commas as lined
+use Rattle.parse.proofs.Rule.Heads.{shut}
 use Rattle.parse.proofs.pattern.Forms as form
 use Rattle.lexer.specs.Classes as class
 use Rattle.own.specs.Kinds as kind
-use Rattle.grammar.specs.shapes.TablesIndex.{n-pattern}
-use Rattle.grammar.specs.shapes.ShapeKind.{ArrayPatternShape, TuplePatternShape}
-use Rattle.parse.proofs.rule.Refused.{refusal}
+use Rattle.grammar.specs.Shapes.TablesIndex.{n-pattern}
+use Rattle.grammar.specs.Shapes.ShapeKind.{ArrayPatternShape, TuplePatternShape}
+use Rattle.parse.proofs.Rule.Refused.{refusal}
 use Rattle.std.proofs.Common.{not}
 use Rattle.parse.proofs.pattern.+pattern.Goals as goal
 
@@ -26,8 +26,8 @@ array-patterns-inner-requires t c =
     let y = c.requires.ready in
     let e = c.requires.class_value in
     let o = opens y c.reserve.ensures in
-    let d0 = starts kind.ArrayPattern AnyN form.arrayRhs c.args.tree.now o.stands in
-    let k = o.class-is ∙ form.at-array c.args.st.class e in
+    let d0 = starts kind.ArrayPattern AnyN form.array_rhs c.args.tree.now o.stands in
+    let k = o.class_is ∙ form.at-array c.args.st.class e in
     let d1 = advances d0 k (omega arith) c.advance-a.ensures (sign-mark kind.ArrayPattern class.LBracket tt) in
     let f1 = further y o d1 (omega arith) in
     let q = length-text c.args.draft.now c.args.tokens.now c.args.count in
@@ -38,8 +38,8 @@ array-returns-in_default t c =
     let y = c.requires.ready in
     let e = c.requires.class_value in
     let o = opens y c.reserve.ensures in
-    let d0 = starts kind.ArrayPattern AnyN form.arrayRhs c.args.tree.now o.stands in
-    let k = o.class-is ∙ form.at-array c.args.st.class e in
+    let d0 = starts kind.ArrayPattern AnyN form.array_rhs c.args.tree.now o.stands in
+    let k = o.class_is ∙ form.at-array c.args.st.class e in
     let d1 = advances d0 k (omega arith) c.advance-a.ensures (sign-mark kind.ArrayPattern class.LBracket tt) in
     then-passed d1 (refusal c.in_default.is) (enters form.array-rule y e o) c.patterns-inner.ensures
 
@@ -48,8 +48,8 @@ array-returns-in_default-bracket t c =
     let y = c.requires.ready in
     let e = c.requires.class_value in
     let o = opens y c.reserve.ensures in
-    let d0 = starts kind.ArrayPattern AnyN form.arrayRhs c.args.tree.now o.stands in
-    let k = o.class-is ∙ form.at-array c.args.st.class e in
+    let d0 = starts kind.ArrayPattern AnyN form.array_rhs c.args.tree.now o.stands in
+    let k = o.class_is ∙ form.at-array c.args.st.class e in
     let d1 = advances d0 k (omega arith) c.advance-a.ensures (sign-mark kind.ArrayPattern class.LBracket tt) in
     let d2 = lined.then-list d1 c.patterns-inner.ensures c.in-Next.is in
     then-lacks d2.amid (refusal c.in_default-bracket.is) (enters form.array-rule y e o) c.eat-bracket.ensures
@@ -59,8 +59,8 @@ array-returns t c =
     let y = c.requires.ready in
     let e = c.requires.class_value in
     let o = opens y c.reserve.ensures in
-    let d0 = starts kind.ArrayPattern AnyN form.arrayRhs c.args.tree.now o.stands in
-    let k = o.class-is ∙ form.at-array c.args.st.class e in
+    let d0 = starts kind.ArrayPattern AnyN form.array_rhs c.args.tree.now o.stands in
+    let k = o.class_is ∙ form.at-array c.args.st.class e in
     let d1 = advances d0 k (omega arith) c.advance-a.ensures (sign-mark kind.ArrayPattern class.LBracket tt) in
     let d2 = lined.then-list d1 c.patterns-inner.ensures c.in-Next.is in
     let d3 = then-eats d2.amid (omega arith) c.eat-bracket.ensures c.in-Next-bracket.is (sign-mark kind.ArrayPattern class.RBracket tt) in
@@ -71,8 +71,8 @@ tuple-patterns-inner-requires t c =
     let y = c.requires.ready in
     let e = c.requires.class_value in
     let o = opens y c.reserve.ensures in
-    let d0 = starts kind.TuplePattern AnyN form.tupleRhs c.args.tree.now o.stands in
-    let k = o.class-is ∙ form.at-tuple c.args.st.class e in
+    let d0 = starts kind.TuplePattern AnyN form.tuple_rhs c.args.tree.now o.stands in
+    let k = o.class_is ∙ form.at-tuple c.args.st.class e in
     let d1 = advances d0 k (omega arith) c.advance-a.ensures (sign-mark kind.TuplePattern class.LParen tt) in
     let f1 = further y o d1 (omega arith) in
     let q = length-text c.args.draft.now c.args.tokens.now c.args.count in
@@ -83,8 +83,8 @@ tuple-returns-in_default t c =
     let y = c.requires.ready in
     let e = c.requires.class_value in
     let o = opens y c.reserve.ensures in
-    let d0 = starts kind.TuplePattern AnyN form.tupleRhs c.args.tree.now o.stands in
-    let k = o.class-is ∙ form.at-tuple c.args.st.class e in
+    let d0 = starts kind.TuplePattern AnyN form.tuple_rhs c.args.tree.now o.stands in
+    let k = o.class_is ∙ form.at-tuple c.args.st.class e in
     let d1 = advances d0 k (omega arith) c.advance-a.ensures (sign-mark kind.TuplePattern class.LParen tt) in
     then-passed d1 (refusal c.in_default.is) (enters form.tuple-rule y e o) c.patterns-inner.ensures
 
@@ -93,8 +93,8 @@ tuple-returns-in_default-paren t c =
     let y = c.requires.ready in
     let e = c.requires.class_value in
     let o = opens y c.reserve.ensures in
-    let d0 = starts kind.TuplePattern AnyN form.tupleRhs c.args.tree.now o.stands in
-    let k = o.class-is ∙ form.at-tuple c.args.st.class e in
+    let d0 = starts kind.TuplePattern AnyN form.tuple_rhs c.args.tree.now o.stands in
+    let k = o.class_is ∙ form.at-tuple c.args.st.class e in
     let d1 = advances d0 k (omega arith) c.advance-a.ensures (sign-mark kind.TuplePattern class.LParen tt) in
     let d2 = lined.then-list d1 c.patterns-inner.ensures c.in-Next.is in
     then-lacks d2.amid (refusal c.in_default-paren.is) (enters form.tuple-rule y e o) c.eat-paren.ensures
@@ -104,8 +104,8 @@ tuple-returns t c =
     let y = c.requires.ready in
     let e = c.requires.class_value in
     let o = opens y c.reserve.ensures in
-    let d0 = starts kind.TuplePattern AnyN form.tupleRhs c.args.tree.now o.stands in
-    let k = o.class-is ∙ form.at-tuple c.args.st.class e in
+    let d0 = starts kind.TuplePattern AnyN form.tuple_rhs c.args.tree.now o.stands in
+    let k = o.class_is ∙ form.at-tuple c.args.st.class e in
     let d1 = advances d0 k (omega arith) c.advance-a.ensures (sign-mark kind.TuplePattern class.LParen tt) in
     let d2 = lined.then-list d1 c.patterns-inner.ensures c.in-Next.is in
     let d3 = then-eats d2.amid (omega arith) c.eat-paren.ensures c.in-Next-paren.is (sign-mark kind.TuplePattern class.RParen tt) in
@@ -114,7 +114,7 @@ tuple-returns t c =
 pub pattern-returns-in_default : goal.pattern-returns-in_default
 pattern-returns-in_default t c =
     let y = c.requires in
-    stuck y.stands.within (λ τ. k-nt (ap (expand table n-pattern) (sym y.stands.class-is) ∙ form.no-pattern c.args.st.class c.patterns.result c.patterns.ensures (search rules)))
+    stuck y.stands.within (λ τ. k_nt (ap (expand table n-pattern) (sym y.stands.class_is) ∙ form.no-pattern c.args.st.class c.patterns.result c.patterns.ensures (search rules)))
 
 pub patterns-loop-tree-init : goal.patterns-loop-tree-init
 patterns-loop-tree-init t c =

@@ -1,9 +1,9 @@
 -- What is left of the text bounds the calls; the loop keeps a list of patterns with its commas.
 -- Assumes nothing.
 use Rattle.std.proofs.Common.{◌+◌, ◌-◌, ◌*◌}
-use Rattle.grammar.specs.shapes.TablesIndex.{n-list-pattern}
+use Rattle.grammar.specs.Shapes.TablesIndex.{n-list-pattern}
 use Rattle.parse.specs.Contract.{text}
-use Rattle.parse.proofs.rule.Commas.{Lined}
+use Rattle.parse.proofs.Rule.Commas.{Lined}
 use Rattle.parse.proofs.pattern.+pattern.Given as goal
 
 abbrev pub decreases-array : goal.decreases-array

@@ -2,13 +2,13 @@
 use Rattle.std.proofs.Common.{arith}
 use Rattle.text.specs.Part.{part_of}
 use Rattle.parse.specs.Contract.{read, PatternKind}
-use Rattle.parse.proofs.rule.Amid.{starts}
-use Rattle.parse.proofs.rule.Closing.{opens, as-nonterminal}
-use Rattle.parse.proofs.rule.Chain.{advances-one}
-use Rattle.parse.proofs.rule.Commas.{AnyN}
-use Rattle.parse.proofs.rule.Heads.{shut}
+use Rattle.parse.proofs.Rule.Amid.{starts}
+use Rattle.parse.proofs.Rule.Closing.{opens, as-nonterminal}
+use Rattle.parse.proofs.Rule.Chain.{advances-one}
+use Rattle.parse.proofs.Rule.Commas.{AnyN}
+use Rattle.parse.proofs.Rule.Heads.{shut}
 use Rattle.parse.proofs.pattern.Forms as form
-use Rattle.grammar.specs.shapes.ShapeKind.{NamePatternShape}
+use Rattle.grammar.specs.Shapes.ShapeKind.{NamePatternShape}
 use Rattle.parse.proofs.pattern.named.Goals as goal
 
 pub returns : goal.returns
@@ -19,7 +19,7 @@ returns c =
     let k = c.args.st.class in
     let p = part_of c.args.draft.now c.args.st.start c.args.st.stop in
     let h = c.pattern_name-kind.ensures in
-    let d0 = starts c.pattern_name-kind.result AnyN form.namedRhs c.args.tree.now o.stands in
-    let d1 = advances-one d0 form.flat-named (form.at_named k e) o.class-is (form.named-pos k e) c.advance-a.ensures (form.named-role p k h k) in
+    let d0 = starts c.pattern_name-kind.result AnyN form.named_rhs c.args.tree.now o.stands in
+    let d1 = advances-one d0 form.flat-named (form.at_named k e) o.class_is (form.named-pos k e) c.advance-a.ensures (form.named-role p k h k) in
     as-nonterminal form.named_rule y e
-    (read (shut NamePatternShape tt y o d1 (omega arith) (form.named-head c.args.draft.now c.args.tokens.now c.args.count c.reserve.result y.stands o.at-is h) (form.named-unturned p k h) PatternKind (form.named-kind p k h) c.close.ensures))
+    (read (shut NamePatternShape tt y o d1 (omega arith) (form.named-head c.args.draft.now c.args.tokens.now c.args.count c.reserve.result y.stands o.at_is h) (form.named-unturned p k h) PatternKind (form.named-kind p k h) c.close.ensures))

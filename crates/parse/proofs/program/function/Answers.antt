@@ -2,20 +2,20 @@
 use Rattle.std.proofs.Common.{◌+◌, arith, refl}
 use Rattle.lexer.specs.Classes as class
 use Rattle.own.specs.Kinds as kind
-use Rattle.grammar.specs.shapes.ShapeKind.{FunctionShape}
-use Rattle.parse.specs.Contract.{text, tokAt, read}
+use Rattle.grammar.specs.Shapes.ShapeKind.{FunctionShape}
+use Rattle.parse.specs.Contract.{text, tok_at, read}
 use Rattle.parse.specs.Infos.{FunctionKind}
-use Rattle.parse.proofs.rule.Amid.{starts, then-passed, done}
-use Rattle.parse.proofs.rule.Closing.{opens, as-nonterminal}
-use Rattle.parse.proofs.rule.Chain.{further, then-eats, then-lacks, then-node}
-use Rattle.parse.proofs.rule.Commas.{AnyN}
-use Rattle.parse.proofs.rule.Heads.{shut}
-use Rattle.parse.proofs.rule.Marks.{sign-mark}
+use Rattle.parse.proofs.Rule.Amid.{starts, then-passed, done}
+use Rattle.parse.proofs.Rule.Closing.{opens, as-nonterminal}
+use Rattle.parse.proofs.Rule.Chain.{further, then-eats, then-lacks, then-node}
+use Rattle.parse.proofs.Rule.Commas.{AnyN}
+use Rattle.parse.proofs.Rule.Heads.{shut}
+use Rattle.parse.proofs.Rule.Marks.{sign-mark}
 use Rattle.parse.proofs.names.Chain.{then-named}
 use Rattle.parse.proofs.names.Rows.{name-role}
 use Rattle.parse.proofs.names.Joined.{function-name-class}
 use Rattle.parse.proofs.program.Forms as form
-use Rattle.parse.proofs.rule.Refused.{refusal}
+use Rattle.parse.proofs.Rule.Refused.{refusal}
 use Rattle.parse.proofs.program.function.Goals as goal
 
 pub public-first-requires : goal.public-first-requires
@@ -28,14 +28,14 @@ pub returns-in_default : goal.returns-in_default
 returns-in_default c =
     let y = c.requires in
     let o = opens y c.reserve.ensures in
-    let d0 = starts kind.Function AnyN form.functionRhs c.args.tree.now o.stands in
+    let d0 = starts kind.Function AnyN form.function_rhs c.args.tree.now o.stands in
     then-passed d0 (refusal c.in_default.is) (form.function-enters y o) (c.public-first.ensures c.args.tree.now)
 
 pub returns-in_default-word : goal.returns-in_default-word
 returns-in_default-word c =
     let y = c.requires in
     let o = opens y c.reserve.ensures in
-    let d0 = starts kind.Function AnyN form.functionRhs c.args.tree.now o.stands in
+    let d0 = starts kind.Function AnyN form.function_rhs c.args.tree.now o.stands in
     let d1 = form.then-optional d0 (c.public-first.ensures c.args.tree.now) c.in-Next.is in
     then-lacks d1.amid (refusal c.in_default-word.is) (form.function-enters y o) c.eat-word.ensures
 
@@ -43,7 +43,7 @@ pub function_name-name-requires : goal.function_name-name-requires
 function_name-name-requires c =
     let y = c.requires in
     let o = opens y c.reserve.ensures in
-    let d0 = starts kind.Function AnyN form.functionRhs c.args.tree.now o.stands in
+    let d0 = starts kind.Function AnyN form.function_rhs c.args.tree.now o.stands in
     let d1 = form.then-optional d0 (c.public-first.ensures c.args.tree.now) c.in-Next.is in
     let d2 = then-eats d1.amid (omega arith) c.eat-word.ensures c.in-Next-word.is (sign-mark kind.Function class.Fn tt) in
     let f2 = further y o d2 (omega arith) in
@@ -53,7 +53,7 @@ pub returns-in_default-name : goal.returns-in_default-name
 returns-in_default-name c =
     let y = c.requires in
     let o = opens y c.reserve.ensures in
-    let d0 = starts kind.Function AnyN form.functionRhs c.args.tree.now o.stands in
+    let d0 = starts kind.Function AnyN form.function_rhs c.args.tree.now o.stands in
     let d1 = form.then-optional d0 (c.public-first.ensures c.args.tree.now) c.in-Next.is in
     let d2 = then-eats d1.amid (omega arith) c.eat-word.ensures c.in-Next-word.is (sign-mark kind.Function class.Fn tt) in
     then-passed d2 (refusal c.in_default-name.is) (form.function-enters y o) c.function_name-name.ensures
@@ -63,11 +63,11 @@ returns-in_default-left c =
     let y = c.requires in
     let x = text c.args.draft.now c.args.tokens.now c.args.count in
     let o = opens y c.reserve.ensures in
-    let d0 = starts kind.Function AnyN form.functionRhs c.args.tree.now o.stands in
+    let d0 = starts kind.Function AnyN form.function_rhs c.args.tree.now o.stands in
     let d1 = form.then-optional d0 (c.public-first.ensures c.args.tree.now) c.in-Next.is in
     let d2 = then-eats d1.amid (omega arith) c.eat-word.ensures c.in-Next-word.is (sign-mark kind.Function class.Fn tt) in
     let fname = function-name-class c.function_name-name.ensures c.in-Next-name.is in
-    let cls = (tokAt x c.in-Next-word.b.at).class in
+    let cls = (tok_at x c.in-Next-word.b.at).class in
     let d3 = then-named d2 c.function_name-name.ensures c.in-Next-name.is (name-role kind.Function cls form.named-function (form.name-identifier cls fname)) in
     then-lacks d3 (refusal c.in_default-left.is) (form.function-enters y o) c.eat-left.ensures
 
@@ -76,11 +76,11 @@ parameters-inner-requires c =
     let y = c.requires in
     let x = text c.args.draft.now c.args.tokens.now c.args.count in
     let o = opens y c.reserve.ensures in
-    let d0 = starts kind.Function AnyN form.functionRhs c.args.tree.now o.stands in
+    let d0 = starts kind.Function AnyN form.function_rhs c.args.tree.now o.stands in
     let d1 = form.then-optional d0 (c.public-first.ensures c.args.tree.now) c.in-Next.is in
     let d2 = then-eats d1.amid (omega arith) c.eat-word.ensures c.in-Next-word.is (sign-mark kind.Function class.Fn tt) in
     let fname = function-name-class c.function_name-name.ensures c.in-Next-name.is in
-    let cls = (tokAt x c.in-Next-word.b.at).class in
+    let cls = (tok_at x c.in-Next-word.b.at).class in
     let d3 = then-named d2 c.function_name-name.ensures c.in-Next-name.is (name-role kind.Function cls form.named-function (form.name-identifier cls fname)) in
     let d4 = then-eats d3 (omega arith) c.eat-left.ensures c.in-Next-left.is (sign-mark kind.Function class.LParen tt) in
     let f4 = further y o d4 (omega arith) in
@@ -91,11 +91,11 @@ returns-in_default-inner c =
     let y = c.requires in
     let x = text c.args.draft.now c.args.tokens.now c.args.count in
     let o = opens y c.reserve.ensures in
-    let d0 = starts kind.Function AnyN form.functionRhs c.args.tree.now o.stands in
+    let d0 = starts kind.Function AnyN form.function_rhs c.args.tree.now o.stands in
     let d1 = form.then-optional d0 (c.public-first.ensures c.args.tree.now) c.in-Next.is in
     let d2 = then-eats d1.amid (omega arith) c.eat-word.ensures c.in-Next-word.is (sign-mark kind.Function class.Fn tt) in
     let fname = function-name-class c.function_name-name.ensures c.in-Next-name.is in
-    let cls = (tokAt x c.in-Next-word.b.at).class in
+    let cls = (tok_at x c.in-Next-word.b.at).class in
     let d3 = then-named d2 c.function_name-name.ensures c.in-Next-name.is (name-role kind.Function cls form.named-function (form.name-identifier cls fname)) in
     let d4 = then-eats d3 (omega arith) c.eat-left.ensures c.in-Next-left.is (sign-mark kind.Function class.LParen tt) in
     then-passed d4 (refusal c.in_default-inner.is) (form.function-enters y o) c.parameters-inner.ensures
@@ -105,11 +105,11 @@ returns-in_default-paren c =
     let y = c.requires in
     let x = text c.args.draft.now c.args.tokens.now c.args.count in
     let o = opens y c.reserve.ensures in
-    let d0 = starts kind.Function AnyN form.functionRhs c.args.tree.now o.stands in
+    let d0 = starts kind.Function AnyN form.function_rhs c.args.tree.now o.stands in
     let d1 = form.then-optional d0 (c.public-first.ensures c.args.tree.now) c.in-Next.is in
     let d2 = then-eats d1.amid (omega arith) c.eat-word.ensures c.in-Next-word.is (sign-mark kind.Function class.Fn tt) in
     let fname = function-name-class c.function_name-name.ensures c.in-Next-name.is in
-    let cls = (tokAt x c.in-Next-word.b.at).class in
+    let cls = (tok_at x c.in-Next-word.b.at).class in
     let d3 = then-named d2 c.function_name-name.ensures c.in-Next-name.is (name-role kind.Function cls form.named-function (form.name-identifier cls fname)) in
     let d4 = then-eats d3 (omega arith) c.eat-left.ensures c.in-Next-left.is (sign-mark kind.Function class.LParen tt) in
     let d5 = form.then-parameters d4 c.parameters-inner.ensures c.in-Next-inner.is in
@@ -120,11 +120,11 @@ result-arrow-requires c =
     let y = c.requires in
     let x = text c.args.draft.now c.args.tokens.now c.args.count in
     let o = opens y c.reserve.ensures in
-    let d0 = starts kind.Function AnyN form.functionRhs c.args.tree.now o.stands in
+    let d0 = starts kind.Function AnyN form.function_rhs c.args.tree.now o.stands in
     let d1 = form.then-optional d0 (c.public-first.ensures c.args.tree.now) c.in-Next.is in
     let d2 = then-eats d1.amid (omega arith) c.eat-word.ensures c.in-Next-word.is (sign-mark kind.Function class.Fn tt) in
     let fname = function-name-class c.function_name-name.ensures c.in-Next-name.is in
-    let cls = (tokAt x c.in-Next-word.b.at).class in
+    let cls = (tok_at x c.in-Next-word.b.at).class in
     let d3 = then-named d2 c.function_name-name.ensures c.in-Next-name.is (name-role kind.Function cls form.named-function (form.name-identifier cls fname)) in
     let d4 = then-eats d3 (omega arith) c.eat-left.ensures c.in-Next-left.is (sign-mark kind.Function class.LParen tt) in
     let d5 = form.then-parameters d4 c.parameters-inner.ensures c.in-Next-inner.is in
@@ -137,11 +137,11 @@ returns-in_default-arrow c =
     let y = c.requires in
     let x = text c.args.draft.now c.args.tokens.now c.args.count in
     let o = opens y c.reserve.ensures in
-    let d0 = starts kind.Function AnyN form.functionRhs c.args.tree.now o.stands in
+    let d0 = starts kind.Function AnyN form.function_rhs c.args.tree.now o.stands in
     let d1 = form.then-optional d0 (c.public-first.ensures c.args.tree.now) c.in-Next.is in
     let d2 = then-eats d1.amid (omega arith) c.eat-word.ensures c.in-Next-word.is (sign-mark kind.Function class.Fn tt) in
     let fname = function-name-class c.function_name-name.ensures c.in-Next-name.is in
-    let cls = (tokAt x c.in-Next-word.b.at).class in
+    let cls = (tok_at x c.in-Next-word.b.at).class in
     let d3 = then-named d2 c.function_name-name.ensures c.in-Next-name.is (name-role kind.Function cls form.named-function (form.name-identifier cls fname)) in
     let d4 = then-eats d3 (omega arith) c.eat-left.ensures c.in-Next-left.is (sign-mark kind.Function class.LParen tt) in
     let d5 = form.then-parameters d4 c.parameters-inner.ensures c.in-Next-inner.is in
@@ -153,11 +153,11 @@ block-body-requires c =
     let y = c.requires in
     let x = text c.args.draft.now c.args.tokens.now c.args.count in
     let o = opens y c.reserve.ensures in
-    let d0 = starts kind.Function AnyN form.functionRhs c.args.tree.now o.stands in
+    let d0 = starts kind.Function AnyN form.function_rhs c.args.tree.now o.stands in
     let d1 = form.then-optional d0 (c.public-first.ensures c.args.tree.now) c.in-Next.is in
     let d2 = then-eats d1.amid (omega arith) c.eat-word.ensures c.in-Next-word.is (sign-mark kind.Function class.Fn tt) in
     let fname = function-name-class c.function_name-name.ensures c.in-Next-name.is in
-    let cls = (tokAt x c.in-Next-word.b.at).class in
+    let cls = (tok_at x c.in-Next-word.b.at).class in
     let d3 = then-named d2 c.function_name-name.ensures c.in-Next-name.is (name-role kind.Function cls form.named-function (form.name-identifier cls fname)) in
     let d4 = then-eats d3 (omega arith) c.eat-left.ensures c.in-Next-left.is (sign-mark kind.Function class.LParen tt) in
     let d5 = form.then-parameters d4 c.parameters-inner.ensures c.in-Next-inner.is in
@@ -171,11 +171,11 @@ returns-in_default-body c =
     let y = c.requires in
     let x = text c.args.draft.now c.args.tokens.now c.args.count in
     let o = opens y c.reserve.ensures in
-    let d0 = starts kind.Function AnyN form.functionRhs c.args.tree.now o.stands in
+    let d0 = starts kind.Function AnyN form.function_rhs c.args.tree.now o.stands in
     let d1 = form.then-optional d0 (c.public-first.ensures c.args.tree.now) c.in-Next.is in
     let d2 = then-eats d1.amid (omega arith) c.eat-word.ensures c.in-Next-word.is (sign-mark kind.Function class.Fn tt) in
     let fname = function-name-class c.function_name-name.ensures c.in-Next-name.is in
-    let cls = (tokAt x c.in-Next-word.b.at).class in
+    let cls = (tok_at x c.in-Next-word.b.at).class in
     let d3 = then-named d2 c.function_name-name.ensures c.in-Next-name.is (name-role kind.Function cls form.named-function (form.name-identifier cls fname)) in
     let d4 = then-eats d3 (omega arith) c.eat-left.ensures c.in-Next-left.is (sign-mark kind.Function class.LParen tt) in
     let d5 = form.then-parameters d4 c.parameters-inner.ensures c.in-Next-inner.is in
@@ -188,11 +188,11 @@ overflow_add-low c =
     let y = c.requires in
     let x = text c.args.draft.now c.args.tokens.now c.args.count in
     let o = opens y c.reserve.ensures in
-    let d0 = starts kind.Function AnyN form.functionRhs c.args.tree.now o.stands in
+    let d0 = starts kind.Function AnyN form.function_rhs c.args.tree.now o.stands in
     let d1 = form.then-optional d0 (c.public-first.ensures c.args.tree.now) c.in-Next.is in
     let d2 = then-eats d1.amid (omega arith) c.eat-word.ensures c.in-Next-word.is (sign-mark kind.Function class.Fn tt) in
     let fname = function-name-class c.function_name-name.ensures c.in-Next-name.is in
-    let cls = (tokAt x c.in-Next-word.b.at).class in
+    let cls = (tok_at x c.in-Next-word.b.at).class in
     let d3 = then-named d2 c.function_name-name.ensures c.in-Next-name.is (name-role kind.Function cls form.named-function (form.name-identifier cls fname)) in
     let d4 = then-eats d3 (omega arith) c.eat-left.ensures c.in-Next-left.is (sign-mark kind.Function class.LParen tt) in
     let d5 = form.then-parameters d4 c.parameters-inner.ensures c.in-Next-inner.is in
@@ -206,16 +206,16 @@ returns c =
     let y = c.requires in
     let x = text c.args.draft.now c.args.tokens.now c.args.count in
     let o = opens y c.reserve.ensures in
-    let d0 = starts kind.Function AnyN form.functionRhs c.args.tree.now o.stands in
+    let d0 = starts kind.Function AnyN form.function_rhs c.args.tree.now o.stands in
     let d1 = form.then-optional d0 (c.public-first.ensures c.args.tree.now) c.in-Next.is in
     let d2 = then-eats d1.amid (omega arith) c.eat-word.ensures c.in-Next-word.is (sign-mark kind.Function class.Fn tt) in
     let fname = function-name-class c.function_name-name.ensures c.in-Next-name.is in
-    let cls = (tokAt x c.in-Next-word.b.at).class in
+    let cls = (tok_at x c.in-Next-word.b.at).class in
     let d3 = then-named d2 c.function_name-name.ensures c.in-Next-name.is (name-role kind.Function cls form.named-function (form.name-identifier cls fname)) in
     let d4 = then-eats d3 (omega arith) c.eat-left.ensures c.in-Next-left.is (sign-mark kind.Function class.LParen tt) in
     let d5 = form.then-parameters d4 c.parameters-inner.ensures c.in-Next-inner.is in
     let d6 = then-eats d5.amid (omega arith) c.eat-paren.ensures c.in-Next-paren.is (sign-mark kind.Function class.RParen tt) in
     let d7 = form.then-optional d6 c.result-arrow.ensures c.in-Next-arrow.is in
     let d8 = then-node d7.amid c.block-body.ensures c.in-Next-body.is in
-    let z = form.function-head d1.W d5.W d7.W cls d8.kind d8.low d8.high d8.first fname d1.there d1.others d1.no-parameters d5.commas d5.count-is d7.there d7.others d7.no-parameters d8.its-kind x in
+    let z = form.function-head d1.W d5.W d7.W cls d8.kind d8.low d8.high d8.first fname d1.there d1.others d1.no_parameters d5.commas d5.count_is d7.there d7.others d7.no_parameters d8.its_kind x in
     as-nonterminal form.function-rule y (form.function-begins y o (done d8.amid)) (read (shut FunctionShape tt y o d8.amid (form.owns ((((0 + d1.k) + 1) + 1) + d5.k) d7.k) (z _) tt FunctionKind refl c.close.ensures))

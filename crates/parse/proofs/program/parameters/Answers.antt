@@ -3,10 +3,10 @@ use Rattle.std.proofs.Common.{◌+◌, ◌∷◌, [], ap, arith, ◌∙◌}
 use Rattle.kinds.specs.Fields.{counted}
 use Rattle.own.specs.Kinds as kind
 use Rattle.parse.specs.Contract.{read}
-use Rattle.parse.proofs.rule.Commas as lined
+use Rattle.parse.proofs.Rule.Commas as lined
 use Rattle.parse.proofs.token.Tokens.{length-text}
 use Rattle.parse.proofs.program.Forms as form
-use Rattle.parse.proofs.rule.Refused.{refusal}
+use Rattle.parse.proofs.Rule.Refused.{refusal}
 use Rattle.parse.proofs.program.parameters.Goals as goal
 
 pub loop-here-init : goal.loop-here-init
@@ -21,7 +21,7 @@ returns-then-a-ne-COMMA c =
     let v = c.loop-here.invariant in
     let it = lined.item form.parameter-rows y v c.loop-here-test.true c.parameter-inner.ensures c.in-Next.is in
     read (lined.lined-last form.parameter-rows y v c.loop-here-test.true c.parameter-inner.ensures c.in-Next.is c.if-a-ne-COMMA.true
-    (λ J K m a b e. record { same = a; commas = b; count-is = ap (counted (kind.Parameter ∷ [])) e ∙ form.many_more v.w it.kind it.low it.high it.first v.so.0 it.its-kind }))
+    (λ J K m a b e. record { same = a; commas = b; count_is = ap (counted (kind.Parameter ∷ [])) e ∙ form.many_more v.w it.kind it.low it.high it.first v.so.0 it.its_kind }))
 
 pub loop-here-smaller : goal.loop-here-smaller
 loop-here-smaller c =
@@ -31,7 +31,7 @@ loop-here-smaller c =
     let it = lined.item form.parameter-rows y v c.loop-here-test.true c.parameter-inner.ensures c.in-Next.is in
     let less = lined.again-less form.parameter-rows y v c.loop-here-test.true c.parameter-inner.ensures c.in-Next.is c.if-a-ne-COMMA.false c.advance-here.ensures in
     let next = lined.lined-again form.parameter-rows y v c.loop-here-test.true c.parameter-inner.ensures c.in-Next.is {Q' = form.Many (c.loop-here.number + 1) c.args.st c.advance-here.result} c.if-a-ne-COMMA.false c.advance-here.ensures
-    (form.many-again v.w c.loop-here.number it.kind it.low it.high it.first c.args.st c.loop-here.here c.advance-here.result v.so it.its-kind less) in
+    (form.many-again v.w c.loop-here.number it.kind it.low it.high it.first c.args.st c.loop-here.here c.advance-here.result v.so it.its_kind less) in
     omega (arith, less, q, next.amid.lays.stands.within)
 
 pub loop-here-preserved : goal.loop-here-preserved
@@ -41,8 +41,8 @@ loop-here-preserved c =
     let it = lined.item form.parameter-rows y v c.loop-here-test.true c.parameter-inner.ensures c.in-Next.is in
     let less = lined.again-less form.parameter-rows y v c.loop-here-test.true c.parameter-inner.ensures c.in-Next.is c.if-a-ne-COMMA.false c.advance-here.ensures in
     lined.lined-again form.parameter-rows y v c.loop-here-test.true c.parameter-inner.ensures c.in-Next.is c.if-a-ne-COMMA.false c.advance-here.ensures
-    (form.many-again v.w c.loop-here.number it.kind it.low it.high it.first c.args.st c.loop-here.here c.advance-here.result v.so it.its-kind less)
+    (form.many-again v.w c.loop-here.number it.kind it.low it.high it.first c.args.st c.loop-here.here c.advance-here.result v.so it.its_kind less)
 
 pub returns : goal.returns
 returns c =
-    read (lined.lined-ends form.parameter-rows c.requires c.loop-here.invariant c.loop-here-test.false (λ J K m a b e. record { same = a; commas = b; count-is = e.0 }))
+    read (lined.lined-ends form.parameter-rows c.requires c.loop-here.invariant c.loop-here-test.false (λ J K m a b e. record { same = a; commas = b; count_is = e.0 }))

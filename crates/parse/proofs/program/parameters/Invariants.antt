@@ -1,8 +1,8 @@
 -- Assumes nothing.
 use Rattle.std.proofs.Common.{◌-◌}
-use Rattle.grammar.specs.shapes.TablesIndex.{n-list-parameter}
+use Rattle.grammar.specs.Shapes.TablesIndex.{n-list-parameter}
 use Rattle.parse.specs.Contract.{text}
-use Rattle.parse.proofs.rule.Commas.{Lined}
+use Rattle.parse.proofs.Rule.Commas.{Lined}
 use Rattle.parse.proofs.program.Forms as form
 use Rattle.parse.proofs.program.parameters.Given as goal
 

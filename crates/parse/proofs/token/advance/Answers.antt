@@ -2,7 +2,7 @@
 -- Assumes nothing.
 use Rattle.std.proofs.Common.{sym, refl, ◌∙◌}
 use Rattle.parse.specs.Contract.{text}
-use Rattle.parse.proofs.rule.Amid.{class-at}
+use Rattle.parse.proofs.Rule.Amid.{class-at}
 use Rattle.parse.proofs.token.Tokens.{next-in}
 use Rattle.parse.proofs.token.advance.Goals as goal
 
@@ -14,10 +14,10 @@ returns c =
     let g = c.token-t.ensures in
     record {
       ahead = λ h. next-in a.draft.now a.tokens.now a.count a.st.at i c.after-at.ensures h;
-      class-is = g.class-is ∙ sym (class-at x.ts i);
+      class_is = g.class_is ∙ sym (class-at x.ts i);
       start_is = g.start_is;
       stop_is = g.stop_is;
       end_is = refl;
-      out-is = refl;
-      kept-is = refl;
+      out_is = refl;
+      kept_is = refl;
     }

@@ -1,7 +1,7 @@
 -- The half of the number, as it is defined.
 -- Assumes nothing.
 use Rattle.std.proofs.Common.{refl}
-use Rattle.grammar.specs.records.Records.{high_half}
+use Rattle.grammar.specs.Records.Records.{high_half}
 use Rattle.parse.proofs.tree.high.Goals as goal
 
 pub returns : goal.returns

@@ -1,25 +1,25 @@
 -- Assumes nothing.
 use Rattle.std.proofs.Common.{rules, [], ◌∷◌, sym, refl, ap, ◌∙◌, arith}
 use Rattle.theory.specs.Grammar.{tok, nt}
-use Rattle.theory.specs.Walk.{k-nt}
+use Rattle.theory.specs.Walk.{k_nt}
 use Rattle.theory.specs.Machine.{expand}
-use Rattle.grammar.specs.shapes.Tables.{table}
-use Rattle.parse.specs.Contract.{text, tokAt, read, stuck, TypeKind, value_at}
-use Rattle.parse.proofs.rule.Amid.{starts, then_turns, then-passed}
-use Rattle.parse.proofs.rule.Closing.{opens, opens-clean, as-nonterminal, enters}
-use Rattle.parse.proofs.rule.Chain.{further, advances, then-eats, then-lacks, then-node}
+use Rattle.grammar.specs.Shapes.Tables.{table}
+use Rattle.parse.specs.Contract.{text, tok_at, read, stuck, TypeKind, value_at}
+use Rattle.parse.proofs.Rule.Amid.{starts, then_turns, then-passed}
+use Rattle.parse.proofs.Rule.Closing.{opens, opens-clean, as-nonterminal, enters}
+use Rattle.parse.proofs.Rule.Chain.{further, advances, then-eats, then-lacks, then-node}
 use Rattle.parse.proofs.token.Tokens.{length-text}
-use Rattle.parse.proofs.rule.Marks.{sign-mark, keeping-mark}
-use Rattle.parse.proofs.rule.Commas.{AnyN, Lined}
-use Rattle.parse.proofs.rule.Commas as lined
-use Rattle.parse.proofs.rule.Heads.{shut, shut-judged, number_at, value-is, value-text, first-is}
+use Rattle.parse.proofs.Rule.Marks.{sign-mark, keeping-mark}
+use Rattle.parse.proofs.Rule.Commas.{AnyN, Lined}
+use Rattle.parse.proofs.Rule.Commas as lined
+use Rattle.parse.proofs.Rule.Heads.{shut, shut-judged, number_at, value-is, value-text, first-is}
 use Rattle.parse.proofs.tree.Numbers.{array-numbered, list-numbered, put-number}
 use Rattle.parse.proofs.types.Forms as form
 use Rattle.lexer.specs.Classes as class
 use Rattle.own.specs.Kinds as kind
-use Rattle.grammar.specs.shapes.TablesIndex.{n-type}
-use Rattle.grammar.specs.shapes.ShapeKind.{ArrayTypeShape, EitherTypeShape, ListTypeShape, OptionTypeShape, TupleTypeShape}
-use Rattle.parse.proofs.rule.Refused.{refusal}
+use Rattle.grammar.specs.Shapes.TablesIndex.{n-type}
+use Rattle.grammar.specs.Shapes.ShapeKind.{ArrayTypeShape, EitherTypeShape, ListTypeShape, OptionTypeShape, TupleTypeShape}
+use Rattle.parse.proofs.Rule.Refused.{refusal}
 use Rattle.parse.proofs.types.+types.Goals as goal
 
 pub array-ty-inner-requires : goal.array-ty-inner-requires
@@ -27,8 +27,8 @@ array-ty-inner-requires t c =
     let y = c.requires.ready in
     let e = c.requires.class_value in
     let o = opens-clean y c.clean.ensures c.reserve.ensures in
-    let d0 = starts kind.ArrayType AnyN form.arrayRhs c.args.tree.now o.stands in
-    let d1 = advances d0 (o.class-is ∙ form.at-array c.args.st.class e) (omega arith) c.advance-a.ensures (sign-mark kind.ArrayType class.LBracket tt) in
+    let d0 = starts kind.ArrayType AnyN form.array_rhs c.args.tree.now o.stands in
+    let d1 = advances d0 (o.class_is ∙ form.at-array c.args.st.class e) (omega arith) c.advance-a.ensures (sign-mark kind.ArrayType class.LBracket tt) in
     let f1 = further y o d1 (omega arith) in
     let q = length-text c.args.draft.now c.args.tokens.now c.args.count in
     (omega (arith, f1.ahead, f1.within, q, c.decreases), f1.ready)
@@ -38,8 +38,8 @@ array-returns-in_default t c =
     let y = c.requires.ready in
     let e = c.requires.class_value in
     let o = opens-clean y c.clean.ensures c.reserve.ensures in
-    let d0 = starts kind.ArrayType AnyN form.arrayRhs c.args.tree.now o.stands in
-    let d1 = advances d0 (o.class-is ∙ form.at-array c.args.st.class e) (omega arith) c.advance-a.ensures (sign-mark kind.ArrayType class.LBracket tt) in
+    let d0 = starts kind.ArrayType AnyN form.array_rhs c.args.tree.now o.stands in
+    let d1 = advances d0 (o.class_is ∙ form.at-array c.args.st.class e) (omega arith) c.advance-a.ensures (sign-mark kind.ArrayType class.LBracket tt) in
     then-passed d1 (refusal c.in_default.is) (enters form.array-rule y e o) c.ty-inner.ensures
 
 pub array-returns-in_default-semi : goal.array-returns-in_default-semi
@@ -47,8 +47,8 @@ array-returns-in_default-semi t c =
     let y = c.requires.ready in
     let e = c.requires.class_value in
     let o = opens-clean y c.clean.ensures c.reserve.ensures in
-    let d0 = starts kind.ArrayType AnyN form.arrayRhs c.args.tree.now o.stands in
-    let d1 = advances d0 (o.class-is ∙ form.at-array c.args.st.class e) (omega arith) c.advance-a.ensures (sign-mark kind.ArrayType class.LBracket tt) in
+    let d0 = starts kind.ArrayType AnyN form.array_rhs c.args.tree.now o.stands in
+    let d1 = advances d0 (o.class_is ∙ form.at-array c.args.st.class e) (omega arith) c.advance-a.ensures (sign-mark kind.ArrayType class.LBracket tt) in
     let d2 = then-node d1 c.ty-inner.ensures c.in-Next.is in
     then-lacks d2.amid (refusal c.in_default-semi.is) (enters form.array-rule y e o) c.eat-semi.ensures
 
@@ -57,8 +57,8 @@ array-returns-in_default-decimal t c =
     let y = c.requires.ready in
     let e = c.requires.class_value in
     let o = opens-clean y c.clean.ensures c.reserve.ensures in
-    let d0 = starts kind.ArrayType AnyN form.arrayRhs c.args.tree.now o.stands in
-    let d1 = advances d0 (o.class-is ∙ form.at-array c.args.st.class e) (omega arith) c.advance-a.ensures (sign-mark kind.ArrayType class.LBracket tt) in
+    let d0 = starts kind.ArrayType AnyN form.array_rhs c.args.tree.now o.stands in
+    let d1 = advances d0 (o.class_is ∙ form.at-array c.args.st.class e) (omega arith) c.advance-a.ensures (sign-mark kind.ArrayType class.LBracket tt) in
     let d2 = then-node d1 c.ty-inner.ensures c.in-Next.is in
     let d3 = then-eats d2.amid (omega arith) c.eat-semi.ensures c.in-Next-semi.is (sign-mark kind.ArrayType class.Semi tt) in
     then-lacks d3 (refusal c.in_default-decimal.is) (enters form.array-rule y e o) c.eat-decimal.ensures
@@ -68,8 +68,8 @@ array-returns-in_default-bracket t c =
     let y = c.requires.ready in
     let e = c.requires.class_value in
     let o = opens-clean y c.clean.ensures c.reserve.ensures in
-    let d0 = starts kind.ArrayType AnyN form.arrayRhs c.args.tree.now o.stands in
-    let d1 = advances d0 (o.class-is ∙ form.at-array c.args.st.class e) (omega arith) c.advance-a.ensures (sign-mark kind.ArrayType class.LBracket tt) in
+    let d0 = starts kind.ArrayType AnyN form.array_rhs c.args.tree.now o.stands in
+    let d1 = advances d0 (o.class_is ∙ form.at-array c.args.st.class e) (omega arith) c.advance-a.ensures (sign-mark kind.ArrayType class.LBracket tt) in
     let d2 = then-node d1 c.ty-inner.ensures c.in-Next.is in
     let d3 = then-eats d2.amid (omega arith) c.eat-semi.ensures c.in-Next-semi.is (sign-mark kind.ArrayType class.Semi tt) in
     let d4 = then-eats d3 (omega arith) c.eat-decimal.ensures c.in-Next-decimal.is (keeping-mark kind.ArrayType class.DecLiteral tt) in
@@ -81,8 +81,8 @@ array-returns t c =
     let y = c.requires.ready in
     let e = c.requires.class_value in
     let o = opens-clean y c.clean.ensures c.reserve.ensures in
-    let d0 = starts kind.ArrayType AnyN form.arrayRhs c.args.tree.now o.stands in
-    let d1 = advances d0 (o.class-is ∙ form.at-array c.args.st.class e) (omega arith) c.advance-a.ensures (sign-mark kind.ArrayType class.LBracket tt) in
+    let d0 = starts kind.ArrayType AnyN form.array_rhs c.args.tree.now o.stands in
+    let d1 = advances d0 (o.class_is ∙ form.at-array c.args.st.class e) (omega arith) c.advance-a.ensures (sign-mark kind.ArrayType class.LBracket tt) in
     let d2 = then-node d1 c.ty-inner.ensures c.in-Next.is in
     let d3 = then-eats d2.amid (omega arith) c.eat-semi.ensures c.in-Next-semi.is (sign-mark kind.ArrayType class.Semi tt) in
     let d4 = then-eats d3 (omega arith) c.eat-decimal.ensures c.in-Next-decimal.is (keeping-mark kind.ArrayType class.DecLiteral tt) in
@@ -90,17 +90,17 @@ array-returns t c =
     let n = value-is c.args.draft.now c.args.tokens.now c.args.count d3.lays.stands c.number-v.ensures in
     let z = form.wide_is (form.array_head d5) (number_at d5) refl refl in
     as-nonterminal form.array-rule y e (read (shut-judged ArrayTypeShape y o d5 (omega arith) z tt tt TypeKind (omega arith, omega arith) (put-number (value_at x c.in-Next-semi.c.at) n array-numbered c.close_number.ensures) (form.judged-at c.judged-f.ensures c.array_length.ensures d3.lays.stands.start_is)
-    (λ is u v. form.array-fault x.draft is c.number-v.result (tokAt x c.in-Next-semi.c.at) (first-is is u v) (value-text c.args.draft.now c.args.tokens.now c.args.count d3.lays.stands c.number-v.ensures))))
+    (λ is u v. form.array-fault x.draft is c.number-v.result (tok_at x c.in-Next-semi.c.at) (first-is is u v) (value-text c.args.draft.now c.args.tokens.now c.args.count d3.lays.stands c.number-v.ensures))))
 
 pub either-returns-then-a-ne-LANGLE : goal.either-returns-then-a-ne-LANGLE
 either-returns-then-a-ne-LANGLE t c =
     let y = c.requires.ready in
     let e = c.requires.class_value in
     let o = opens y c.reserve.ensures in
-    let k = o.class-is ∙ form.at-either c.args.st.class e in
-    let a0 = starts kind.Alias AnyN form.eitherRhs c.args.tree.now o.stands in
+    let k = o.class_is ∙ form.at-either c.args.st.class e in
+    let a0 = starts kind.Alias AnyN form.either_rhs c.args.tree.now o.stands in
     let a1 = advances a0 k (omega arith) c.advance-a.ensures (keeping-mark kind.Alias class.Either tt) in
-    let a2 = then_turns [] a1 form.flat-either (form.either-alone (λ h. c.if-a-ne-LANGLE.true (a1.lays.stands.class-is ∙ h))) in
+    let a2 = then_turns [] a1 form.flat-either (form.either-alone (λ h. c.if-a-ne-LANGLE.true (a1.lays.stands.class_is ∙ h))) in
     as-nonterminal form.either-rule y e (read (shut EitherTypeShape tt y o a2 (omega arith) (form.either-alone-head a2) tt TypeKind (omega arith, omega arith) c.close.ensures))
 
 pub either-ty-left-requires : goal.either-ty-left-requires
@@ -108,10 +108,10 @@ either-ty-left-requires t c =
     let y = c.requires.ready in
     let e = c.requires.class_value in
     let o = opens y c.reserve.ensures in
-    let d0 = starts kind.EitherType AnyN form.eitherRhs c.args.tree.now o.stands in
-    let k = o.class-is ∙ form.at-either c.args.st.class e in
+    let d0 = starts kind.EitherType AnyN form.either_rhs c.args.tree.now o.stands in
+    let k = o.class_is ∙ form.at-either c.args.st.class e in
     let d1 = advances d0 k (omega arith) c.advance-a.ensures (keeping-mark kind.EitherType class.Either tt) in
-    let d2 = then_turns (tok class.LAngle ∷ nt n-type ∷ tok class.Comma ∷ nt n-type ∷ tok class.RAngle ∷ []) d1 form.flat-either (form.either-angle (sym d1.lays.stands.class-is ∙ c.if-a-ne-LANGLE.false)) in
+    let d2 = then_turns (tok class.LAngle ∷ nt n-type ∷ tok class.Comma ∷ nt n-type ∷ tok class.RAngle ∷ []) d1 form.flat-either (form.either-angle (sym d1.lays.stands.class_is ∙ c.if-a-ne-LANGLE.false)) in
     let d3 = advances d2 c.if-a-ne-LANGLE.false (omega arith) c.advance-b.ensures (sign-mark kind.EitherType class.LAngle tt) in
     let f3 = further y o d3 (omega arith) in
     let q = length-text c.args.draft.now c.args.tokens.now c.args.count in
@@ -122,10 +122,10 @@ either-returns-in_default t c =
     let y = c.requires.ready in
     let e = c.requires.class_value in
     let o = opens y c.reserve.ensures in
-    let d0 = starts kind.EitherType AnyN form.eitherRhs c.args.tree.now o.stands in
-    let k = o.class-is ∙ form.at-either c.args.st.class e in
+    let d0 = starts kind.EitherType AnyN form.either_rhs c.args.tree.now o.stands in
+    let k = o.class_is ∙ form.at-either c.args.st.class e in
     let d1 = advances d0 k (omega arith) c.advance-a.ensures (keeping-mark kind.EitherType class.Either tt) in
-    let d2 = then_turns (tok class.LAngle ∷ nt n-type ∷ tok class.Comma ∷ nt n-type ∷ tok class.RAngle ∷ []) d1 form.flat-either (form.either-angle (sym d1.lays.stands.class-is ∙ c.if-a-ne-LANGLE.false)) in
+    let d2 = then_turns (tok class.LAngle ∷ nt n-type ∷ tok class.Comma ∷ nt n-type ∷ tok class.RAngle ∷ []) d1 form.flat-either (form.either-angle (sym d1.lays.stands.class_is ∙ c.if-a-ne-LANGLE.false)) in
     let d3 = advances d2 c.if-a-ne-LANGLE.false (omega arith) c.advance-b.ensures (sign-mark kind.EitherType class.LAngle tt) in
     then-passed d3 (refusal c.in_default.is) (enters form.either-rule y e o) c.ty-left.ensures
 
@@ -134,10 +134,10 @@ either-returns-in_default-comma t c =
     let y = c.requires.ready in
     let e = c.requires.class_value in
     let o = opens y c.reserve.ensures in
-    let d0 = starts kind.EitherType AnyN form.eitherRhs c.args.tree.now o.stands in
-    let k = o.class-is ∙ form.at-either c.args.st.class e in
+    let d0 = starts kind.EitherType AnyN form.either_rhs c.args.tree.now o.stands in
+    let k = o.class_is ∙ form.at-either c.args.st.class e in
     let d1 = advances d0 k (omega arith) c.advance-a.ensures (keeping-mark kind.EitherType class.Either tt) in
-    let d2 = then_turns (tok class.LAngle ∷ nt n-type ∷ tok class.Comma ∷ nt n-type ∷ tok class.RAngle ∷ []) d1 form.flat-either (form.either-angle (sym d1.lays.stands.class-is ∙ c.if-a-ne-LANGLE.false)) in
+    let d2 = then_turns (tok class.LAngle ∷ nt n-type ∷ tok class.Comma ∷ nt n-type ∷ tok class.RAngle ∷ []) d1 form.flat-either (form.either-angle (sym d1.lays.stands.class_is ∙ c.if-a-ne-LANGLE.false)) in
     let d3 = advances d2 c.if-a-ne-LANGLE.false (omega arith) c.advance-b.ensures (sign-mark kind.EitherType class.LAngle tt) in
     let d4 = then-node d3 c.ty-left.ensures c.in-Next.is in
     then-lacks d4.amid (refusal c.in_default-comma.is) (enters form.either-rule y e o) c.eat-comma.ensures
@@ -147,10 +147,10 @@ either-ty-right-requires t c =
     let y = c.requires.ready in
     let e = c.requires.class_value in
     let o = opens y c.reserve.ensures in
-    let d0 = starts kind.EitherType AnyN form.eitherRhs c.args.tree.now o.stands in
-    let k = o.class-is ∙ form.at-either c.args.st.class e in
+    let d0 = starts kind.EitherType AnyN form.either_rhs c.args.tree.now o.stands in
+    let k = o.class_is ∙ form.at-either c.args.st.class e in
     let d1 = advances d0 k (omega arith) c.advance-a.ensures (keeping-mark kind.EitherType class.Either tt) in
-    let d2 = then_turns (tok class.LAngle ∷ nt n-type ∷ tok class.Comma ∷ nt n-type ∷ tok class.RAngle ∷ []) d1 form.flat-either (form.either-angle (sym d1.lays.stands.class-is ∙ c.if-a-ne-LANGLE.false)) in
+    let d2 = then_turns (tok class.LAngle ∷ nt n-type ∷ tok class.Comma ∷ nt n-type ∷ tok class.RAngle ∷ []) d1 form.flat-either (form.either-angle (sym d1.lays.stands.class_is ∙ c.if-a-ne-LANGLE.false)) in
     let d3 = advances d2 c.if-a-ne-LANGLE.false (omega arith) c.advance-b.ensures (sign-mark kind.EitherType class.LAngle tt) in
     let d4 = then-node d3 c.ty-left.ensures c.in-Next.is in
     let d5 = then-eats d4.amid (omega arith) c.eat-comma.ensures c.in-Next-comma.is (sign-mark kind.EitherType class.Comma tt) in
@@ -163,10 +163,10 @@ either-returns-in_default-right t c =
     let y = c.requires.ready in
     let e = c.requires.class_value in
     let o = opens y c.reserve.ensures in
-    let d0 = starts kind.EitherType AnyN form.eitherRhs c.args.tree.now o.stands in
-    let k = o.class-is ∙ form.at-either c.args.st.class e in
+    let d0 = starts kind.EitherType AnyN form.either_rhs c.args.tree.now o.stands in
+    let k = o.class_is ∙ form.at-either c.args.st.class e in
     let d1 = advances d0 k (omega arith) c.advance-a.ensures (keeping-mark kind.EitherType class.Either tt) in
-    let d2 = then_turns (tok class.LAngle ∷ nt n-type ∷ tok class.Comma ∷ nt n-type ∷ tok class.RAngle ∷ []) d1 form.flat-either (form.either-angle (sym d1.lays.stands.class-is ∙ c.if-a-ne-LANGLE.false)) in
+    let d2 = then_turns (tok class.LAngle ∷ nt n-type ∷ tok class.Comma ∷ nt n-type ∷ tok class.RAngle ∷ []) d1 form.flat-either (form.either-angle (sym d1.lays.stands.class_is ∙ c.if-a-ne-LANGLE.false)) in
     let d3 = advances d2 c.if-a-ne-LANGLE.false (omega arith) c.advance-b.ensures (sign-mark kind.EitherType class.LAngle tt) in
     let d4 = then-node d3 c.ty-left.ensures c.in-Next.is in
     let d5 = then-eats d4.amid (omega arith) c.eat-comma.ensures c.in-Next-comma.is (sign-mark kind.EitherType class.Comma tt) in
@@ -177,10 +177,10 @@ either-returns-in_default-angle t c =
     let y = c.requires.ready in
     let e = c.requires.class_value in
     let o = opens y c.reserve.ensures in
-    let d0 = starts kind.EitherType AnyN form.eitherRhs c.args.tree.now o.stands in
-    let k = o.class-is ∙ form.at-either c.args.st.class e in
+    let d0 = starts kind.EitherType AnyN form.either_rhs c.args.tree.now o.stands in
+    let k = o.class_is ∙ form.at-either c.args.st.class e in
     let d1 = advances d0 k (omega arith) c.advance-a.ensures (keeping-mark kind.EitherType class.Either tt) in
-    let d2 = then_turns (tok class.LAngle ∷ nt n-type ∷ tok class.Comma ∷ nt n-type ∷ tok class.RAngle ∷ []) d1 form.flat-either (form.either-angle (sym d1.lays.stands.class-is ∙ c.if-a-ne-LANGLE.false)) in
+    let d2 = then_turns (tok class.LAngle ∷ nt n-type ∷ tok class.Comma ∷ nt n-type ∷ tok class.RAngle ∷ []) d1 form.flat-either (form.either-angle (sym d1.lays.stands.class_is ∙ c.if-a-ne-LANGLE.false)) in
     let d3 = advances d2 c.if-a-ne-LANGLE.false (omega arith) c.advance-b.ensures (sign-mark kind.EitherType class.LAngle tt) in
     let d4 = then-node d3 c.ty-left.ensures c.in-Next.is in
     let d5 = then-eats d4.amid (omega arith) c.eat-comma.ensures c.in-Next-comma.is (sign-mark kind.EitherType class.Comma tt) in
@@ -192,10 +192,10 @@ either-returns t c =
     let y = c.requires.ready in
     let e = c.requires.class_value in
     let o = opens y c.reserve.ensures in
-    let d0 = starts kind.EitherType AnyN form.eitherRhs c.args.tree.now o.stands in
-    let k = o.class-is ∙ form.at-either c.args.st.class e in
+    let d0 = starts kind.EitherType AnyN form.either_rhs c.args.tree.now o.stands in
+    let k = o.class_is ∙ form.at-either c.args.st.class e in
     let d1 = advances d0 k (omega arith) c.advance-a.ensures (keeping-mark kind.EitherType class.Either tt) in
-    let d2 = then_turns (tok class.LAngle ∷ nt n-type ∷ tok class.Comma ∷ nt n-type ∷ tok class.RAngle ∷ []) d1 form.flat-either (form.either-angle (sym d1.lays.stands.class-is ∙ c.if-a-ne-LANGLE.false)) in
+    let d2 = then_turns (tok class.LAngle ∷ nt n-type ∷ tok class.Comma ∷ nt n-type ∷ tok class.RAngle ∷ []) d1 form.flat-either (form.either-angle (sym d1.lays.stands.class_is ∙ c.if-a-ne-LANGLE.false)) in
     let d3 = advances d2 c.if-a-ne-LANGLE.false (omega arith) c.advance-b.ensures (sign-mark kind.EitherType class.LAngle tt) in
     let d4 = then-node d3 c.ty-left.ensures c.in-Next.is in
     let d5 = then-eats d4.amid (omega arith) c.eat-comma.ensures c.in-Next-comma.is (sign-mark kind.EitherType class.Comma tt) in
@@ -210,10 +210,10 @@ list-returns-then-a-ne-LANGLE t c =
     let y = c.requires.ready in
     let e = c.requires.class_value in
     let o = opens-clean y c.clean.ensures c.reserve.ensures in
-    let k = o.class-is ∙ form.at-list c.args.st.class e in
-    let a0 = starts kind.Alias AnyN form.listRhs c.args.tree.now o.stands in
+    let k = o.class_is ∙ form.at-list c.args.st.class e in
+    let a0 = starts kind.Alias AnyN form.list_rhs c.args.tree.now o.stands in
     let a1 = advances a0 k (omega arith) c.advance-a.ensures (keeping-mark kind.Alias class.List tt) in
-    let a2 = then_turns [] a1 form.flat-list (form.list-alone (λ h. c.if-a-ne-LANGLE.true (a1.lays.stands.class-is ∙ h))) in
+    let a2 = then_turns [] a1 form.flat_list (form.list-alone (λ h. c.if-a-ne-LANGLE.true (a1.lays.stands.class_is ∙ h))) in
     as-nonterminal form.list-rule y e (read (shut-judged ListTypeShape y o a2 (omega arith) (form.list-alone-head a2) tt tt TypeKind (omega arith, omega arith) c.close.ensures c.judged-z.ensures (λ is u v. form.list-alone-fault x.draft is u)))
 
 pub list-ty-inner-requires : goal.list-ty-inner-requires
@@ -221,10 +221,10 @@ list-ty-inner-requires t c =
     let y = c.requires.ready in
     let e = c.requires.class_value in
     let o = opens-clean y c.clean.ensures c.reserve.ensures in
-    let d0 = starts kind.ListType AnyN form.listRhs c.args.tree.now o.stands in
-    let k = o.class-is ∙ form.at-list c.args.st.class e in
+    let d0 = starts kind.ListType AnyN form.list_rhs c.args.tree.now o.stands in
+    let k = o.class_is ∙ form.at-list c.args.st.class e in
     let d1 = advances d0 k (omega arith) c.advance-a.ensures (keeping-mark kind.ListType class.List tt) in
-    let d2 = then_turns (tok class.LAngle ∷ nt n-type ∷ tok class.Comma ∷ tok class.DecLiteral ∷ tok class.RAngle ∷ []) d1 form.flat-list (form.list-angle (sym d1.lays.stands.class-is ∙ c.if-a-ne-LANGLE.false)) in
+    let d2 = then_turns (tok class.LAngle ∷ nt n-type ∷ tok class.Comma ∷ tok class.DecLiteral ∷ tok class.RAngle ∷ []) d1 form.flat_list (form.list-angle (sym d1.lays.stands.class_is ∙ c.if-a-ne-LANGLE.false)) in
     let d3 = advances d2 c.if-a-ne-LANGLE.false (omega arith) c.advance-b.ensures (sign-mark kind.ListType class.LAngle tt) in
     let f3 = further y o d3 (omega arith) in
     let q = length-text c.args.draft.now c.args.tokens.now c.args.count in
@@ -235,10 +235,10 @@ list-returns-in_default t c =
     let y = c.requires.ready in
     let e = c.requires.class_value in
     let o = opens-clean y c.clean.ensures c.reserve.ensures in
-    let d0 = starts kind.ListType AnyN form.listRhs c.args.tree.now o.stands in
-    let k = o.class-is ∙ form.at-list c.args.st.class e in
+    let d0 = starts kind.ListType AnyN form.list_rhs c.args.tree.now o.stands in
+    let k = o.class_is ∙ form.at-list c.args.st.class e in
     let d1 = advances d0 k (omega arith) c.advance-a.ensures (keeping-mark kind.ListType class.List tt) in
-    let d2 = then_turns (tok class.LAngle ∷ nt n-type ∷ tok class.Comma ∷ tok class.DecLiteral ∷ tok class.RAngle ∷ []) d1 form.flat-list (form.list-angle (sym d1.lays.stands.class-is ∙ c.if-a-ne-LANGLE.false)) in
+    let d2 = then_turns (tok class.LAngle ∷ nt n-type ∷ tok class.Comma ∷ tok class.DecLiteral ∷ tok class.RAngle ∷ []) d1 form.flat_list (form.list-angle (sym d1.lays.stands.class_is ∙ c.if-a-ne-LANGLE.false)) in
     let d3 = advances d2 c.if-a-ne-LANGLE.false (omega arith) c.advance-b.ensures (sign-mark kind.ListType class.LAngle tt) in
     then-passed d3 (refusal c.in_default.is) (enters form.list-rule y e o) c.ty-inner.ensures
 
@@ -247,10 +247,10 @@ list-returns-in_default-comma t c =
     let y = c.requires.ready in
     let e = c.requires.class_value in
     let o = opens-clean y c.clean.ensures c.reserve.ensures in
-    let d0 = starts kind.ListType AnyN form.listRhs c.args.tree.now o.stands in
-    let k = o.class-is ∙ form.at-list c.args.st.class e in
+    let d0 = starts kind.ListType AnyN form.list_rhs c.args.tree.now o.stands in
+    let k = o.class_is ∙ form.at-list c.args.st.class e in
     let d1 = advances d0 k (omega arith) c.advance-a.ensures (keeping-mark kind.ListType class.List tt) in
-    let d2 = then_turns (tok class.LAngle ∷ nt n-type ∷ tok class.Comma ∷ tok class.DecLiteral ∷ tok class.RAngle ∷ []) d1 form.flat-list (form.list-angle (sym d1.lays.stands.class-is ∙ c.if-a-ne-LANGLE.false)) in
+    let d2 = then_turns (tok class.LAngle ∷ nt n-type ∷ tok class.Comma ∷ tok class.DecLiteral ∷ tok class.RAngle ∷ []) d1 form.flat_list (form.list-angle (sym d1.lays.stands.class_is ∙ c.if-a-ne-LANGLE.false)) in
     let d3 = advances d2 c.if-a-ne-LANGLE.false (omega arith) c.advance-b.ensures (sign-mark kind.ListType class.LAngle tt) in
     let d4 = then-node d3 c.ty-inner.ensures c.in-Next.is in
     then-lacks d4.amid (refusal c.in_default-comma.is) (enters form.list-rule y e o) c.eat-comma.ensures
@@ -260,10 +260,10 @@ list-returns-in_default-decimal t c =
     let y = c.requires.ready in
     let e = c.requires.class_value in
     let o = opens-clean y c.clean.ensures c.reserve.ensures in
-    let d0 = starts kind.ListType AnyN form.listRhs c.args.tree.now o.stands in
-    let k = o.class-is ∙ form.at-list c.args.st.class e in
+    let d0 = starts kind.ListType AnyN form.list_rhs c.args.tree.now o.stands in
+    let k = o.class_is ∙ form.at-list c.args.st.class e in
     let d1 = advances d0 k (omega arith) c.advance-a.ensures (keeping-mark kind.ListType class.List tt) in
-    let d2 = then_turns (tok class.LAngle ∷ nt n-type ∷ tok class.Comma ∷ tok class.DecLiteral ∷ tok class.RAngle ∷ []) d1 form.flat-list (form.list-angle (sym d1.lays.stands.class-is ∙ c.if-a-ne-LANGLE.false)) in
+    let d2 = then_turns (tok class.LAngle ∷ nt n-type ∷ tok class.Comma ∷ tok class.DecLiteral ∷ tok class.RAngle ∷ []) d1 form.flat_list (form.list-angle (sym d1.lays.stands.class_is ∙ c.if-a-ne-LANGLE.false)) in
     let d3 = advances d2 c.if-a-ne-LANGLE.false (omega arith) c.advance-b.ensures (sign-mark kind.ListType class.LAngle tt) in
     let d4 = then-node d3 c.ty-inner.ensures c.in-Next.is in
     let d5 = then-eats d4.amid (omega arith) c.eat-comma.ensures c.in-Next-comma.is (sign-mark kind.ListType class.Comma tt) in
@@ -274,10 +274,10 @@ list-returns-in_default-angle t c =
     let y = c.requires.ready in
     let e = c.requires.class_value in
     let o = opens-clean y c.clean.ensures c.reserve.ensures in
-    let d0 = starts kind.ListType AnyN form.listRhs c.args.tree.now o.stands in
-    let k = o.class-is ∙ form.at-list c.args.st.class e in
+    let d0 = starts kind.ListType AnyN form.list_rhs c.args.tree.now o.stands in
+    let k = o.class_is ∙ form.at-list c.args.st.class e in
     let d1 = advances d0 k (omega arith) c.advance-a.ensures (keeping-mark kind.ListType class.List tt) in
-    let d2 = then_turns (tok class.LAngle ∷ nt n-type ∷ tok class.Comma ∷ tok class.DecLiteral ∷ tok class.RAngle ∷ []) d1 form.flat-list (form.list-angle (sym d1.lays.stands.class-is ∙ c.if-a-ne-LANGLE.false)) in
+    let d2 = then_turns (tok class.LAngle ∷ nt n-type ∷ tok class.Comma ∷ tok class.DecLiteral ∷ tok class.RAngle ∷ []) d1 form.flat_list (form.list-angle (sym d1.lays.stands.class_is ∙ c.if-a-ne-LANGLE.false)) in
     let d3 = advances d2 c.if-a-ne-LANGLE.false (omega arith) c.advance-b.ensures (sign-mark kind.ListType class.LAngle tt) in
     let d4 = then-node d3 c.ty-inner.ensures c.in-Next.is in
     let d5 = then-eats d4.amid (omega arith) c.eat-comma.ensures c.in-Next-comma.is (sign-mark kind.ListType class.Comma tt) in
@@ -290,10 +290,10 @@ list-returns t c =
     let y = c.requires.ready in
     let e = c.requires.class_value in
     let o = opens-clean y c.clean.ensures c.reserve.ensures in
-    let d0 = starts kind.ListType AnyN form.listRhs c.args.tree.now o.stands in
-    let k = o.class-is ∙ form.at-list c.args.st.class e in
+    let d0 = starts kind.ListType AnyN form.list_rhs c.args.tree.now o.stands in
+    let k = o.class_is ∙ form.at-list c.args.st.class e in
     let d1 = advances d0 k (omega arith) c.advance-a.ensures (keeping-mark kind.ListType class.List tt) in
-    let d2 = then_turns (tok class.LAngle ∷ nt n-type ∷ tok class.Comma ∷ tok class.DecLiteral ∷ tok class.RAngle ∷ []) d1 form.flat-list (form.list-angle (sym d1.lays.stands.class-is ∙ c.if-a-ne-LANGLE.false)) in
+    let d2 = then_turns (tok class.LAngle ∷ nt n-type ∷ tok class.Comma ∷ tok class.DecLiteral ∷ tok class.RAngle ∷ []) d1 form.flat_list (form.list-angle (sym d1.lays.stands.class_is ∙ c.if-a-ne-LANGLE.false)) in
     let d3 = advances d2 c.if-a-ne-LANGLE.false (omega arith) c.advance-b.ensures (sign-mark kind.ListType class.LAngle tt) in
     let d4 = then-node d3 c.ty-inner.ensures c.in-Next.is in
     let d5 = then-eats d4.amid (omega arith) c.eat-comma.ensures c.in-Next-comma.is (sign-mark kind.ListType class.Comma tt) in
@@ -302,17 +302,17 @@ list-returns t c =
     let n = value-is c.args.draft.now c.args.tokens.now c.args.count d5.lays.stands c.number-v.ensures in
     let z = form.wide_is (form.list-head d7) (number_at d7) refl refl in
     as-nonterminal form.list-rule y e (read (shut-judged ListTypeShape y o d7 (omega arith) z tt tt TypeKind (omega arith, omega arith) (put-number (value_at x c.in-Next-comma.d.at) n list-numbered c.close_number.ensures) (form.judged-at c.judged-g.ensures c.bound.ensures d5.lays.stands.start_is)
-    (λ is u v. form.list-fault x.draft is c.number-v.result (tokAt x c.in-Next-comma.d.at) u (first-is is u v) (value-text c.args.draft.now c.args.tokens.now c.args.count d5.lays.stands c.number-v.ensures))))
+    (λ is u v. form.list-fault x.draft is c.number-v.result (tok_at x c.in-Next-comma.d.at) u (first-is is u v) (value-text c.args.draft.now c.args.tokens.now c.args.count d5.lays.stands c.number-v.ensures))))
 
 pub option-returns-then-a-ne-LANGLE : goal.option-returns-then-a-ne-LANGLE
 option-returns-then-a-ne-LANGLE t c =
     let y = c.requires.ready in
     let e = c.requires.class_value in
     let o = opens y c.reserve.ensures in
-    let k = o.class-is ∙ form.at_option c.args.st.class e in
-    let a0 = starts kind.Alias AnyN form.optionRhs c.args.tree.now o.stands in
+    let k = o.class_is ∙ form.at_option c.args.st.class e in
+    let a0 = starts kind.Alias AnyN form.option_rhs c.args.tree.now o.stands in
     let a1 = advances a0 k (omega arith) c.advance-a.ensures (keeping-mark kind.Alias class.Option tt) in
-    let a2 = then_turns [] a1 form.flat-option (form.option-alone (λ h. c.if-a-ne-LANGLE.true (a1.lays.stands.class-is ∙ h))) in
+    let a2 = then_turns [] a1 form.flat-option (form.option-alone (λ h. c.if-a-ne-LANGLE.true (a1.lays.stands.class_is ∙ h))) in
     as-nonterminal form.option-rule y e (read (shut OptionTypeShape tt y o a2 (omega arith) (form.option-alone-head a2) tt TypeKind (omega arith, omega arith) c.close.ensures))
 
 pub option-ty-inner-requires : goal.option-ty-inner-requires
@@ -320,10 +320,10 @@ option-ty-inner-requires t c =
     let y = c.requires.ready in
     let e = c.requires.class_value in
     let o = opens y c.reserve.ensures in
-    let d0 = starts kind.OptionType AnyN form.optionRhs c.args.tree.now o.stands in
-    let k = o.class-is ∙ form.at_option c.args.st.class e in
+    let d0 = starts kind.OptionType AnyN form.option_rhs c.args.tree.now o.stands in
+    let k = o.class_is ∙ form.at_option c.args.st.class e in
     let d1 = advances d0 k (omega arith) c.advance-a.ensures (keeping-mark kind.OptionType class.Option tt) in
-    let d2 = then_turns (tok class.LAngle ∷ nt n-type ∷ tok class.RAngle ∷ []) d1 form.flat-option (form.option-angle (sym d1.lays.stands.class-is ∙ c.if-a-ne-LANGLE.false)) in
+    let d2 = then_turns (tok class.LAngle ∷ nt n-type ∷ tok class.RAngle ∷ []) d1 form.flat-option (form.option-angle (sym d1.lays.stands.class_is ∙ c.if-a-ne-LANGLE.false)) in
     let d3 = advances d2 c.if-a-ne-LANGLE.false (omega arith) c.advance-b.ensures (sign-mark kind.OptionType class.LAngle tt) in
     let f3 = further y o d3 (omega arith) in
     let q = length-text c.args.draft.now c.args.tokens.now c.args.count in
@@ -334,10 +334,10 @@ option-returns-in_default t c =
     let y = c.requires.ready in
     let e = c.requires.class_value in
     let o = opens y c.reserve.ensures in
-    let d0 = starts kind.OptionType AnyN form.optionRhs c.args.tree.now o.stands in
-    let k = o.class-is ∙ form.at_option c.args.st.class e in
+    let d0 = starts kind.OptionType AnyN form.option_rhs c.args.tree.now o.stands in
+    let k = o.class_is ∙ form.at_option c.args.st.class e in
     let d1 = advances d0 k (omega arith) c.advance-a.ensures (keeping-mark kind.OptionType class.Option tt) in
-    let d2 = then_turns (tok class.LAngle ∷ nt n-type ∷ tok class.RAngle ∷ []) d1 form.flat-option (form.option-angle (sym d1.lays.stands.class-is ∙ c.if-a-ne-LANGLE.false)) in
+    let d2 = then_turns (tok class.LAngle ∷ nt n-type ∷ tok class.RAngle ∷ []) d1 form.flat-option (form.option-angle (sym d1.lays.stands.class_is ∙ c.if-a-ne-LANGLE.false)) in
     let d3 = advances d2 c.if-a-ne-LANGLE.false (omega arith) c.advance-b.ensures (sign-mark kind.OptionType class.LAngle tt) in
     then-passed d3 (refusal c.in_default.is) (enters form.option-rule y e o) c.ty-inner.ensures
 
@@ -346,10 +346,10 @@ option-returns-in_default-angle t c =
     let y = c.requires.ready in
     let e = c.requires.class_value in
     let o = opens y c.reserve.ensures in
-    let d0 = starts kind.OptionType AnyN form.optionRhs c.args.tree.now o.stands in
-    let k = o.class-is ∙ form.at_option c.args.st.class e in
+    let d0 = starts kind.OptionType AnyN form.option_rhs c.args.tree.now o.stands in
+    let k = o.class_is ∙ form.at_option c.args.st.class e in
     let d1 = advances d0 k (omega arith) c.advance-a.ensures (keeping-mark kind.OptionType class.Option tt) in
-    let d2 = then_turns (tok class.LAngle ∷ nt n-type ∷ tok class.RAngle ∷ []) d1 form.flat-option (form.option-angle (sym d1.lays.stands.class-is ∙ c.if-a-ne-LANGLE.false)) in
+    let d2 = then_turns (tok class.LAngle ∷ nt n-type ∷ tok class.RAngle ∷ []) d1 form.flat-option (form.option-angle (sym d1.lays.stands.class_is ∙ c.if-a-ne-LANGLE.false)) in
     let d3 = advances d2 c.if-a-ne-LANGLE.false (omega arith) c.advance-b.ensures (sign-mark kind.OptionType class.LAngle tt) in
     let d4 = then-node d3 c.ty-inner.ensures c.in-Next.is in
     then-lacks d4.amid (refusal c.in_default-angle.is) (enters form.option-rule y e o) c.eat-angle.ensures
@@ -359,10 +359,10 @@ option-returns t c =
     let y = c.requires.ready in
     let e = c.requires.class_value in
     let o = opens y c.reserve.ensures in
-    let d0 = starts kind.OptionType AnyN form.optionRhs c.args.tree.now o.stands in
-    let k = o.class-is ∙ form.at_option c.args.st.class e in
+    let d0 = starts kind.OptionType AnyN form.option_rhs c.args.tree.now o.stands in
+    let k = o.class_is ∙ form.at_option c.args.st.class e in
     let d1 = advances d0 k (omega arith) c.advance-a.ensures (keeping-mark kind.OptionType class.Option tt) in
-    let d2 = then_turns (tok class.LAngle ∷ nt n-type ∷ tok class.RAngle ∷ []) d1 form.flat-option (form.option-angle (sym d1.lays.stands.class-is ∙ c.if-a-ne-LANGLE.false)) in
+    let d2 = then_turns (tok class.LAngle ∷ nt n-type ∷ tok class.RAngle ∷ []) d1 form.flat-option (form.option-angle (sym d1.lays.stands.class_is ∙ c.if-a-ne-LANGLE.false)) in
     let d3 = advances d2 c.if-a-ne-LANGLE.false (omega arith) c.advance-b.ensures (sign-mark kind.OptionType class.LAngle tt) in
     let d4 = then-node d3 c.ty-inner.ensures c.in-Next.is in
     let d5 = then-eats d4.amid (omega arith) c.eat-angle.ensures c.in-Next-angle.is (sign-mark kind.OptionType class.RAngle tt) in
@@ -374,8 +374,8 @@ tuple-types-inner-requires t c =
     let y = c.requires.ready in
     let e = c.requires.class_value in
     let o = opens y c.reserve.ensures in
-    let d0 = starts kind.TupleType AnyN form.tupleRhs c.args.tree.now o.stands in
-    let k = o.class-is ∙ form.at-tuple c.args.st.class e in
+    let d0 = starts kind.TupleType AnyN form.tuple_rhs c.args.tree.now o.stands in
+    let k = o.class_is ∙ form.at-tuple c.args.st.class e in
     let d1 = advances d0 k (omega arith) c.advance-a.ensures (sign-mark kind.TupleType class.LParen tt) in
     let f1 = further y o d1 (omega arith) in
     let q = length-text c.args.draft.now c.args.tokens.now c.args.count in
@@ -386,8 +386,8 @@ tuple-returns-in_default t c =
     let y = c.requires.ready in
     let e = c.requires.class_value in
     let o = opens y c.reserve.ensures in
-    let d0 = starts kind.TupleType AnyN form.tupleRhs c.args.tree.now o.stands in
-    let k = o.class-is ∙ form.at-tuple c.args.st.class e in
+    let d0 = starts kind.TupleType AnyN form.tuple_rhs c.args.tree.now o.stands in
+    let k = o.class_is ∙ form.at-tuple c.args.st.class e in
     let d1 = advances d0 k (omega arith) c.advance-a.ensures (sign-mark kind.TupleType class.LParen tt) in
     then-passed d1 (refusal c.in_default.is) (enters form.tuple-rule y e o) c.types-inner.ensures
 
@@ -396,8 +396,8 @@ tuple-returns-in_default-paren t c =
     let y = c.requires.ready in
     let e = c.requires.class_value in
     let o = opens y c.reserve.ensures in
-    let d0 = starts kind.TupleType AnyN form.tupleRhs c.args.tree.now o.stands in
-    let k = o.class-is ∙ form.at-tuple c.args.st.class e in
+    let d0 = starts kind.TupleType AnyN form.tuple_rhs c.args.tree.now o.stands in
+    let k = o.class_is ∙ form.at-tuple c.args.st.class e in
     let d1 = advances d0 k (omega arith) c.advance-a.ensures (sign-mark kind.TupleType class.LParen tt) in
     let d2 = lined.then-list d1 c.types-inner.ensures c.in-Next.is in
     then-lacks d2.amid (refusal c.in_default-paren.is) (enters form.tuple-rule y e o) c.eat-paren.ensures
@@ -407,8 +407,8 @@ tuple-returns t c =
     let y = c.requires.ready in
     let e = c.requires.class_value in
     let o = opens y c.reserve.ensures in
-    let d0 = starts kind.TupleType AnyN form.tupleRhs c.args.tree.now o.stands in
-    let k = o.class-is ∙ form.at-tuple c.args.st.class e in
+    let d0 = starts kind.TupleType AnyN form.tuple_rhs c.args.tree.now o.stands in
+    let k = o.class_is ∙ form.at-tuple c.args.st.class e in
     let d1 = advances d0 k (omega arith) c.advance-a.ensures (sign-mark kind.TupleType class.LParen tt) in
     let d2 = lined.then-list d1 c.types-inner.ensures c.in-Next.is in
     let d3 = then-eats d2.amid (omega arith) c.eat-paren.ensures c.in-Next-paren.is (sign-mark kind.TupleType class.RParen tt) in
@@ -417,7 +417,7 @@ tuple-returns t c =
 pub ty-returns-in_default : goal.ty-returns-in_default
 ty-returns-in_default t c =
     let y = c.requires in
-    stuck y.stands.within (λ τ. k-nt (ap (expand table n-type) (sym y.stands.class-is) ∙ form.no-type c.args.st.class c.types.result c.types.ensures (search rules)))
+    stuck y.stands.within (λ τ. k_nt (ap (expand table n-type) (sym y.stands.class_is) ∙ form.no-type c.args.st.class c.types.result c.types.ensures (search rules)))
 
 pub types-loop-here-init : goal.types-loop-here-init
 types-loop-here-init t c =

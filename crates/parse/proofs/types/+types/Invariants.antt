@@ -1,9 +1,9 @@
 -- What is left of the text bounds the calls; the loop keeps a list of types with its commas.
 -- Assumes nothing.
 use Rattle.std.proofs.Common.{◌+◌, ◌-◌, ◌*◌}
-use Rattle.grammar.specs.shapes.TablesIndex.{n-list-type}
+use Rattle.grammar.specs.Shapes.TablesIndex.{n-list-type}
 use Rattle.parse.specs.Contract.{text}
-use Rattle.parse.proofs.rule.Commas.{Lined}
+use Rattle.parse.proofs.Rule.Commas.{Lined}
 use Rattle.parse.proofs.types.+types.Given as goal
 
 abbrev pub decreases-array : goal.decreases-array
