@@ -1,35 +1,34 @@
 #!/usr/bin/env python3
-"""Sees in what `rt ci` said that every must-fail edit of the repository was refused for a fact, and prints how many of those rt counts as bad were.
+"""Sees in what `rt ci` said that every must-fail edit of the repository was refused for a fact, and that none was bad.
 
     tools/edits.py LOG
 
-rt calls an edit bad, and counts it for nothing, where it cannot be read. It takes for such also an edit of a definition for which a law of specs/ falls that
-others stand on, since the line which says that those were not checked names no place of its own. That line names the law: the text was read, and the law is what
-refuses it. So those are counted here, and any other bad edit fails, as does one that is refused only because a proof names what the edit took away.
+`rt ci` passes where an edit is bad, that is where it could not be applied or read, so nothing is known of the contract; and where an edit is refused only because
+a proof names what the edit took away, or by a limit of the prover. Here each of these fails.
 """
 import pathlib
 import re
 import sys
 
 ROOT = pathlib.Path(__file__).resolve().parent.parent
+OK = re.compile(r"rt: ok\b.*?\bmust-fail edits: (\d+) refused(.*)")
 SAID = re.compile(r"rt: must-fail (\w+)/(\S+)\.edit: (.*)")
 REFUSED = re.compile(r"refused, as it must be(?:: |$)")
-LAW_FELL = re.compile(r"BAD EDIT: the prover cannot read the edited text, so no contract was tried: \./specs/\S+: error: \d+ declarations? that depends? on `[^`]+`, "
-                      r"which was (?:rejected|not admitted), ")
 
 
 def main():
-    said = {}
+    said, ok = {}, None
     for line in pathlib.Path(sys.argv[1]).read_text(encoding="utf-8", errors="replace").splitlines():
+        ok = OK.match(line) or ok
         if found := SAID.match(line):
             said[f"{found[1]}/{found[2]}"] = found[3]
-    edits = {f"{path.parts[-3]}/{path.stem}" for path in ROOT.glob("crates/*/must-fail/*.edit")}
-    by_law = [name for name in edits if LAW_FELL.match(said.get(name, ""))]
-    faults = [f"{name}: {said.get(name, 'not tried')[:200]}" for name in sorted(edits) if name not in by_law and not REFUSED.match(said.get(name, ""))]
-    print(*faults, sep="\n", end="\n" if faults else "")
+    edits = sorted(f"{path.parts[-3]}/{path.stem}" for path in ROOT.glob("crates/*/must-fail/*.edit"))
+    faults = [f"{name}: {said.get(name, 'not tried')[:200]}" for name in edits if not REFUSED.match(said.get(name, ""))]
+    if not ok or int(ok[1]) != len(edits) or re.search(r",? [1-9]\d* bad", ok[2]):
+        faults.append(f"the repository has {len(edits)} edits, and rt says: {ok[0] if ok else 'no line of what was refused'}")
     if faults:
-        sys.exit(f"edits: {len(faults)} of {len(edits)} are not refused for a fact")
-    print(f"edits: {len(edits)} refused, {len(by_law)} of them by a law that others stand on")
+        sys.exit("\n".join([*faults, f"edits: {len(edits)} must be refused for a fact, and are not"]))
+    print(f"edits: {len(edits)} refused, none bad")
 
 
 main()

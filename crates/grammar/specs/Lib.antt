@@ -1,6 +1,5 @@
 pub mod Shapes
 pub mod Entry
 pub mod Records
-pub mod Spelled
 pub mod Answers
 pub mod Cases

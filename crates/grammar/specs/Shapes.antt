@@ -8,6 +8,4 @@ pub mod Tables
 pub mod TablesIndex
 pub mod Named
 pub mod WellShaped
-pub mod WellShapedLaws
 pub mod Samples
-pub mod TokenClasses

@@ -7,9 +7,9 @@ use Prim.Native.Nat.{ℕ, suc, ◌≤◌}
 use native.Mathlib.Omega.{arith}
 use borrow.Author.Tests.{ne_eqb}
 use lib.Dec.{T, eqb, ltb, ltb→lt}
-use Rattle.text.specs.Table.{first-of, second-of, pair}
+use Rattle.text.proofs.Table.{first-of, second-of, pair}
 use Rattle.text.specs.Lists.{keep, some, all, has, count, span}
-use Rattle.text.specs.ListLaws.{all_keep}
+use Rattle.text.proofs.ListLaws.{all_keep}
 use Rattle.own.specs.Kinds as kind
 use Rattle.lexer.specs.Classes as t
 use Rattle.kinds.specs.Shape.{Shape}

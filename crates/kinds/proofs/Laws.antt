@@ -11,7 +11,8 @@ use lib.Bits.{bit_and, and_zero_l, and_zero_r}
 use lib.Dec.{T, eqb, eqb→eq, ltb, ltb→lt}
 use lib.ListN.{length, get_or}
 use types.Run.{OneOf}
-use Rattle.text.specs.Table.{first-of, second-of, every, at, table_at, or_cases}
+use Rattle.text.specs.Table.{every}
+use Rattle.text.proofs.Table.{first-of, second-of, at, table_at, or_cases}
 
 -- A function and its table: each entry is right, and past the table the function is 0.
 pub record Table (f : ℕ → ℕ) : Type 0 where

@@ -1,3 +1,9 @@
 pub mod Laws
 pub mod Beyond
 pub mod Tables
+pub mod Decide
+pub mod Derive
+pub mod Ownership
+pub mod SpelledTest
+pub mod Build
+pub mod Trees

@@ -4,11 +4,9 @@ pub mod Families
 pub mod Derive
 pub mod Fields
 pub mod Rules
-pub mod Build
 pub mod Spelled
 pub mod SpelledTest
 pub mod Examples
 pub mod Ownership
-pub mod Trees
 pub mod Decide
 pub mod Groups

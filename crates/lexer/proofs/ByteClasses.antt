@@ -9,11 +9,13 @@ use borrow.Author.Tests.{le-leb, lt-leb, leb-true, leb-false, ne_eqb, eqb-true}
 use lib.Dec.{T, eqb, leb}
 use lib.ListN.{length, get_or, replicate, length-replicate}
 use Rattle.text.specs.Ascii.{ascii, ascii_from}
-use Rattle.text.specs.Same.{same, differ}
-use Rattle.text.specs.Table.{every, at, table_at, all, each}
+use Rattle.text.specs.Same.{same}
+use Rattle.text.proofs.Same.{differ}
+use Rattle.text.specs.Table.{every, all}
+use Rattle.text.proofs.Table.{at, table_at, each}
 use Rattle.lexer.specs.Chars.{among, whitespace, line_ends, plain_bytes, binary_digits, decimal_digits, hex_digits, underscore, name_starts, name_bytes, is}
 use Rattle.lexer.specs.Lexemes.{marks}
-use Rattle.lexer.specs.Plain.{over-among}
+use Rattle.lexer.proofs.Plain.{over-among}
 use Rattle.lexer.specs.Bytes.{mark_class, byte_class, in_classes, ClassTable}
 use Rattle.lexer.specs.Bytes as byte
 

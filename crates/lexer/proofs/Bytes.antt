@@ -13,15 +13,15 @@ use lib.Dec.{T, eqb, leb, leb→le}
 use lib.ListN.{length, get_or, drop}
 use Rattle.text.specs.Ascii.{ascii, ascii_from}
 use Rattle.text.specs.Refusals as refusal
-use Rattle.text.specs.Same.{differ}
-use Rattle.text.specs.Table.{first-of, second-of}
+use Rattle.text.proofs.Same.{differ}
+use Rattle.text.proofs.Table.{first-of, second-of}
 use Rattle.lexer.specs.Bytes.{byte_class, in_classes}
 use Rattle.lexer.specs.Bytes as byte
 use Rattle.lexer.specs.Classes as t
 use Rattle.lexer.specs.Chars.{Range, among, whitespace, plain_bytes, binary_digits, decimal_digits, hex_digits, underscore, name_starts, is, first, run, begins}
 use Rattle.lexer.specs.Lexemes.{token, trivia, refused, ◌or_else◌, Mark, space, line_comment, block_comment, qualified, macro, digits, hexadecimal, binary, decimal, word, marks, mark, no_lexeme, lexeme}
 use Rattle.lexer.specs.Places.{Based, decimal_at}
-use Rattle.lexer.specs.Plain.{over-among}
+use Rattle.lexer.proofs.Plain.{over-among}
 use Rattle.lexer.specs.Step.{step_from, lexeme_at}
 use Rattle.lexer.specs.declared.Step.TheVariants.{Token, Trivia, Refused}
 use Rattle.lexer.proofs.ByteClasses.{class-in, class-above, space-classes, plain-classes, decimal-run, hex-classes, hex-run, binary-classes, binary-run, digit-apart, not_digit, each-fails}

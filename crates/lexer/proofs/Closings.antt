@@ -11,11 +11,12 @@ use borrow.Author.Tests.{ne_eqb, eqb-true, ltb-true}
 use lib.Dec.{eqb, ltb}
 use lib.ListN.{length, get_or, drop, length-drop}
 use lib.Seq.{drop-cons}
-use Rattle.text.specs.Counts.{more, place_of, place-more}
+use Rattle.text.specs.Counts.{more, place_of}
+use Rattle.text.proofs.Counts.{place-more}
 use Rattle.text.specs.Refusals as refusal
-use Rattle.text.specs.Same.{differ}
-use Rattle.text.specs.Table.{both_left, both_right}
-use Rattle.utf8.specs.Sequences.{high}
+use Rattle.text.proofs.Same.{differ}
+use Rattle.text.proofs.Table.{both_left, both_right}
+use Rattle.utf8.proofs.Sequences.{high}
 use Rattle.lexer.specs.Chars.{first}
 use Rattle.lexer.specs.Lexemes.{closed, within, inside, onward, closing}
 use Rattle.lexer.specs.Trivia.{edge_of, broken_of}

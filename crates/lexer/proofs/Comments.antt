@@ -13,10 +13,10 @@ use lib.ListN.{length, get_or, take, drop}
 use Rattle.text.specs.Ascii.{ascii, ascii_from}
 use Rattle.text.specs.Counts.{more, place_of}
 use Rattle.text.specs.Refusals as refusal
-use Rattle.text.specs.Same.{differ}
-use Rattle.text.specs.Table.{both_left, both_right}
-use Rattle.utf8.specs.Parts.{bad_in, bad-end, bad-found, Good, good-next}
-use Rattle.utf8.specs.Sequences.{ascii-at, high, char-high}
+use Rattle.text.proofs.Same.{differ}
+use Rattle.text.proofs.Table.{both_left, both_right}
+use Rattle.utf8.proofs.Parts.{bad_in, bad-end, bad-found, Good, good-next}
+use Rattle.utf8.proofs.Sequences.{ascii-at, high, char-high}
 use Rattle.utf8.specs.Utf8.{char_length, bad_at}
 use Rattle.lexer.specs.Chars.{among, whitespace, line_ends, decimal_digits, underscore, name_starts, first, run, begins}
 use Rattle.lexer.specs.Lexemes.{Inside, closed, within, inside, onward, closing, block, refused, checked, comment, in_line, space, line_comment, block_comment, qualified, macro, digits, hexadecimal, binary, decimal, word, marks, mark, no_lexeme, lexeme}

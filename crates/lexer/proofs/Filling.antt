@@ -17,13 +17,12 @@ use Rattle.text.specs.Front.{front, Held}
 use Rattle.lexer.specs.Lexemes.{Token, Lexemes, tokens, refused_at, with_token, lexemes_from, lexemes}
 use Rattle.lexer.specs.Limits.{no_token, meant, first_too_deep, deep, judged_in, token_words, tokens_of}
 use Rattle.lexer.specs.Buffer.{put_at}
-use Rattle.lexer.specs.Fits.{not-both, token-words-length}
+use Rattle.lexer.proofs.Fits.{not-both, token-words-length}
 use Rattle.lexer.specs.Nesting.{is_past, nest_after, nest_of, outermost, passed_at}
 use Rattle.lexer.specs.Step.{step_of}
 use Rattle.lexer.specs.declared.Step.{Step}
 use Rattle.lexer.specs.declared.Step.TheVariants as S
 use Rattle.lexer.specs.declared.Lexed.{Lexed}
-use Rattle.lexer.specs.declared.Lexed.TheVariants as L
 use Rattle.lexer.specs.declared.depth.Nest.{Nest}
 use Rattle.lexer.proofs.Nesting.{nest-snoc, nest_deep}
 use Rattle.lexer.proofs.Steps.{follow, Leads, rest-follows, step-leads}

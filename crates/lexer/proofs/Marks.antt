@@ -12,14 +12,16 @@ use lib.Dec.{T, eqb, leb}
 use lib.ListN.{length, get_or, drop, replicate, length-replicate}
 use Rattle.text.specs.Ascii.{ascii, ascii_from}
 use Rattle.text.specs.Refusals as refusal
-use Rattle.text.specs.Same.{same, differ}
-use Rattle.text.specs.Table.{every, at, all, each}
+use Rattle.text.specs.Same.{same}
+use Rattle.text.proofs.Same.{differ}
+use Rattle.text.specs.Table.{every, all}
+use Rattle.text.proofs.Table.{at, each}
 use Rattle.lexer.specs.Bytes.{mark_class, byte_class, in_classes}
 use Rattle.lexer.specs.Bytes as byte
 use Rattle.lexer.specs.Classes as t
 use Rattle.lexer.specs.Chars.{among, whitespace, line_ends, plain_bytes, binary_digits, decimal_digits, hex_digits, underscore, name_starts, is, first, begins}
 use Rattle.lexer.specs.Lexemes.{Lexeme, token, refused, ◌or_else◌, space, line_comment, block_comment, qualified, macro, digits, hexadecimal, binary, decimal, word, marks, mark, no_lexeme, lexeme}
-use Rattle.lexer.specs.SameLexeme.{same_lexeme, same-lexeme}
+use Rattle.lexer.proofs.SameLexeme.{same_lexeme, same-lexeme}
 use Rattle.lexer.specs.Step.{step_from, lexeme_at}
 use Rattle.lexer.specs.declared.Step.TheVariants.{Token}
 use Rattle.lexer.proofs.ByteClasses.{class-in, class-above, over-class, mark-apart, not_mark, each-fails}

@@ -22,7 +22,7 @@ use Rattle.lexer.specs.Chars.{among, whitespace, decimal_digits, name_starts, na
 use Rattle.lexer.specs.Lexemes.{token, refused, ◌or_else◌, space, line_comment, block_comment, name_length, is_name, module_token, qualified, macro_token, macro, word_token, word, digits, hexadecimal, binary, decimal, lexeme}
 use Rattle.lexer.specs.Places.{Named, keyword_at}
 use Rattle.lexer.specs.Step.{step_from, lexeme_at}
-use Rattle.lexer.specs.TextLaws.{part-rest}
+use Rattle.lexer.proofs.TextLaws.{part-rest}
 use Rattle.lexer.specs.declared.Step.TheVariants.{Token, Refused}
 use Rattle.lexer.proofs.ByteClasses.{name-classes, name-apart, not_name, each-fails}
 use Rattle.lexer.proofs.Rest.{rest-first, rest-cons, rest-drop, begins-one, begins-two}

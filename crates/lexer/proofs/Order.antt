@@ -12,7 +12,7 @@ use Rattle.text.specs.Widths.{tok_wide}
 use Rattle.lexer.specs.Lexemes.{lexemes}
 use Rattle.lexer.specs.Limits.{limits_of, room, meant, judged_in, lexed_of, tokens_of, token_words, content, buffer_of}
 use Rattle.text.specs.Front.{Held}
-use Rattle.lexer.specs.Fits.{words-fit, tokens-cleared}
+use Rattle.lexer.proofs.Fits.{words-fit, tokens-cleared}
 use Rattle.lexer.specs.declared.Lexed.{Lexed}
 use Rattle.lexer.specs.declared.Lexed.TheVariants.{Tokens, Refused}
 

@@ -9,8 +9,8 @@ use borrow.Author.Tests.{leb-true, leb-false}
 use lib.Dec.{eqb, leb, eqb-zero-suc}
 use lib.ListN.{length, get_or, get_or-eq_default}
 use Rattle.lexer.specs.Chars.{first, begins}
-pub use Rattle.text.specs.Rest.{rest-cons, rest-drop, rest-take}
-pub use Rattle.lexer.specs.Moves.{rest-first}
+pub use Rattle.text.proofs.Rest.{rest-cons, rest-drop, rest-take}
+pub use Rattle.lexer.proofs.Moves.{rest-first}
 
 -- what a text begins with, byte by byte; no byte that is asked for is 0
 pub begins-one : (x : ℕ) (r : List ℕ) → begins (suc x ∷ []) r ≡ eqb (first r) (suc x)

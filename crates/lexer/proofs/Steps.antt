@@ -14,7 +14,7 @@ use Rattle.lexer.specs.Lexemes.{Lexeme, token, trivia, refused, lexeme, Lexemes,
 use Rattle.lexer.specs.Step.{step_from, step_of}
 use Rattle.lexer.specs.declared.Step.{Step}
 use Rattle.lexer.specs.declared.Step.TheVariants.{Token, Trivia, Refused, Nothing}
-use Rattle.lexer.specs.Moves.{Moves, lexeme-moves}
+use Rattle.lexer.proofs.Moves.{Moves, lexeme-moves}
 
 -- the bytes that are still part of the last lexeme are passed over
 pub passed : (r : List ℕ) (i k : ℕ) → lexemes_from r i k ≡ lexemes_from (drop k r) (i + k) 0

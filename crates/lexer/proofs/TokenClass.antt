@@ -8,7 +8,7 @@ use native.Mathlib.Omega.{arith}
 use borrow.Author.Tests.{ne_eqb}
 use lib.Dec.{eqb}
 use Rattle.words.specs.Words.{FUNCTION_RESERVED, MACROS, RULE_NAMES, BOOLEANS, BOOL, UINT_TYPES, BUILTIN_ALIASES, TYPE_NAMES, RULE_WORDS, words_of, word_of}
-use Rattle.words.specs.Right.{below}
+use Rattle.words.proofs.Right.{below}
 use Rattle.words.specs.declared.Found.TheVariants.{Word, Plain}
 use Rattle.words.specs.declared.Table.TheVariants.{RuleWords}
 use Rattle.lexer.specs.Class.{class_of}

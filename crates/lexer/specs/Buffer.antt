@@ -1,6 +1,6 @@
 -- How tokens lie in the token buffer.
 -- Assumes nothing.
-use Rattle.std.specs.Prelude.{cond, List, [], ◌∷◌, ◌≡◌, ℕ, zero, suc, ◌+◌, ◌*◌, ltb, get_or, drop, set}
+use Rattle.std.specs.Prelude.{cond, List, [], ◌∷◌, ℕ, zero, suc, ◌+◌, ◌*◌, ltb, get_or, drop, set}
 use Rattle.text.specs.Widths.{tok_wide}
 use Rattle.lexer.specs.Lexemes.{Token}
 

@@ -7,8 +7,9 @@ use native.Mathlib.Omega.{arith}
 use native.Mathlib.Nat.{add-zero}
 use lib.ListN.{length, get_or, set, drop, length-append, length-drop}
 use lib.Seq.{sets, drop-cons, drop-drop, get_or-drop}
-use Rattle.text.specs.Sets.{sets-next}
-use Rattle.lines.specs.Hex.{hex, hex-length}
+use Rattle.text.proofs.Sets.{sets-next}
+use Rattle.lines.specs.Hex.{hex}
+use Rattle.lines.proofs.Hex.{hex-length}
 use Rattle.lines.specs.Form.{after, line_of}
 
 -- A number and the byte after it.

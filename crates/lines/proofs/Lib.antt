@@ -1,3 +1,6 @@
 pub mod TwoDigits
 pub mod Fields
 pub mod Listing
+pub mod Form
+pub mod Hex
+pub mod Lines

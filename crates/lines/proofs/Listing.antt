@@ -10,14 +10,15 @@ use borrow.Author.Tests.{lt-ltb, le-ltb}
 use borrow.Rule.Slice.PartMut.{put_mid, mid_of}
 use lib.ListN.{length, drop, take, replicate}
 use lib.Seq.{sets, sets-eq, length-sets, drop-drop, take_at}
-use Rattle.text.specs.Clear.{cleared}
+use Rattle.text.proofs.ClearLaws.{cleared}
 use Rattle.text.specs.Widths.{rec_wide}
 use Rattle.up.specs.Ways.{rows_in}
-use Rattle.up.specs.Laws.{rows-length}
+use Rattle.up.proofs.Laws.{rows-length}
 use Rattle.lines.specs.Form.{line_of, wide}
-use Rattle.lines.specs.Lines.{widths, line_bytes, lines_of, lines-wide}
+use Rattle.lines.specs.Lines.{widths, line_bytes, lines_of}
+use Rattle.lines.proofs.Lines.{lines-wide}
 use Rattle.lines.specs.Written.{used, padded, held, lines_in}
-use Rattle.text.specs.Sets.{sets-next}
+use Rattle.text.proofs.Sets.{sets-next}
 
 -- one record more
 lines_more : (ws : List ℕ) (n : ℕ) (w : List ℕ) → lines_of ws (rows_in (suc n) w) ≡ lines_of ws (rows_in n w) ++ line_of ws (take rec_wide (drop (rec_wide * n) w))

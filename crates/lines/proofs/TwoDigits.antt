@@ -8,9 +8,10 @@ use native.Mathlib.Numerals.{add-one}
 use lib.ListN.{get_or, set}
 use lib.Seq.{sets}
 use Rattle.text.specs.Ascii.{ascii, ascii_from}
-use Rattle.text.specs.Sets.{sets-next}
-use Rattle.text.specs.Table.{table_at}
-use Rattle.lines.specs.Hex.{upper_hex, hex, hex-length, power, last_digits}
+use Rattle.text.proofs.Sets.{sets-next}
+use Rattle.text.proofs.Table.{table_at}
+use Rattle.lines.specs.Hex.{upper_hex, hex, power}
+use Rattle.lines.proofs.Hex.{hex-length, last_digits}
 use Rattle.lines.specs.declared.pairs.TheConstants.{PAIRS}
 
 -- The table's rule, computed over all of its entries: two to a number, its two digits.

@@ -1,9 +1,8 @@
 -- The form of a line is a list of widths: a number for each of its fields, of so many digits, "one space between, LF after" (document 01,
 -- "The listing program"). Everything here is said of any widths, so that a listing may have lines of another form.
 -- Assumes nothing.
-use Rattle.std.specs.Prelude.{List, [], ◌∷◌, ◌++◌, ◌≡◌, refl, ℕ, zero, suc, ◌+◌, length, get_or, drop}
-use Rattle.std.proofs.Common.{arith, length-append}
-use Rattle.lines.specs.Hex.{hex, hex-length}
+use Rattle.std.specs.Prelude.{List, [], ◌∷◌, ◌++◌, ℕ, zero, suc, ◌+◌, length, get_or, drop}
+use Rattle.lines.specs.Hex.{hex}
 
 abbrev pub space : ℕ
 space = 32
@@ -25,12 +24,3 @@ line_of (n ∷ ns) vs = hex n (get_or vs 0 0) ++ (after (length ns) ∷ line_of 
 abbrev pub wide : List ℕ → ℕ
 wide [] = 0
 wide (n ∷ ns) = n + 1 + wide ns
-
--- It has as many.
-pub line-wide : (ws vs : List ℕ) → length (line_of ws vs) ≡ wide ws
-unfolding line_of
-line-wide [] vs = refl
-line-wide (n ∷ ns) vs =
-    let h = line-wide ns (drop 1 vs) in
-    let k = hex-length n (get_or vs 0 0) in
-    omega (arith, length-append (hex n (get_or vs 0 0)) (after (length ns) ∷ line_of ns (drop 1 vs)))

@@ -1,12 +1,9 @@
 -- The lines of records (document 01, "The listing program"; document 02, order 7).
 -- Assumes nothing.
-use Rattle.std.specs.Prelude.{List, [], ◌∷◌, ◌++◌, ◌≡◌, refl, ℕ, ◌+◌, ◌*◌, length}
-use Rattle.std.proofs.Common.{sym, ap, ap₂, ◌∙◌, add_comm, mul-zero, mul-suc, length-append}
-use Rattle.text.specs.Widths.{rec_wide}
+use Rattle.std.specs.Prelude.{List, [], ◌∷◌, ◌++◌, ℕ}
 use Rattle.own.specs.Tree.{Rec}
-use Rattle.up.specs.Ways.{ways_up, rows}
-use Rattle.up.specs.Laws.{sevens-many}
-use Rattle.lines.specs.Form.{line_of, wide, line-wide}
+use Rattle.up.specs.Ways.{rows}
+use Rattle.lines.specs.Form.{line_of, wide}
 
 -- "kind (2 upper-case hexadecimal digits), start, end (4 each), low, high (8 each), size (4)"
 abbrev pub kind_digits : ℕ
@@ -26,9 +23,6 @@ six_widths = kind_digits ∷ place_digits ∷ place_digits ∷ half_digits ∷ h
 abbrev pub widths : List ℕ
 widths = six_widths ++ (place_digits ∷ [])
 
-pub fields-counted : length widths ≡ rec_wide
-fields-counted = refl
-
 -- How many bytes a line has, in either form.
 abbrev pub line_bytes : ℕ
 line_bytes = wide widths
@@ -36,14 +30,7 @@ line_bytes = wide widths
 abbrev pub six_bytes : ℕ
 six_bytes = wide six_widths
 
--- "36 times the lines", and now "41 bytes in all": the widths come to the papers' figures.
-pub six-bytes : six_bytes ≡ 36
-six-bytes = refl
-
-pub line-bytes : line_bytes ≡ 41
-line-bytes = refl
-
--- A line for each list of numbers, in any form;
+-- A line for each list of numbers, in any form.
 unfoldable pub lines_of : List ℕ → List (List ℕ) → List ℕ
 lines_of ws [] = []
 lines_of ws (v ∷ vs) = line_of ws v ++ lines_of ws vs
@@ -51,17 +38,3 @@ lines_of ws (v ∷ vs) = line_of ws v ++ lines_of ws vs
 -- "one line a record", its words as numbers.
 abbrev pub lines : List Rec → List ℕ
 lines rs = lines_of widths (rows rs)
-
--- The bytes of lines, in any form,
-pub lines-wide : (ws : List ℕ) (vs : List (List ℕ)) → length (lines_of ws vs) ≡ wide ws * length vs
-unfolding lines_of
-lines-wide ws [] = sym (mul-zero (wide ws))
-lines-wide ws (v ∷ vs) =
-    length-append (line_of ws v) (lines_of ws vs)
-    ∙ ap₂ ◌+◌ (line-wide ws v) (lines-wide ws vs)
-    ∙ add_comm (wide ws) (wide ws * length vs)
-    ∙ sym (mul-suc (wide ws) (length vs))
-
--- and in that of the listing.
-pub lines-length : (rs : List Rec) → length (lines rs) ≡ line_bytes * length rs
-lines-length rs = lines-wide widths (rows rs) ∙ ap (λ (n : ℕ). line_bytes * n) (sevens-many (ways_up rs) rs)

@@ -11,17 +11,18 @@ use borrow.Author.Tests.{eq-eqb, ne_eqb, lt-ltb, le-ltb}
 use lib.Dec.{T, eqb, ltb, leb, eqb→eq, leb→le}
 use lib.ListN.{get_or, length}
 use Rattle.text.specs.Lists.{has, all, some, count, span}
-use Rattle.text.specs.ListLaws.{all-count}
-use Rattle.text.specs.Table.{or_cases}
+use Rattle.text.proofs.ListLaws.{all-count}
+use Rattle.text.proofs.Table.{or_cases}
 use Rattle.num.specs.Bound.{is_bound, bound_ok}
 use Rattle.num.specs.declared.Value.TheVariants.{Number}
 use Rattle.own.specs.Kinds as kind
 use Rattle.kinds.specs.Shape.{number}
 use Rattle.load.specs.Children.Table.{state_count, head_count, heads}
-use Rattle.load.specs.Children.Cues.{kinds_end, beq_same, has-none}
+use Rattle.load.specs.Children.Cues.{kinds_end}
+use Rattle.load.proofs.Children.Cues.{beq_same, has-none}
 use Rattle.load.specs.Children.Begin as begin
 use Rattle.load.specs.Children.Begin.{which, besides, agrees, asked_of, first_of, lows_of, state_of, start}
-use Rattle.load.specs.Children.Begins.{start-below}
+use Rattle.load.proofs.Children.Begins.{start-below}
 
 -- Which of the lows it is.
 pub low-itself : (a low : ℕ) → begin.Low ≤ a → a ≤ begin.Parameters → low ≡ which a low

@@ -9,19 +9,21 @@ use native.Mathlib.Decide.{dec_lt}
 use borrow.Author.Tests.{eq-eqb, ne_eqb, lt-ltb}
 use lib.Dec.{T, ltb}
 use lib.ListN.{length, get_or}
-use Rattle.text.specs.Table.{is_true, is_false, pair}
+use Rattle.text.proofs.Table.{is_true, is_false, pair}
 use Rattle.own.specs.Tree.{Rec}
 use Rattle.own.specs.Flat.{blank, children}
 use Rattle.own.specs.Kinds as kind
 use Rattle.kinds.specs.Shape.{half_range}
 use Rattle.kinds.specs.Fields.{halves}
 use Rattle.load.specs.Function.{Right, is_top, Whole}
-use Rattle.load.specs.FunctionTest.{placed, placed-exactly, is_whole, whole-exactly}
+use Rattle.load.specs.FunctionTest.{placed, is_whole}
+use Rattle.load.proofs.FunctionTest.{placed-exactly, whole-exactly}
 use Rattle.load.specs.Children.Run.{ended}
 use Rattle.load.specs.Children.Begin.{agrees, asked_of, start}
-use Rattle.load.specs.Checks.Stands.{stands, stands-exactly, stands-each}
+use Rattle.load.specs.Checks.Stands.{stands}
+use Rattle.load.proofs.Checks.Stands.{stands-exactly, stands-each}
 use Rattle.load.specs.Checks.Judge.{judge, before, verdict}
-use Rattle.load.specs.Checks.Verdict.{right-found, found_right}
+use Rattle.load.proofs.Checks.Verdict.{right-found, found_right}
 use Rattle.load.specs.declared.walk.Seen.{Seen}
 use Rattle.load.specs.declared.walk.Walked.{Walked}
 use Rattle.load.specs.declared.walk.Walked.TheVariants.{Done}

@@ -9,8 +9,8 @@ use native.Mathlib.Omega.{arith}
 use borrow.Author.Tests.{lt-ltb, le-leb, lt-leb, ne_eqb}
 use lib.Dec.{T, eqb, ltb, eqb→eq, ltb→lt}
 use Rattle.text.specs.Lists.{has, all, some, count, span}
-use Rattle.text.specs.ListLaws.{all-count}
-use Rattle.text.specs.Table.{first-of, second-of, not-true, or_cases}
+use Rattle.text.proofs.ListLaws.{all-count}
+use Rattle.text.proofs.Table.{first-of, second-of, not-true, or_cases}
 use Rattle.num.specs.Bound.{is_bound, bound_ok}
 use Rattle.num.specs.declared.Value.TheVariants.{Number}
 use Rattle.own.specs.Arms as arm

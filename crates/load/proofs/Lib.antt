@@ -10,3 +10,15 @@ pub mod Walking
 pub mod WalkLines
 pub mod WaysLaws
 pub mod WriteLaws
+pub mod Checks
+pub mod Children
+pub mod FunctionTest
+pub mod Led
+pub mod Listing
+pub mod Fitting
+pub mod FormLaws
+pub mod Handed
+pub mod HandedForms
+pub mod Laws
+pub mod Restored
+pub mod Tops

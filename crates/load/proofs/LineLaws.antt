@@ -11,14 +11,14 @@ use borrow.Author.Tests.{lt-ltb, le-ltb, eq-eqb, ne_eqb}
 use lib.Dec.{eqb, ltb}
 use lib.ListN.{length, get_or, drop, length-drop, drop_of_length-le}
 use lib.Seq.{get_or-drop, drop-cons, drop-drop}
-use Rattle.text.specs.Table.{is_false}
+use Rattle.text.proofs.Table.{is_false}
 use Rattle.lines.specs.Hex.{power}
 use Rattle.lines.specs.Form.{after, wide}
 use Rattle.lines.specs.Lines.{half_digits}
 use Rattle.load.specs.Listing.Read.{digit_of, are_digits, number_of, in_form, bad_from, bad_line}
-use Rattle.load.specs.Listing.DigitLaws.{number-below}
-use Rattle.load.specs.Listing.LineLaws.{form-long}
-use Rattle.load.specs.Listing.ListingLaws.{bad-none, bad-past, bad-here}
+use Rattle.load.proofs.Listing.DigitLaws.{number-below}
+use Rattle.load.proofs.Listing.LineLaws.{form-long}
+use Rattle.load.proofs.Listing.ListingLaws.{bad-none, bad-past, bad-here}
 
 -- What the loop of `number` keeps: the number that the first i digits are.
 pub record Valued (text : List ℕ) (at n v i : ℕ) : Type 0 where

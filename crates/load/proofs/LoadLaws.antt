@@ -6,27 +6,28 @@ use borrow.Author.Tests.{lt-ltb, le-ltb, ltb-false}
 use borrow.Rule.Slice.PartMut.{put_mid, mid_of}
 use Rattle.std.proofs.Math.Nat.{mul-div-le}
 use Rattle.text.specs.Answers.{Answer, accepted, refused, values}
-use Rattle.text.specs.Clear.{cleared}
+use Rattle.text.proofs.ClearLaws.{cleared}
 use Rattle.text.specs.Refusals as refusal
 use Rattle.text.specs.Widths.{rec_wide}
 use Rattle.own.specs.Tree.{Rec}
 use Rattle.own.specs.Words.{recs}
-use Rattle.own.specs.WordLaws.{recs-length}
+use Rattle.own.proofs.WordLaws.{recs-length}
 use Rattle.up.specs.Ways.{up_words, upward}
-use Rattle.up.specs.Laws.{up-words-long, upward-held}
+use Rattle.up.proofs.Laws.{up-words-long, upward-held}
 use Rattle.lines.specs.Form.{wide}
 use Rattle.lines.specs.Lines.{widths, line_bytes}
 use Rattle.load.specs.Form.{Form, older, newer, widths_of, form_of}
 use Rattle.load.specs.FunctionTest.{is_whole}
 use Rattle.load.specs.Load.{ways_right, is_right, load_as, load_of, records_of, contents, words_of}
 use Rattle.load.specs.Meant.{meant, returned}
-use Rattle.load.specs.Laws.{promised}
+use Rattle.load.proofs.Laws.{promised}
 use Rattle.load.specs.Promised.{Loads}
 use Rattle.load.specs.declared.Loaded.{Loaded}
 use Rattle.load.specs.declared.Loaded.TheVariants.{Records, Refused}
 use Rattle.load.specs.Listing.Read.{bad_line, rows_from, lines_read, rec_of}
-use Rattle.load.specs.Listing.LineForm.{LineForm, Listed, its-form}
-use Rattle.load.specs.Listing.RecordLaws.{lines-long, records-long}
+use Rattle.load.specs.Listing.LineForm.{LineForm, Listed}
+use Rattle.load.proofs.Listing.LineForm.{its-form}
+use Rattle.load.proofs.Listing.RecordLaws.{lines-long, records-long}
 
 -- The form of the widths that are held, and a listing in it.
 pub held-form : (f : Form) {ws : List ℕ} {step : ℕ} → ws ≡ widths_of f → step ≡ wide (widths_of f) → LineForm ws step

@@ -5,7 +5,7 @@ use Rattle.std.proofs.Common.{ap, ◌∙◌, arith}
 use Rattle.std.proofs.lemmas.List.Edits.{sets, sets-eq}
 use Rattle.load.specs.Listing.LineForm.{six_fields}
 use Rattle.load.specs.Listing.Read.{values_of, rec_of}
-use Rattle.load.specs.Listing.RecordLaws.{record-by-six, six-long}
+use Rattle.load.proofs.Listing.RecordLaws.{record-by-six, six-long}
 
 pub record-read : (ws bs o : List ℕ) {words : List ℕ} → six_fields ≤ length ws → length o ≡ six_fields → words ≡ sets o 0 (values_of (take six_fields ws) bs)
     → rec_of words ≡ rec_of (values_of ws bs)

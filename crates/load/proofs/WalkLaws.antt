@@ -8,14 +8,16 @@ use native.Mathlib.Omega.{arith}
 use borrow.Author.Tests.{eq-eqb, ne_eqb, lt-ltb, le-ltb, le-leb, lt-leb}
 use lib.Dec.{T, eqb, ltb, leb, ltb→lt}
 use lib.ListN.{length, get_or}
-use Rattle.text.specs.Table.{every, at}
+use Rattle.text.specs.Table.{every}
+use Rattle.text.proofs.Table.{at}
 use Rattle.own.specs.Tree.{Rec}
 use Rattle.kinds.specs.Shape.{half_range}
 use Rattle.load.specs.Children.Table.{state_count, steps}
 use Rattle.load.specs.Children.Cue as cue
 use Rattle.load.specs.Children.Cue.{cues, cue}
 use Rattle.load.specs.Children.Automaton.{columns, entry}
-use Rattle.load.specs.Children.Run.{next, cue-below}
+use Rattle.load.specs.Children.Run.{next}
+use Rattle.load.proofs.Children.Run.{cue-below}
 use Rattle.load.specs.Checks.Judge.{sits, one, past}
 use Rattle.load.specs.declared.walk.Seen.{Seen}
 

@@ -13,12 +13,13 @@ use Rattle.own.specs.Flat.{blank}
 use Rattle.kinds.specs.Shape.{half_range}
 use Rattle.load.specs.Listing.Read.{values_of, records_in, rec_of}
 use Rattle.load.specs.Listing.LineForm.{LineForm, Listed}
-use Rattle.load.specs.Listing.RecordLaws.{records-long, record-at}
+use Rattle.load.proofs.Listing.RecordLaws.{records-long, record-at}
 use Rattle.load.specs.Children.Table.{state_count}
 use Rattle.load.specs.Children.Cue.{cue}
-use Rattle.load.specs.Children.Run.{next, cue-below}
+use Rattle.load.specs.Children.Run.{next}
+use Rattle.load.proofs.Children.Run.{cue-below}
 use Rattle.load.specs.Checks.Judge.{as_rec, sits, past}
-use Rattle.load.specs.Checks.Small.{sat}
+use Rattle.load.proofs.Checks.Small.{sat}
 use Rattle.load.specs.declared.record.Record.{Record}
 use Rattle.load.specs.declared.walk.Seen.{Seen}
 use Rattle.load.specs.declared.walk.Walked.{Walked}

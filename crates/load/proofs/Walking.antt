@@ -9,7 +9,7 @@ use borrow.Author.Tests.{eq-eqb}
 use lib.Dec.{T}
 use lib.ListN.{length, get_or, take, drop}
 use lib.Seq.{drop-cons}
-use Rattle.text.specs.Table.{is_true}
+use Rattle.text.proofs.Table.{is_true}
 use Rattle.own.specs.Tree.{Rec}
 use Rattle.own.specs.Flat.{blank, row, children}
 use Rattle.kinds.specs.Shape.{half_range}
@@ -17,7 +17,8 @@ use Rattle.load.specs.Children.Table.{state_count}
 use Rattle.load.specs.Children.Cue as cue
 use Rattle.load.specs.Children.Cue.{cue}
 use Rattle.load.specs.Checks.Judge.{sits, past, judge, before}
-use Rattle.load.specs.Checks.Small.{Small, sat}
+use Rattle.load.specs.Checks.Small.{Small}
+use Rattle.load.proofs.Checks.Small.{sat}
 use Rattle.load.specs.Checks.Parts.{left, left-next, all_left}
 use Rattle.load.specs.declared.walk.Seen.{Seen}
 use Rattle.load.proofs.WalkLaws.{one-small}

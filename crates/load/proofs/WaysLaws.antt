@@ -5,18 +5,18 @@ use Rattle.std.proofs.Common.{sym, ap, ◌∙◌, arith, drop-drop, below_more}
 use Rattle.std.proofs.Math.ListN.{get_or-map}
 use Rattle.std.proofs.lemmas.List.{length-map}
 use Rattle.text.specs.Same.{same}
-use Rattle.text.specs.SameLaws.{same_true, same_self}
-use Rattle.text.specs.Table.{is_true, is_false}
+use Rattle.text.proofs.SameLaws.{same_true, same_self}
+use Rattle.text.proofs.Table.{is_true, is_false}
 use Rattle.own.specs.Tree.{Rec}
 use Rattle.up.specs.Ways.{way_up, each, ways_up}
-use Rattle.up.specs.Laws.{back-within, each-got, each-same, each-at}
+use Rattle.up.proofs.Laws.{back-within, each-got, each-same, each-at}
 use Rattle.up.specs.Buffer.{size_place, up_place}
 use Rattle.lines.specs.Form.{wide}
 use Rattle.load.specs.Form.{newer}
 use Rattle.load.specs.Load.{ways_right}
 use Rattle.load.specs.Listing.Read.{number_of, lines_read, rec_of, records_in, up_of}
-use Rattle.load.specs.Listing.LineLaws.{value-at}
-use Rattle.load.specs.Listing.RecordLaws.{records-long, line-at}
+use Rattle.load.proofs.Listing.LineLaws.{value-at}
+use Rattle.load.proofs.Listing.RecordLaws.{records-long, line-at}
 use Rattle.load.specs.Checks.GivenWays.{sizes_in, ups_in}
 
 module _ (ws text : List ℕ) (p : ℕ) (h : p < length text / wide ws) where

@@ -12,8 +12,8 @@ use Rattle.own.specs.Words.{recs}
 use Rattle.lines.specs.Form.{wide}
 use Rattle.load.specs.Listing.LineForm.{six_fields, LineForm}
 use Rattle.load.specs.Listing.Read.{number_of, values_of, rows_from, rec_of}
-use Rattle.load.specs.Listing.LineLaws.{wide-front}
-use Rattle.load.specs.Listing.RecordLaws.{record-by-six, six-long}
+use Rattle.load.proofs.Listing.LineLaws.{wide-front}
+use Rattle.load.proofs.Listing.RecordLaws.{record-by-six, six-long}
 use Rattle.load.proofs.LineLaws.{next-width}
 
 -- What the loop of `values` keeps: the fields that are left, from p on, would complete the numbers of the line.

@@ -4,4 +4,3 @@ pub mod Stands
 pub mod Judge
 pub mod Small
 pub mod GivenWays
-pub mod Verdict

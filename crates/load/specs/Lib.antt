@@ -3,17 +3,10 @@ pub mod Function
 pub mod FunctionTest
 pub mod Children
 pub mod Checks
-pub mod Tops
-pub mod HandedForms
-pub mod Handed
 pub mod Listing
-pub mod Fitting
 pub mod Form
 pub mod Load
-pub mod FormLaws
 pub mod Meant
 pub mod Promised
-pub mod Laws
-pub mod Restored
 pub mod Led
 pub mod Known

@@ -3,6 +3,3 @@ pub mod InForm
 pub mod Read
 pub mod DigitLaws
 pub mod LineForm
-pub mod LineLaws
-pub mod RecordLaws
-pub mod ListingLaws

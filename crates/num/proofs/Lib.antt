@@ -4,3 +4,5 @@ pub mod Room
 pub mod Fill
 pub mod Base
 pub mod Ones
+pub mod BoundLaws
+pub mod ValueLaws

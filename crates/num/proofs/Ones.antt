@@ -9,9 +9,9 @@ use borrow.Author.Tests.{eqb-true, eq-eqb}
 use lib.Count.{ones, ones_in, ones_step, ones_cat}
 use lib.Dec.{eqb}
 use lib.Pow.{pow_pos}
-use Rattle.text.specs.Same.{differ}
+use Rattle.text.proofs.Same.{differ}
 use Rattle.num.specs.Bound.{is_bound}
-use Rattle.num.specs.BoundLaws.{power-of, power-passes}
+use Rattle.num.proofs.BoundLaws.{power-of, power-passes}
 
 none-set : (k n : ℕ) → n < 2 ^ k → ones n ≡ 0 → n ≡ 0
 none-set zero n h e = omega arith

@@ -9,15 +9,15 @@ use Rattle.lexer.specs.Limits.{Limits, draft_limits}
 use Rattle.text.specs.Front.{front}
 use Rattle.text.specs.Widths.{rec_wide}
 use Rattle.up.specs.Ways.{rows_in, up_words}
-use Rattle.up.specs.Laws.{rows-up, up-words-long}
+use Rattle.up.proofs.Laws.{rows-up, up-words-long}
 use Rattle.lines.specs.Lines.{widths, lines_of, lines}
 use Rattle.lines.specs.Written.{used, padded, lines_in}
 use Rattle.grammar.specs.Entry.{Entry}
 use Rattle.text.specs.Answers.{Answer, accepted, refused}
 use Rattle.grammar.specs.Answers.Answer.{answer, records_for, records_in, records_read}
 use Rattle.grammar.specs.Answers.Outcome.{Accepted}
-use Rattle.grammar.specs.Answers.OutcomeLaws.{read-faultless}
-use Rattle.grammar.specs.Answers.Laws.{law-1}
+use Rattle.grammar.proofs.Answers.OutcomeLaws.{read-faultless}
+use Rattle.grammar.proofs.Answers.Laws.{law-1}
 use Rattle.grammar.specs.Answers.Lines.{listed, listing}
 use Rattle.reader.specs.Listed.{listing_of, used_of, bytes_of}
 use Rattle.reader.proofs.LineLaws.{all_listed}

@@ -8,24 +8,25 @@ use native.Mathlib.Omega.{arith}
 use borrow.Author.Tests.{le-ltb, lt-leb}
 use lib.Dec.{ltb}
 use lib.ListN.{length, replicate, take, drop}
-use Rattle.text.specs.Front.{front, front-cleared}
+use Rattle.text.specs.Front.{front}
+use Rattle.text.proofs.Front.{front-cleared}
 use Rattle.lexer.specs.Lexemes.{Token, lexemes}
 use Rattle.lexer.specs.Limits.{draft_limits, room, lexed_of, tokens_of, token_words}
 use Rattle.lexer.specs.Buffer.{tokens_in}
-use Rattle.lexer.specs.Fits.{not-both, lexed-fits, lexed-short, read-back, words-fit, tokens-cleared}
+use Rattle.lexer.proofs.Fits.{not-both, lexed-fits, lexed-short, read-back, words-fit, tokens-cleared}
 use Rattle.text.specs.Widths.{tok_wide, rec_wide}
 use Rattle.text.specs.Answers.{Answer, accepted, refused}
 use Rattle.text.specs.Refusals as refusal
 use Rattle.own.specs.Tree.{Rec, classes_of}
 use Rattle.own.specs.Words.{rec_words}
-use Rattle.own.specs.WordLaws.{record-words-length}
+use Rattle.own.proofs.WordLaws.{record-words-length}
 use Rattle.up.specs.Ways.{up_words, upward}
-use Rattle.up.specs.Laws.{up-words-long, raised-words}
+use Rattle.up.proofs.Laws.{up-words-long, raised-words}
 use Rattle.grammar.specs.Entry.{Entry, single_function, whole_file}
 use Rattle.grammar.specs.Shapes.WellShaped.{shape_of}
 use Rattle.grammar.specs.Answers.Answer.{toks_of, Reading, unread, read, shaped, lexed, reading, fitted, answer, content, records_in, token_buffer, tree_buffer, records_read}
-use Rattle.grammar.specs.Answers.OutcomeLaws.{lexed-within}
-use Rattle.grammar.specs.Answers.Laws.{law-1, token-buffer-lexed, law-4-refused}
+use Rattle.grammar.proofs.Answers.OutcomeLaws.{lexed-within}
+use Rattle.grammar.proofs.Answers.Laws.{law-1, token-buffer-lexed, law-4-refused}
 use Rattle.parse.specs.Contract.{u32_count}
 use Rattle.parse.specs.Entry.{too_many, too_long, reading_of, answer_of}
 

@@ -2,3 +2,7 @@ pub mod Laws
 pub mod LineLaws
 pub mod LoadingLaws
 pub mod EntryLaws
+pub mod Fits
+pub mod Refusing
+pub mod Restored
+pub mod Short

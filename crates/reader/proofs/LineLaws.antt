@@ -8,7 +8,8 @@ use lib.ListN.{length}
 use Rattle.text.specs.Widths.{rec_wide}
 use Rattle.own.specs.Words.{rec_then}
 use Rattle.up.specs.Ways.{rows_in}
-use Rattle.lines.specs.Hex.{hex, power, last_digits}
+use Rattle.lines.specs.Hex.{hex, power}
+use Rattle.lines.proofs.Hex.{last_digits}
 use Rattle.lines.specs.Form.{space, line_of}
 use Rattle.lines.specs.Lines.{kind_digits, place_digits, half_digits, widths, lines_of, lines}
 use Rattle.lines.specs.Written.{used, padded, held, lines_in}

@@ -10,7 +10,8 @@ use Rattle.load.specs.Meant.{meant}
 use Rattle.load.specs.Promised.{Loads}
 use Rattle.load.specs.declared.Loaded.{Loaded}
 use Rattle.load.specs.declared.Loaded.TheVariants.{Records, Refused}
-use Rattle.reader.specs.Loading.{records_loaded, refusal_loaded, Refusing, nothing-only}
+use Rattle.reader.specs.Loading.{records_loaded, refusal_loaded, Refusing}
+use Rattle.reader.proofs.Refusing.{nothing-only}
 
 -- What is promised of the number that is returned, of the words and of the refusal.
 abbrev pub Handed : List ℕ → ℕ → List ℕ → ℕ → List ℕ → Type 0

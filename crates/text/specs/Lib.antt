@@ -1,17 +1,11 @@
 pub mod Part
 pub mod Ascii
 pub mod Same
-pub mod SameLaws
 pub mod Table
 pub mod Lists
-pub mod ListLaws
-pub mod Exactly
-pub mod Clear
 pub mod Widths
 pub mod Answers
 pub mod Refusals
 pub mod Ranges
 pub mod Counts
-pub mod Rest
-pub mod Sets
 pub mod Front

@@ -9,9 +9,9 @@ use mathlib.Core.List.{List, [], ◌∷◌, ◌++◌}
 use Rattle.std.proofs.Math.Option.{Option, none, some}
 use Rattle.std.proofs.Common.{arith}
 use Rattle.std.proofs.Math.Dec.{eqb}
-use Rattle.text.specs.Table.{first-of, second-of}
+use Rattle.text.proofs.Table.{first-of, second-of}
 use Rattle.text.specs.Lists.{has, all}
-use Rattle.text.specs.ListLaws.{all-has, all_get_or}
+use Rattle.text.proofs.ListLaws.{all-has, all_get_or}
 use Rattle.theory.specs.Grammar.{Sym, tok, nt, Row, row, look, alt, pick, blank}
 use Rattle.theory.specs.Machine.{choose}
 

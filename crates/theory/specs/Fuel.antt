@@ -12,9 +12,9 @@ use native.Mathlib.Omega.{arith}
 use Rattle.std.proofs.Math.Dec.{T, ltb, leb, leb→le, T_not}
 use Rattle.std.proofs.Math.ListN.{length, get_elem?}
 use borrow.Author.Tests.{ltb-true}
-use Rattle.text.specs.Table.{first-of, second-of}
+use Rattle.text.proofs.Table.{first-of, second-of}
 use Rattle.text.specs.Lists.{has, all}
-use Rattle.text.specs.ListLaws.{all_get_or}
+use Rattle.text.proofs.ListLaws.{all_get_or}
 use Rattle.theory.specs.Grammar.{Sym, tok, nt, Row, row, alt, pick, blank, Der}
 use Rattle.theory.specs.Machine.{la, choose, expand}
 use Rattle.theory.specs.Check.{good}

@@ -9,9 +9,9 @@ use mathlib.Core.List.{List, [], ◌∷◌, ◌++◌, append_assoc, append-nil}
 use Rattle.std.proofs.Math.Option.{Option, none, some}
 use Prim.Native.Nat.{ℕ, zero, suc}
 use Rattle.std.proofs.Math.Dec.{T}
-use Rattle.text.specs.Table.{first-of, second-of}
+use Rattle.text.proofs.Table.{first-of, second-of}
 use Rattle.text.specs.Lists.{all, has}
-use Rattle.text.specs.ListLaws.{all-has}
+use Rattle.text.proofs.ListLaws.{all-has}
 use Rattle.theory.specs.Grammar.{Sym, tok, nt, Row, row, alt, pick, Der, d_end, d_tok, d_nt}
 use Rattle.theory.specs.Machine.{la, choose, expand, Acc, a_end, a_tok, a_nt, Ref, r_long, r_short, r_other, r_stuck, r_tok, r_nt, Same, same_end, same_head}
 use Rattle.theory.specs.Check.{Starts, scan, scan-at, follows, good, good_row, row-good, parts, short, numbered, good_alt}

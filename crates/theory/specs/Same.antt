@@ -11,7 +11,7 @@ use Prim.Native.Nat.{ℕ, zero, suc}
 use native.Mathlib.Omega.{arith}
 use Rattle.std.proofs.Math.Decide.{ℕ_discrete}
 use Rattle.std.proofs.Math.ListN.{get_elem?}
-use Rattle.text.specs.Table.{first-of, second-of}
+use Rattle.text.proofs.Table.{first-of, second-of}
 use Rattle.theory.specs.Grammar.{Sym, tok, nt, Row, row, alt, pick, blank, Der, d_end, d_tok, d_nt}
 use Rattle.theory.specs.Predict.{der-append}
 use Rattle.theory.specs.Ebnf.{Ex, eps, mark, child, part, seq, or, many, list, tail, Ex-discrete, Ebnf, kinds_of, choices, body_of, Items, nil, word, sub, yield, Match, m_end, m_word, m_sub, m_choice, Sort, token, node, flat, sort_of}

@@ -1,1 +1,6 @@
 mod Raise
+pub mod Buffer
+pub mod Children
+pub mod Climb
+pub mod Laws
+pub mod Parents

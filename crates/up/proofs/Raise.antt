@@ -5,10 +5,11 @@ use Rattle.std.proofs.Common.{sym, ap, ◌∙◌, arith, lt-ltb, le-ltb, ltb-tru
 use Rattle.text.specs.Widths.{rec_wide}
 use Rattle.own.specs.Tree.{concat}
 use Rattle.own.specs.Words.{recs}
-use Rattle.own.specs.WordLaws.{recs-length}
+use Rattle.own.proofs.WordLaws.{recs-length}
 use Rattle.up.specs.Ways.{way_up, size_of, each, ways_up, sevens, up_words, upward}
-use Rattle.up.specs.Buffer.{size_place, up_place, size_in, size-in}
-use Rattle.up.specs.Laws.{back-within, back-same, each-same}
+use Rattle.up.specs.Buffer.{size_place, up_place, size_in}
+use Rattle.up.proofs.Buffer.{size-in}
+use Rattle.up.proofs.Laws.{back-within, back-same, each-same}
 
 -- The first i records have what f gives as their seventh word.
 abbrev placed : (ℕ → ℕ) → ℕ → List ℕ → List ℕ

@@ -10,10 +10,11 @@ use borrow.Author.Tests.{le-leb, lt-leb, lt-ltb, le-ltb, eqb-true, ltb-true, ltb
 use lib.Dec.{T, eqb, leb, ltb}
 use lib.ListN.{length, get_or, drop, replicate, length-replicate, get_or-eq_default, drop_of_length-le}
 use lib.Seq.{drop-cons}
-use Rattle.text.specs.Same.{differ}
-use Rattle.text.specs.Table.{every, at, is_true}
+use Rattle.text.proofs.Same.{differ}
+use Rattle.text.specs.Table.{every}
+use Rattle.text.proofs.Table.{at, is_true}
 use Rattle.text.specs.Ranges.{Range, bytes, of}
-use Rattle.text.specs.Rest.{rest-cons}
+use Rattle.text.proofs.Rest.{rest-cons}
 use Rattle.utf8.specs.Utf8.{utf8_char, tail, fits, sequence, char_length}
 use Rattle.utf8.specs.Second.{outside_of, least_second, most_second}
 

@@ -1,1 +1,5 @@
 pub mod Leads
+pub mod Laws
+pub mod Parts
+pub mod Sequences
+pub mod Walks

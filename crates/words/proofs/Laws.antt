@@ -11,13 +11,15 @@ use lib.ListN.{length, get_or, take, drop, length-take, length-drop}
 use lib.Seq.{length-take-le}
 use Rattle.text.specs.Ascii.{ascii, ascii_from}
 use Rattle.text.specs.Part.{part_of}
-use Rattle.text.specs.Same.{same, differ}
-use Rattle.text.specs.Table.{every, at, table_at, all, each, is_true}
-use Rattle.text.specs.SameLaws.{same_true}
+use Rattle.text.specs.Same.{same}
+use Rattle.text.proofs.Same.{differ}
+use Rattle.text.specs.Table.{every, all}
+use Rattle.text.proofs.Table.{at, table_at, each, is_true}
+use Rattle.text.proofs.SameLaws.{same_true}
 use Rattle.words.specs.Words.{FUNCTION_RESERVED, KEYWORDS, MACROS, MODULE_RESERVED, RULE_NAMES, BOOLEANS, RULE_WORDS, UINT_TYPES, BUILTIN_ALIASES, BOOL, TYPE_NAMES}
 use Rattle.words.specs.Layout.{tables, entries, letters, slot_of, Hash, hashes}
 use Rattle.words.specs.Lies.{Lies, Only, AtMost}
-use Rattle.words.specs.Right.{Says}
+use Rattle.words.proofs.Right.{Says}
 use Rattle.words.specs.declared.Found.TheVariants.{Plain}
 use Rattle.words.proofs.Constants.{starts, sizes, bases, counts, longest, slots, function_reserved_slots, keywords_slots, macros_slots, module_reserved_slots, rule_words_slots}
 

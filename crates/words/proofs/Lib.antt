@@ -1,2 +1,4 @@
 pub mod Constants
 pub mod Laws
+pub mod Members
+pub mod Right

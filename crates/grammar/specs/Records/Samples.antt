@@ -1,5 +1,5 @@
 -- Drafts and their records, from the text to the six numbers of each record, by computation: one of each kind of type, pattern, call, expression and
--- match. The drafts that the paper marks ● stand in cases/Known.antt.
+-- match. The drafts that the paper marks ● stand in Cases/Known.antt.
 -- Assumes nothing.
 use Rattle.std.specs.Prelude.{List, [], ◌∷◌, map, ◌≡◌, refl, ℕ, drop}
 use Rattle.std.proofs.Math.Option.{Option, none, some}

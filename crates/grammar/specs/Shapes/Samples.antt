@@ -1,5 +1,5 @@
 -- Sentences of document 01, "Well-shaped drafts", as classes of tokens, and what `shape_of` gives of each, by computation. Places are numbers of
--- tokens here. The drafts that the paper marks ● stand in cases/Known.antt.
+-- tokens here. The drafts that the paper marks ● stand in Cases/Known.antt.
 -- Assumes nothing.
 use Rattle.std.specs.Prelude.{◌≡◌, refl, Bool, true, false, List, [], ◌∷◌, ◌++◌, map, ℕ}
 use Rattle.text.specs.Lists.{all}

@@ -1,6 +1,6 @@
 -- What the class says of a token.
 -- Assumes nothing.
-use Rattle.lexer.specs.ClassDrafts.{class-law}
+use Rattle.lexer.proofs.ClassDrafts.{class-law}
 use Rattle.lexer.proofs.class.Goals as goal
 
 pub returns-clause-law : goal.returns-clause-law

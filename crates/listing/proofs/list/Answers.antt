@@ -2,7 +2,7 @@
 -- Assumes nothing.
 use Rattle.std.proofs.Common.{sym, arith}
 use lib.Seq.{length-take-le}
-use Rattle.reader.specs.Fits.{used-within}
+use Rattle.reader.proofs.Fits.{used-within}
 use Rattle.listing.proofs.list.Goals as goal
 
 pub slice_bounds-lines-end : goal.slice_bounds-lines-end

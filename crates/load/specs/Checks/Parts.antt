@@ -8,7 +8,8 @@ use Rattle.std.proofs.Math.Seq.{take-nil}
 use Rattle.text.specs.Lists.{Some, here, there}
 use Rattle.own.specs.Tree.{Rec}
 use Rattle.own.specs.Flat.{blank, row, head_children, children}
-use Rattle.own.specs.Lists.{All, nil, ◌&◌, all_from, all_take, all_drop}
+use Rattle.own.specs.Lists.{All, nil, ◌&◌}
+use Rattle.own.proofs.Lists.{all_from, all_take, all_drop}
 use Rattle.load.specs.Function.{sizes}
 
 -- A record is one of these.

@@ -1,21 +1,18 @@
--- The automaton of a record's children: that its table is right, by one computation over all shapes and cues.
+-- The automaton of a record's children, and whether its table is right, as one test over all shapes and cues.
 -- Assumes nothing.
-use Rattle.std.specs.Prelude.{Bool, ◌&&◌, List, [], ◌∷◌, ◌++◌, ℕ, suc, ◌+◌, ◌*◌, T, eqb, ltb, get_or}
+use Rattle.std.specs.Prelude.{Bool, ◌&&◌, List, [], ◌∷◌, ◌++◌, ℕ, suc, ◌+◌, ◌*◌, eqb, ltb, get_or}
 use Rattle.std.specs.Bool.{beq}
-use Rattle.text.specs.Lists.{has, all, some, count, span}
-use Rattle.text.specs.Same.{same}
-use Rattle.num.specs.Bound.{is_bound}
-use Rattle.kinds.specs.Shape.{number, fits, Shape, nothing, never}
-use Rattle.kinds.specs.Derive.{blank, dead, then, either, is_mark, is_part, after}
+use Rattle.text.specs.Lists.{all, some, count}
+use Rattle.kinds.specs.Shape.{Shape, nothing, never}
+use Rattle.kinds.specs.Derive.{blank, after}
 use Rattle.kinds.specs.Fields.{plain}
-use Rattle.kinds.specs.Rules.{Form, forms, all_forms}
+use Rattle.kinds.specs.Rules.{all_forms}
 use Rattle.kinds.specs.Rules as rules
-use Rattle.load.specs.Bare.{bare_part, bare_shape}
-use Rattle.load.specs.Children.Tidy.{part_label, label, first, second, equal, joined, chain, within, added, choice, tidy}
+use Rattle.load.specs.Children.Tidy.{equal, tidy}
 use Rattle.load.specs.Children.Table as table
-use Rattle.load.specs.Children.Table.{Reach, form, by, state_count, reaches, states, steps, kind_cues, cue_kinds, cue_lows}
+use Rattle.load.specs.Children.Table.{Reach, form, by, state_count, reaches, states, steps}
 use Rattle.load.specs.Children.Cue.{cues, rep}
-use Rattle.load.specs.Children.Cues.{named, even, even_in}
+use Rattle.load.specs.Children.Cues.{even_in}
 use Rattle.load.specs.Children.Laid.{laid}
 
 -- The entries of a state: the next state by cue, and behind them 1 where a record may end.
@@ -56,8 +53,3 @@ right r =
     && (ltb r.state state_count
     && (beq (blank r.shape) (eqb (entry r.state cues) 1)
     && all (λ c. found (entry r.state c) (tidy (after (rep c) r.shape))) (count cues 0)))
-
--- The table is right: one computation.
-pub table-right : T (all right residuals)
-unfolding right residuals build reached found entry even_in even named kind_cues cue_kinds cue_lows reaches states steps all some has count span number is_bound fits blank dead then either is_mark is_part after forms all_forms bare_part bare_shape laid part_label label first second equal same joined chain within added choice tidy
-table-right = tt

@@ -1,13 +1,11 @@
 -- What the code needs to know of the form of a line: that it has the six fields of a record at least, none of more digits than a half of 64 bits, and
 -- how many bytes a line has.
 -- Assumes nothing.
-use Rattle.std.specs.Prelude.{List, ◌≡◌, refl, ℕ, ◌<◌, ◌≤◌, length}
-use Rattle.std.proofs.Common.{arith}
+use Rattle.std.specs.Prelude.{List, ◌≡◌, ℕ, ◌<◌, ◌≤◌, length}
 use Rattle.lines.specs.Form.{wide}
 use Rattle.lines.specs.Lines.{six_widths}
-use Rattle.load.specs.Form.{Form, older, newer, widths_of}
 use Rattle.load.specs.Listing.Read.{records_in}
-use Rattle.load.specs.Listing.DigitLaws.{Short, six-short, widths-short}
+use Rattle.load.specs.Listing.DigitLaws.{Short}
 
 -- How many fields the record of a line is read from.
 abbrev pub six_fields : ℕ
@@ -23,8 +21,3 @@ pub record LineForm (ws : List ℕ) (step : ℕ) : Type 0 where
 pub record Listed (ws : List ℕ) (step : ℕ) (text : List ℕ) (n : ℕ) : Type 0 where
   pub form : LineForm ws step
   pub many : n ≡ length (records_in ws text)
-
--- Those of a listing.
-pub its-form : (f : Form) → LineForm (widths_of f) (wide (widths_of f))
-its-form older = record { short = six-short; full = omega arith; bytes = refl; some = omega arith }
-its-form newer = record { short = widths-short; full = omega arith; bytes = refl; some = omega arith }

@@ -24,13 +24,13 @@ use Rattle.grammar.specs.Shapes.Shapes.{shapes}
 use Rattle.grammar.specs.Shapes.Tables.{means, table}
 use Rattle.grammar.specs.Records.Records.{arranged, record_items}
 use Rattle.grammar.specs.Records.Faults.{faults, earliest}
-use Rattle.grammar.specs.Spelled.TreeTokens.{length-classes}
+use Rattle.grammar.proofs.Spelled.TreeTokens.{length-classes}
 use Rattle.parse.specs.contracts.Step.{the_type}
 use Rattle.parse.specs.Contract.{Text, classes, Read, Stuck, raw, fault_in, sooner, kept, Stands, Holds, Laid, Info, as_items, Went, Parsed, read, stuck}
 use Rattle.parse.specs.declared.State.{State}
 use Rattle.parse.specs.declared.Step.{Step}
 use Rattle.parse.specs.declared.Step.TheVariants.{Next, Refused}
-use Rattle.text.specs.Sets.{sets-next}
+use Rattle.text.proofs.Sets.{sets-next}
 use Rattle.parse.proofs.Rule.Lists.{joined, sorts-joined, marks-joined, arranged-joined, sizes-joined, words-joined, each-joined, length-words, length-join, raw-join, fault-join, sooner-none, sooner-assoc}
 
 -- the class of a token

@@ -1,8 +1,8 @@
 -- Laws by a test that antt computes over the classes, and past them: no row of grammar's table has a case there.
 -- Assumes nothing.
 use Rattle.std.proofs.Common.{◌≡◌, ℕ, zero, suc, ◌+◌, ◌<◌, ◌≤◌, Bool, true, false, ◌&&◌, T, eqb, ltb, List, [], ◌∷◌, get_or, sym, refl, ◌∙◌, subst, arith, eqb→eq, ltb→lt, ltb-false, ltb-true, eq-eqb, ne_eqb}
-use Rattle.text.specs.Same.{differ}
-use Rattle.text.specs.Table.{first-of, second-of}
+use Rattle.text.proofs.Same.{differ}
+use Rattle.text.proofs.Table.{first-of, second-of}
 use Rattle.text.specs.Lists.{has}
 use Rattle.theory.specs.Grammar.{Case, on, Row, blank, look, row}
 use Rattle.theory.specs.Machine.{choose}

@@ -20,7 +20,7 @@ use Rattle.grammar.specs.Shapes.Shapes.{shapes}
 use Rattle.grammar.specs.Shapes.Tables.{means, table}
 use Rattle.grammar.specs.Records.Records.{head, arranged}
 use Rattle.grammar.specs.Records.Faults.{Fault, faults_at, earliest}
-use Rattle.grammar.specs.Spelled.TreeTokens.{yield-arranged}
+use Rattle.grammar.proofs.Spelled.TreeTokens.{yield-arranged}
 use Rattle.parse.specs.Contract.{Text, classes, Read, Stuck, raw, fault_in, sooner, kept, fault, Stands, Ready, Holds, Put, Info, as_items, as_node, Went, Parsed, read, stuck, reserved, cleaned, Node, countable}
 use Rattle.parse.specs.declared.State.{State}
 use Rattle.parse.specs.declared.Step.{Step}

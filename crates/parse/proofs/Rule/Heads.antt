@@ -3,7 +3,7 @@
 use Rattle.std.proofs.Common.{◌≡◌, ℕ, suc, ◌-◌, ◌*◌, ◌≤◌, Bool, true, false, cond, not, T, eqb, List, [], ◌∷◌, get_or, sym, refl, ap, ◌∙◌, ap₂, arith, ne_eqb}
 use mathlib.Core.Option.{none, some}
 use lib.Seq.{sets}
-use Rattle.text.specs.Table.{not-true}
+use Rattle.text.proofs.Table.{not-true}
 use Rattle.text.specs.Part.{part_of}
 use Rattle.num.specs.Value.{decimal_of, fitted, number_of}
 use Rattle.num.specs.declared.Value.{Value}

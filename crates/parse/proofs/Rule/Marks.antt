@@ -1,8 +1,8 @@
 -- Which tokens are marks of the record above them.
 -- Assumes nothing.
 use Rattle.std.proofs.Common.{◌≡◌, ℕ, suc, ◌-◌, ◌<◌, ◌≤◌, Bool, true, false, cond, not, ◌&&◌, ◌||◌, T, eqb, ltb, List, [], ◌∷◌, sym, refl, ◌∙◌, arith, ltb→lt, ltb-false, ltb-true, eq-eqb, ne_eqb}
-use Rattle.text.specs.Same.{differ}
-use Rattle.text.specs.Table.{first-of, second-of, implied, not-true}
+use Rattle.text.proofs.Same.{differ}
+use Rattle.text.proofs.Table.{first-of, second-of, implied, not-true}
 use Rattle.text.specs.Lists.{has}
 use Rattle.kinds.specs.Families as family
 use Rattle.lexer.specs.Classes as t

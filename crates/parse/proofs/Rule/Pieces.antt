@@ -1,8 +1,8 @@
 -- What rules look at in the pieces of a shape, where pieces stand side by side; and tokens that are marks of every record.
 -- Assumes nothing.
 use Rattle.std.proofs.Common.{◌≡◌, ℕ, suc, ◌+◌, ◌-◌, Bool, true, false, cond, not, ◌||◌, T, eqb, ltb, List, [], ◌∷◌, ◌++◌, refl, ap, ◌∙◌, ap₂, arith, ltb→lt}
-use Rattle.text.specs.Same.{differ}
-use Rattle.text.specs.Table.{second-of, is_true, not-true}
+use Rattle.text.proofs.Same.{differ}
+use Rattle.text.proofs.Table.{second-of, is_true, not-true}
 use Rattle.text.specs.Lists.{has, span, count}
 use Rattle.own.specs.Tree as own
 use Rattle.own.specs.Tree.{Items, mark, sub}

@@ -16,11 +16,11 @@ use Rattle.own.specs.Flat.{blank_tok}
 use Rattle.own.specs.Law.{Sort, sorts}
 use Rattle.text.specs.Widths.{rec_wide}
 use Rattle.own.specs.Words.{rec_then, word_groups}
-use Rattle.own.specs.WordLaws.{place-start, place-stop}
+use Rattle.own.proofs.WordLaws.{place-start, place-stop}
 use Rattle.grammar.specs.Shapes.Tables.{means, table}
 use Rattle.grammar.specs.Records.Records.{Head, head, arranged, first_tok, first_of, text_of, decimal, head_of, form_of, head_for, recorded, record_items}
 use Rattle.grammar.specs.Records.Faults.{faults_at, faults, earliest}
-use Rattle.grammar.specs.Spelled.TreeTokens.{length-classes, yield-records}
+use Rattle.grammar.proofs.Spelled.TreeTokens.{length-classes, yield-records}
 use Rattle.lexer.specs.Classes as t
 use Rattle.parse.specs.Contract.{Text, classes, tok_at, Read, raw, fault_in, sooner, kept, fault, Stands, Moved, Put, Laid, as_items, Went, reserved, Mark, Named, countable, u32_count}
 use Rattle.parse.specs.declared.State.{State}

@@ -8,7 +8,7 @@ use Rattle.own.specs.Arms as arm
 use Rattle.own.specs.Kinds as kind
 use Rattle.kinds.specs.Fields.{counted}
 use Rattle.lexer.specs.Classes as t
-use Rattle.grammar.specs.Spelled.Decisions.{counted-append}
+use Rattle.grammar.proofs.Spelled.Decisions.{counted-append}
 use Rattle.grammar.specs.Shapes.Row.{aMatch}
 use Rattle.grammar.specs.Records.Records.{plain, head_of, first_tok}
 use Rattle.grammar.specs.Records.Faults.{unless, arm_lows, mates, arms_fault, faults_at, earlier, earliest}

@@ -7,13 +7,13 @@ use Rattle.own.specs.Tree.{Tok, Items, mark, sub, Node, node, kids, partner, can
 use Rattle.own.specs.Law.{Sort, word, child, sorts}
 use Rattle.text.specs.Widths.{rec_wide}
 use Rattle.own.specs.Words.{rec_then, sizes, word_groups}
-use Rattle.own.specs.Partners.{by-partners}
+use Rattle.own.proofs.Partners.{by-partners}
 use Rattle.own.specs.Kinds as kind
 use Rattle.grammar.specs.Records.Faults.{arm_lows}
 use Rattle.parse.specs.Contract.{Turned}
 use Rattle.parse.specs.Infos.{Armed, pair_arm, order_from, order_kind, first_node, Arranged, exchanged, stayed}
 use Rattle.parse.specs.Orders as order
-use Rattle.text.specs.Sets.{sets-append}
+use Rattle.text.proofs.Sets.{sets-append}
 use Rattle.parse.proofs.Rule.Lists.{joined, groups-joined, sizes-joined, length-words}
 use Rattle.parse.proofs.arms.Laws.{Means, no_arm, one_arm, enum_arms, two_arms, more_arms, both_sorts, order-means, pair-range}
 

@@ -1,7 +1,7 @@
 -- The constants of src/choice.rt say what grammar's table and the lists of names say, class by class.
 -- Assumes nothing.
 use Rattle.std.proofs.Common.{◌≡◌, ℕ, zero, suc, ◌<◌, ◌≤◌, Bool, true, false, T, eqb, ltb, List, [], ◌∷◌, length, get_or, sym, refl, arith, eqb→eq, ltb→lt, ltb-false, ltb-true}
-use Rattle.text.specs.Table.{table_at, first-of, second-of}
+use Rattle.text.proofs.Table.{table_at, first-of, second-of}
 use Rattle.text.specs.Lists.{has}
 use Rattle.lexer.specs.Classes as t
 use Rattle.theory.specs.Grammar.{look, row}

@@ -2,7 +2,7 @@
 -- Assumes nothing.
 use Rattle.std.proofs.Common.{◌≡◌, ℕ, Bool, true, false, not, ◌||◌, T, eqb, ltb, List, [], ◌∷◌, sym, refl, ap, ◌∙◌, eqb→eq, ltb-false, ltb-true, eq-eqb, ne_eqb}
 use mathlib.Core.Option.{Option, none, some}
-use Rattle.text.specs.Table.{implied}
+use Rattle.text.proofs.Table.{implied}
 use Rattle.theory.specs.Grammar.{Sym, tok, nt, Case, on, look, row, alt}
 use Rattle.theory.specs.Machine.{choose, expand}
 use Rattle.grammar.specs.Shapes.Tables.{table}

@@ -1,7 +1,7 @@
 -- What a `match` on a class returns, against a function of the class: at a key, and where no arm has the class.
 -- Assumes nothing.
 use Rattle.std.proofs.Common.{◌≡◌, ℕ, suc, ◌≤◌, Bool, true, false, ◌||◌, T, eqb, ltb, ◌⊎◌, List, [], ◌∷◌, sym, refl, ap, ◌∙◌, inl, inr, arith, eqb→eq, ltb→lt, ltb-false, ltb-true, ne_eqb}
-use Rattle.text.specs.Table.{first-of, second-of, or_cases}
+use Rattle.text.proofs.Table.{first-of, second-of, or_cases}
 use Rattle.text.specs.Lists.{has}
 use Rattle.grammar.specs.Records.Records.{place_in}
 use Rattle.parse.proofs.Rule.ByClass.{run, sweep, low_all, past_classes}

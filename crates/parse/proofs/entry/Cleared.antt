@@ -2,12 +2,13 @@
 -- Assumes nothing.
 use Rattle.std.proofs.Common.{◌≡◌, ℕ, ◌-◌, ◌*◌, ◌≤◌, Bool, true, false, cond, ltb, List, ◌++◌, length, take, replicate, sym, refl, ap, ◌∙◌, arith, ltb-false}
 use Rattle.text.specs.Answers as paper
-use Rattle.text.specs.Front.{Held, front-cleared}
+use Rattle.text.specs.Front.{Held}
+use Rattle.text.proofs.Front.{front-cleared}
 use Rattle.text.specs.Refusals as refusal
-use Rattle.text.specs.Same.{differ}
+use Rattle.text.proofs.Same.{differ}
 use Rattle.text.specs.Widths.{rec_wide}
 use Rattle.own.specs.Words.{rec_words}
-use Rattle.own.specs.WordLaws.{record-words-length}
+use Rattle.own.proofs.WordLaws.{record-words-length}
 use Rattle.lexer.specs.Buffer.{tokens_in}
 use Rattle.grammar.specs.Entry.{Entry}
 use Rattle.grammar.specs.Answers.Answer.{Reading, unread, read, fitted, content, records_in}

@@ -1,7 +1,7 @@
 -- What the entry's small functions say: whether there are too many tokens, the first state, and what the last one says.
 -- Assumes nothing.
 use Rattle.std.proofs.Common.{◌≡◌, ℕ, ◌*◌, ◌/◌, ◌<◌, ◌≤◌, Bool, true, false, cond, ◌||◌, eqb, ltb, leb, List, [], ◌∷◌, length, sym, refl, ap, ◌∙◌, subst, arith, ltb-false, ltb-true, le-ltb, lt-ltb, eq-eqb, ne_eqb, leb-false}
-use Rattle.text.specs.Same.{differ}
+use Rattle.text.proofs.Same.{differ}
 use Rattle.text.specs.Widths.{tok_wide, rec_wide}
 use Rattle.text.specs.Refusals as refusal
 use Rattle.lexer.specs.Buffer.{tokens_in}

@@ -2,8 +2,8 @@
 -- Assumes nothing.
 use Rattle.std.proofs.Common.{ℕ, Bool, true, false, not, ◌||◌, T, eqb, ◌⊎◌, List, sym, subst, inl, inr, eqb→eq}
 use Rattle.text.specs.Lists.{all, has, span, count}
-use Rattle.text.specs.ListLaws.{all-some, from_some, some-keep}
-use Rattle.text.specs.Table.{first-of, or_cases, not-true}
+use Rattle.text.proofs.ListLaws.{all-some, from_some, some-keep}
+use Rattle.text.proofs.Table.{first-of, or_cases, not-true}
 use Rattle.num.specs.Bound.{is_bound}
 use Rattle.own.specs.Tree.{Node}
 use Rattle.own.specs.Law.{Sort, sorts, Keeps}

@@ -3,32 +3,31 @@
 use Rattle.std.proofs.Common.{◌≡◌, ℕ, zero, suc, ◌+◌, ◌*◌, ◌/◌, ◌<◌, ◌≤◌, Bool, true, false, cond, eqb, ltb, List, [], ◌∷◌, ◌++◌, length, get_or, drop, sym, refl, ap, ◌∙◌, subst, ap₂, arith, ltb-false, ltb-true, le-ltb, lt-ltb}
 use mathlib.Core.Option.{Option, none, some}
 use lib.Seq.{sets, sets-eq}
-use Rattle.own.specs.WordLaws.{record-words-length}
-use Rattle.text.specs.Same.{differ}
+use Rattle.own.proofs.WordLaws.{record-words-length}
 use Rattle.lexer.specs.Lexemes.{Token}
 use Rattle.lexer.specs.Buffer.{tokens_in}
-use Rattle.lexer.specs.Fits.{not-both}
+use Rattle.lexer.proofs.Fits.{not-both}
 use Rattle.lexer.specs.Limits.{no_token}
 use Rattle.theory.specs.Grammar.{nt}
 use Rattle.theory.specs.Ebnf as shape
 use Rattle.theory.specs.Parse.{Found, found, stuck}
 use Rattle.own.specs.Tree.{Tok, Items, Node, Each, Rec, roots, records, concat, classes_of}
 use Rattle.own.specs.Law.{Keeps}
-use Rattle.own.specs.Rules.{each_map}
+use Rattle.own.proofs.Rules.{each_map}
 use Rattle.own.specs.Flat.{blank_tok}
 use Rattle.text.specs.Widths.{tok_wide, rec_wide}
 use Rattle.text.specs.Front.{front, Held}
 use Rattle.text.specs.Answers as paper
 use Rattle.text.specs.Refusals as refusal
 use Rattle.own.specs.Words.{toks, word_groups, rec_words}
-use Rattle.own.specs.WordLaws.{words_are}
+use Rattle.own.proofs.WordLaws.{words_are}
 use Rattle.kinds.specs.Class.{class_of}
 use Rattle.kinds.specs.Spelled.{Spelled}
 use Rattle.grammar.specs.Entry.{Entry, single_function, whole_file, start_nt, records_of}
 use Rattle.grammar.specs.Shapes.WellShaped.{shape_of}
-use Rattle.grammar.specs.Shapes.WellShapedLaws.{reads-shape, reads-too-few, sticks-shape}
-use Rattle.grammar.specs.Spelled.TreeTokens.{length-classes, whole-trees, is_shape}
-use Rattle.grammar.specs.Spelled.RecordLaws.{all-spelled}
+use Rattle.grammar.proofs.Shapes.WellShapedLaws.{reads-shape, reads-too-few, sticks-shape}
+use Rattle.grammar.proofs.Spelled.TreeTokens.{length-classes, whole-trees, is_shape}
+use Rattle.grammar.proofs.Spelled.RecordLaws.{all-spelled}
 use Rattle.grammar.specs.Records.Records.{record_items}
 use Rattle.grammar.specs.Records.Faults.{Fault, faults, earliest, fault_of}
 use Rattle.grammar.specs.Answers.Answer.{toks_of, start_of, trees_of, records_for, Reading, unread, read, faulty, shaped, fitted, records_in}

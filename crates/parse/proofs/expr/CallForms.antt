@@ -1,7 +1,7 @@
 -- Calls: what the pieces of a record say of its head, and the heads of calls, wrappers and enum constructions.
 -- Assumes nothing.
 use Rattle.std.proofs.Common.{◌≡◌, ℕ, suc, ◌+◌, ◌≤◌, Bool, true, false, cond, not, ◌&&◌, ◌||◌, T, eqb, ◌⊎◌, List, [], ◌∷◌, ◌++◌, sym, refl, ap, ◌∙◌, subst, ap₂, inl, inr, arith, eqb→eq, eq-eqb, ne_eqb}
-use Rattle.text.specs.Same.{differ}
+use Rattle.text.proofs.Same.{differ}
 use Rattle.text.specs.Refusals as refusal
 use Rattle.text.specs.Lists.{has}
 use Rattle.num.specs.Value.{fitted, number_of}

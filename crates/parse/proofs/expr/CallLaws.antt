@@ -3,7 +3,7 @@
 use Rattle.std.proofs.Common.{◌≡◌, ℕ, suc, ◌+◌, ◌*◌, ◌%◌, ◌<◌, ◌≤◌, Bool, true, false, cond, ◌||◌, eqb, List, [], ◌∷◌, ◌++◌, length, get_or, sym, refl, ap, ◌∙◌, subst, ap₂, arith, ne_eqb}
 use mathlib.Core.Option.{Option, some}
 use lib.Seq.{sets, length-sets}
-use Rattle.text.specs.Same.{differ}
+use Rattle.text.proofs.Same.{differ}
 use Rattle.num.specs.Value.{decimal_of}
 use Rattle.theory.specs.Grammar.{Sym, tok, nt}
 use Rattle.theory.specs.Machine.{expand}
@@ -32,7 +32,7 @@ use Rattle.parse.specs.declared.Step.{Step}
 use Rattle.parse.specs.declared.Step.TheVariants.{Next}
 use Rattle.parse.proofs.Rule.Amid.{class-at, inside, went, Amid, starts, then_turns, then-went}
 use Rattle.parse.proofs.Rule.Lists.{length-words}
-use Rattle.text.specs.Sets.{sets-next, sets-append}
+use Rattle.text.proofs.Sets.{sets-next, sets-append}
 use Rattle.parse.proofs.Rule.Steps.{number_in, word-went, child-went}
 use Rattle.parse.proofs.Rule.Commas.{AnyN, finish}
 use Rattle.parse.proofs.Rule.Heads.{words_in, place, number_at, first-is}

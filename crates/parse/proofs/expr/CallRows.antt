@@ -4,7 +4,7 @@
 -- Assumes nothing.
 use Rattle.std.proofs.Common.{◌≡◌, ℕ, ◌+◌, ◌<◌, Bool, true, false, cond, not, ◌&&◌, T, eqb, ltb, List, [], ◌∷◌, length, get_or, sym, refl, ap, subst, ap₂, arith, eqb→eq, ltb→lt}
 use mathlib.Core.Option.{some}
-use Rattle.text.specs.Table.{is_true, not-true}
+use Rattle.text.proofs.Table.{is_true, not-true}
 use Rattle.text.specs.Lists.{has}
 use Rattle.kinds.specs.Rules.{wrappers}
 use Rattle.lexer.specs.Classes as t

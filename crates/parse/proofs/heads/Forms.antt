@@ -2,8 +2,8 @@
 -- Assumes nothing.
 use Rattle.std.proofs.Common.{◌≡◌, ℕ, ◌+◌, ◌<◌, ◌≤◌, Bool, true, false, cond, not, ◌&&◌, ◌||◌, T, eqb, ltb, List, [], ◌∷◌, ◌++◌, get_or, sym, refl, ap, ◌∙◌, subst, arith, eqb→eq, ltb→lt, ltb-false, ltb-true, eq-eqb, ne_eqb}
 use mathlib.Core.Option.{some}
-use Rattle.text.specs.Same.{differ}
-use Rattle.text.specs.Table.{first-of, second-of, is_true, implied}
+use Rattle.text.proofs.Same.{differ}
+use Rattle.text.proofs.Table.{first-of, second-of, is_true, implied}
 use Rattle.text.specs.Lists.{has}
 use Rattle.theory.specs.Grammar.{Sym, tok, nt, row, look, alt, pick}
 use Rattle.theory.specs.Machine.{choose, expand}

@@ -2,8 +2,8 @@
 -- Assumes nothing.
 use Rattle.std.proofs.Common.{◌≡◌, ℕ, zero, suc, ◌<◌, ◌≤◌, Bool, true, false, cond, not, ◌||◌, T, eqb, ltb, List, [], ◌∷◌, sym, refl, ap, ◌∙◌, ap₂, arith, ltb-false, ltb-true, ne_eqb}
 use mathlib.Core.Option.{Option, none, some}
-use Rattle.text.specs.Same.{differ}
-use Rattle.text.specs.Table.{is_true, implied}
+use Rattle.text.proofs.Same.{differ}
+use Rattle.text.proofs.Table.{is_true, implied}
 use Rattle.text.specs.Lists.{has}
 use Rattle.theory.specs.Grammar.{Sym, tok, nt, row, look, alt, pick}
 use Rattle.theory.specs.Machine.{choose, expand}

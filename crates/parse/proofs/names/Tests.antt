@@ -2,9 +2,10 @@
 -- Assumes nothing.
 use Rattle.std.proofs.Common.{◌≡◌, ℕ, Bool, true, false, cond, ◌||◌, eqb, List, [], ◌∷◌, length, get_or, sym, refl, arith, eq-eqb, ne_eqb, eqb-true}
 use Rattle.text.specs.Ascii.{ascii, ascii_from}
-use Rattle.text.specs.Same.{same, differ}
+use Rattle.text.specs.Same.{same}
+use Rattle.text.proofs.Same.{differ}
 use Rattle.text.specs.Lists.{has}
-use Rattle.text.specs.SameLaws.{same_length}
+use Rattle.text.proofs.SameLaws.{same_length}
 use Rattle.lexer.specs.Classes as t
 use Rattle.grammar.specs.Records.Records.{plain, pattern_name_head}
 use Rattle.own.specs.Kinds as kind

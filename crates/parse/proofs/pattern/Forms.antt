@@ -4,7 +4,8 @@ use Rattle.std.proofs.Common.{◌≡◌, ℕ, zero, suc, ◌<◌, ◌≤◌, Boo
 use mathlib.Core.Option.{none, some}
 use Rattle.text.specs.Part.{part_of}
 use Rattle.text.specs.Ascii.{ascii}
-use Rattle.text.specs.Same.{same, differ}
+use Rattle.text.specs.Same.{same}
+use Rattle.text.proofs.Same.{differ}
 use Rattle.lexer.specs.Classes as t
 use Rattle.theory.specs.Grammar.{Sym, tok, nt, on, look, row, alt, pick}
 use Rattle.theory.specs.Machine.{choose, expand}

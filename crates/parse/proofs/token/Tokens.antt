@@ -8,7 +8,7 @@ use Rattle.lexer.specs.Class as lexer
 use Rattle.own.specs.Tree.{Tok}
 use Rattle.own.specs.Flat.{blank_tok}
 use Rattle.own.specs.Words.{toks}
-use Rattle.own.specs.WordLaws.{tok-at}
+use Rattle.own.proofs.WordLaws.{tok-at}
 use Rattle.kinds.specs.Class.{class_of}
 use Rattle.parse.specs.Contract.{text, tok_at, Gives, next}
 

@@ -3,7 +3,7 @@
 use Rattle.std.proofs.Common.{◌≡◌, ℕ, suc, ◌+◌, ◌-◌, ◌*◌, ◌<◌, ◌≤◌, List, [], ◌∷◌, ◌++◌, length, take, drop, set, sym, refl, ap, ◌∙◌, append_assoc, arith, length-append, length-take-le, take_at, drop_at}
 use lib.Seq.{sets, sets-eq, length-sets, set_comm}
 use Rattle.text.specs.Widths.{rec_wide}
-use Rattle.text.specs.Sets.{sets-append}
+use Rattle.text.proofs.Sets.{sets-append}
 use Rattle.own.specs.Words.{rec_then}
 use Rattle.parse.specs.Contract.{Halved, Put}
 

@@ -1,6 +1,6 @@
 -- What is handed over is what is promised.
 -- Assumes nothing.
-use Rattle.grammar.specs.Answers.Laws.{promised}
+use Rattle.grammar.proofs.Answers.Laws.{promised}
 use Rattle.reader.proofs.read_file.Goals as goal
 
 pub returns-clause-laws : goal.returns-clause-laws

@@ -1,7 +1,7 @@
 -- Each turn clears one word more.
 -- Assumes nothing.
 use Rattle.std.proofs.Common.{arith}
-use Rattle.text.specs.Clear.{clear-start, clear-more, clear-end}
+use Rattle.text.proofs.ClearLaws.{clear-start, clear-more, clear-end}
 use Rattle.text.proofs.clear_bytes.Goals as goal
 
 pub loop-i-init : goal.loop-i-init

@@ -1,7 +1,7 @@
 -- The loop sets the slice to zeros from the front.
 -- Assumes nothing.
 use Rattle.std.proofs.Common.{length, ◌-◌}
-use Rattle.text.specs.Clear.{Cleared}
+use Rattle.text.proofs.ClearLaws.{Cleared}
 use Rattle.text.proofs.clear_bytes.Given as goal
 
 abbrev pub invariant-loop-i : goal.invariant-loop-i

@@ -1,8 +1,9 @@
 -- From the parent of the record before i from parent to parent, up to the first that reaches over i.
 -- Assumes nothing.
 use Rattle.std.proofs.Common.{arith}
-use Rattle.up.specs.Buffer.{size_in, size-before}
-use Rattle.up.specs.Climb.{less, climbs, resumes, held-before, held-by, held-by-none}
+use Rattle.up.specs.Buffer.{size_in}
+use Rattle.up.proofs.Buffer.{size-before}
+use Rattle.up.proofs.Climb.{less, climbs, resumes, held-before, held-by, held-by-none}
 use Rattle.up.proofs.above.Goals as goal
 
 pub returns-then-tree-w-gt1-clause-is : goal.returns-then-tree-w-gt1-clause-is

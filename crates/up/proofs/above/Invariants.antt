@@ -1,7 +1,7 @@
 -- From the parent of the record before i from parent to parent.
 -- Assumes nothing.
 use Rattle.up.specs.Buffer.{size_in}
-use Rattle.up.specs.Climb.{Climbs}
+use Rattle.up.proofs.Climb.{Climbs}
 use Rattle.up.proofs.above.Given as goal
 
 abbrev pub invariant-loop-p : goal.invariant-loop-p

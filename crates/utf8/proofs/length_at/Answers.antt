@@ -1,7 +1,7 @@
 -- Past the end there is none; a byte up to 127 is one.
 -- Assumes nothing.
 use Rattle.std.proofs.Common.{sym}
-use Rattle.utf8.specs.Sequences.{none-past, ascii-at}
+use Rattle.utf8.proofs.Sequences.{none-past, ascii-at}
 use Rattle.utf8.proofs.length_at.Goals as goal
 
 pub returns-then-i-s : goal.returns-then-i-s

@@ -2,7 +2,7 @@
 -- Assumes nothing.
 use Rattle.std.proofs.Common.{sym, subst}
 use Rattle.utf8.specs.Octets.{Told}
-use Rattle.utf8.specs.Sequences.{told}
+use Rattle.utf8.proofs.Sequences.{told}
 use Rattle.utf8.proofs.sequence.Goals as goal
 
 pub returns-clause-law : goal.returns-clause-law

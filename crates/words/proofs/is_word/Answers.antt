@@ -3,7 +3,7 @@
 use Rattle.std.proofs.Common.{refl, sym, ◌∙◌, ap}
 use Rattle.text.specs.Same.{same}
 use Rattle.text.specs.Ascii.{ascii, ascii_from}
-use Rattle.text.specs.SameLaws.{same_length}
+use Rattle.text.proofs.SameLaws.{same_length}
 use Rattle.words.specs.Layout.{letters}
 use Rattle.words.proofs.Laws.{word-there}
 use Rattle.words.proofs.is_word.Goals as goal

@@ -2,8 +2,8 @@
 -- Assumes nothing.
 use Rattle.std.proofs.Common.{sym, ◌∙◌, ap, arith}
 use Rattle.text.specs.Same.{same}
-use Rattle.text.specs.SameLaws.{same_true}
-use Rattle.words.specs.Right.{is_word, is_plain, past, other}
+use Rattle.text.proofs.SameLaws.{same_true}
+use Rattle.words.proofs.Right.{is_word, is_plain, past, other}
 use Rattle.words.proofs.look_up.Goals as goal
 
 pub returns-then-k-n : goal.returns-then-k-n

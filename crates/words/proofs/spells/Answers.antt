@@ -1,7 +1,7 @@
 -- A turn, and the loop's ends, by what the rests have to do with each other.
 -- Assumes nothing.
 use Rattle.std.proofs.Common.{◌∙◌, arith}
-use Rattle.text.specs.SameLaws.{same_more, same_not, same_end}
+use Rattle.text.proofs.SameLaws.{same_more, same_not, same_end}
 use Rattle.words.proofs.spells.Goals as goal
 
 pub returns-then-p-j : goal.returns-then-p-j

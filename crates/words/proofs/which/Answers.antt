@@ -1,7 +1,7 @@
 -- A part of another length is no word.
 -- Assumes nothing.
 use Rattle.std.proofs.Common.{sym}
-use Rattle.words.specs.Right.{is_plain}
+use Rattle.words.proofs.Right.{is_plain}
 use Rattle.words.proofs.Laws.{too_short, too_long}
 use Rattle.words.proofs.which.Goals as goal
 

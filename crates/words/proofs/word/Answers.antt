@@ -3,7 +3,7 @@
 use borrow.Author.Tests.{le-leb}
 use Rattle.std.proofs.Common.{◌≤◌, sym, arith}
 use Rattle.text.specs.Part.{part_of}
-use Rattle.words.specs.Right.{is_plain}
+use Rattle.words.proofs.Right.{is_plain}
 use Rattle.words.proofs.Laws.{short_part, long_part, part_out}
 use Rattle.words.proofs.word.Goals as goal
 

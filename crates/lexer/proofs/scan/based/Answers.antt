@@ -1,7 +1,7 @@
 -- The class of the byte behind the prefix decides.
 -- Assumes nothing.
 use Rattle.std.proofs.Common.{sym, ◌∙◌, ap, arith}
-use Rattle.text.specs.Same.{differ}
+use Rattle.text.proofs.Same.{differ}
 use Rattle.lexer.specs.Bytes.{byte_class}
 use Rattle.lexer.specs.Bytes as byte
 use Rattle.lexer.specs.declared.Step.TheVariants.{Token}

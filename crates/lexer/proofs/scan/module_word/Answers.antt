@@ -1,7 +1,7 @@
 -- The name is one of jet, witness and param, or a word.
 -- Assumes nothing.
 use Rattle.std.proofs.Common.{sym, ◌∙◌, arith}
-use Rattle.words.specs.Right.{below}
+use Rattle.words.proofs.Right.{below}
 use Rattle.words.specs.Words.{MODULE_RESERVED, words_of}
 use Rattle.lexer.proofs.Names.{no-macro, not-reserved, at-module, module-count}
 use Rattle.lexer.proofs.scan.module_word.Goals as goal

@@ -1,7 +1,7 @@
 -- The word found decides.
 -- Assumes nothing.
 use Rattle.std.proofs.Common.{sym, ◌∙◌, ap, arith}
-use Rattle.words.specs.Right.{below}
+use Rattle.words.proofs.Right.{below}
 use Rattle.words.specs.Words.{KEYWORDS, words_of, word_of}
 use Rattle.lexer.proofs.Names.{sliced, at_plain, at-keyword}
 use Rattle.lexer.proofs.scan.word.Goals as goal

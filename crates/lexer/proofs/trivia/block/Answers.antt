@@ -1,7 +1,7 @@
 -- Each byte is plain or begins a sequence, or two bytes open a comment, close one, or do neither.
 -- Assumes nothing.
 use Rattle.std.proofs.Common.{◌+◌, ◌<◌, length, get_or, refl, sym, ◌∙◌, arith}
-use Rattle.utf8.specs.Parts.{good_start, good-next, sequence-within}
+use Rattle.utf8.proofs.Parts.{good_start, good-next, sequence-within}
 use Rattle.lexer.proofs.Closings.{two-within, two-inside, past-neither, first-neither, place-opens, place-closes, place-last, place-neither, place-never}
 use Rattle.lexer.proofs.Comments.{block-plain, good-one, good-two, good-opens, good-closes, block-next, block-broken, block-whole, block-unclosed}
 use Rattle.lexer.proofs.trivia.block.Goals as goal

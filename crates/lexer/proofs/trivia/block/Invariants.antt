@@ -2,7 +2,7 @@
 -- Assumes nothing.
 use Rattle.std.proofs.Common.{◌≡◌, ◌+◌, ◌-◌, ◌≤◌, length, drop}
 use Rattle.text.specs.Counts.{place_of}
-use Rattle.utf8.specs.Parts.{Good}
+use Rattle.utf8.proofs.Parts.{Good}
 use Rattle.lexer.specs.Lexemes.{closing}
 use Rattle.lexer.proofs.trivia.block.Given as goal
 

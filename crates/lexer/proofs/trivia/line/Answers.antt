@@ -1,7 +1,7 @@
 -- Each byte is plain, ends the line, or begins a sequence.
 -- Assumes nothing.
 use Rattle.std.proofs.Common.{refl, sym, ◌∙◌, arith}
-use Rattle.utf8.specs.Parts.{good_start, good-next, sequence-within}
+use Rattle.utf8.proofs.Parts.{good_start, good-next, sequence-within}
 use Rattle.lexer.proofs.Runs.{run_in, run_out, run-over}
 use Rattle.lexer.proofs.Comments.{past-cr, line_plain, line-ends, line-next, good-one, good-two, line-whole, line-broken}
 use Rattle.lexer.proofs.trivia.line.Goals as goal

@@ -1,7 +1,7 @@
 -- The loop keeps where the line ends, and that sequences stand up to here.
 -- Assumes nothing.
 use Rattle.std.proofs.Common.{◌≡◌, ◌+◌, ◌-◌, ◌≤◌, length}
-use Rattle.utf8.specs.Parts.{Good}
+use Rattle.utf8.proofs.Parts.{Good}
 use Rattle.lexer.specs.Lexemes.{in_line}
 use Rattle.lexer.proofs.Runs.{run_end}
 use Rattle.lexer.proofs.trivia.line.Given as goal

@@ -2,8 +2,8 @@
 -- Assumes nothing.
 use Rattle.std.proofs.Common.{sym, arith}
 use Rattle.lines.specs.Lines.{six_widths}
-use Rattle.load.specs.FormLaws.{form-newer, form-told}
-use Rattle.load.specs.Listing.LineLaws.{form-long}
+use Rattle.load.proofs.FormLaws.{form-newer, form-told}
+use Rattle.load.proofs.Listing.LineLaws.{form-long}
 use Rattle.load.proofs.form.form_of.Goals as goal
 
 pub returns-then-listing-lt-SIX_BYTES : goal.returns-then-listing-lt-SIX_BYTES

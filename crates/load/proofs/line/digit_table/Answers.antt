@@ -4,7 +4,7 @@ use Rattle.std.proofs.Common.{refl}
 use Rattle.text.specs.Ascii.{ascii, ascii_from}
 use Rattle.lines.specs.Hex.{upper_hex}
 use Rattle.load.specs.Listing.Read.{place_in, digit_of}
-use Rattle.load.specs.Listing.DigitLaws.{table-rule}
+use Rattle.load.proofs.Listing.DigitLaws.{table-rule}
 use Rattle.load.proofs.line.digit_table.Goals as goal
 
 pub returns : goal.returns

@@ -1,6 +1,6 @@
 -- The loop keeps that the fields that are left would complete the numbers.
 -- Assumes nothing.
-use Rattle.own.specs.Lists.{all-at}
+use Rattle.own.proofs.Lists.{all-at}
 use Rattle.load.proofs.WriteLaws.{filling-more, filling-end}
 use Rattle.load.proofs.line.values.Goals as goal
 

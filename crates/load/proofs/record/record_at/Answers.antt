@@ -1,7 +1,7 @@
 -- `record_at` meets its contract.
 -- Assumes nothing.
 use Rattle.std.proofs.Common.{refl}
-use Rattle.own.specs.Lists.{all_take}
+use Rattle.own.proofs.Lists.{all_take}
 use Rattle.load.specs.Listing.LineForm.{six_fields}
 use Rattle.load.proofs.RecordLaws.{record-read}
 use Rattle.load.proofs.record.record_at.Goals as goal

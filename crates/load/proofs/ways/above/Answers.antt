@@ -3,7 +3,7 @@
 use Rattle.std.proofs.Common.{arith, ◌∙◌}
 use Rattle.lines.specs.Lines.{widths}
 use Rattle.load.specs.Checks.GivenWays.{sizes_in}
-use Rattle.up.specs.Climb.{less, climbs, resumes, held-before, held-by, held-by-none}
+use Rattle.up.proofs.Climb.{less, climbs, resumes, held-before, held-by, held-by-none}
 use Rattle.load.proofs.ways.above.Goals as goal
 
 pub returns-then-size-gt1 : goal.returns-then-size-gt1

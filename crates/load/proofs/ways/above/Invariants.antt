@@ -1,6 +1,6 @@
 -- From the parent of the record before i from parent to parent.
 -- Assumes nothing.
-use Rattle.up.specs.Climb.{Climbs}
+use Rattle.up.proofs.Climb.{Climbs}
 use Rattle.lines.specs.Lines.{widths}
 use Rattle.load.specs.Checks.GivenWays.{sizes_in}
 use Rattle.load.proofs.ways.above.Given as goal

@@ -1,6 +1,6 @@
 -- The loop keeps that the first records are those of as many lines.
 -- Assumes nothing.
-use Rattle.own.specs.Lists.{all_take}
+use Rattle.own.proofs.Lists.{all_take}
 use Rattle.load.specs.Listing.LineForm.{six_fields}
 use Rattle.load.proofs.WriteLaws.{writing-start, writing-more, writing-end}
 use Rattle.load.proofs.write.records.Goals as goal

@@ -3,7 +3,7 @@
 use Rattle.std.specs.Prelude.{length}
 use Rattle.std.proofs.Common.{arith}
 use Rattle.lexer.specs.Limits.{draft_limits}
-use Rattle.lexer.specs.Fits.{lexed-few}
+use Rattle.lexer.proofs.Fits.{lexed-few}
 use Rattle.reader.proofs.entry.list_counted.Goals as goal
 
 pub list_in-requires-2-clause-room : goal.list_in-requires-2-clause-room

@@ -2,7 +2,7 @@
 -- Assumes nothing.
 use Rattle.std.specs.Prelude.{length}
 use Rattle.std.proofs.Common.{arith}
-use Rattle.reader.specs.Short.{same-records}
+use Rattle.reader.proofs.Short.{same-records}
 use Rattle.reader.proofs.EntryLaws as law
 use Rattle.reader.proofs.entry.list_in.Goals as goal
 

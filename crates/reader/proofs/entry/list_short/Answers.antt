@@ -3,7 +3,7 @@
 use Rattle.std.specs.Prelude.{length, ℕ}
 use Rattle.std.proofs.Common.{arith}
 use lib.ListN.{length-replicate}
-use Rattle.reader.specs.Short.{short-listing}
+use Rattle.reader.proofs.Short.{short-listing}
 use Rattle.reader.proofs.EntryLaws.{whole_is}
 use Rattle.reader.proofs.entry.list_short.Goals as goal
 

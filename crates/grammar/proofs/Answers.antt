@@ -1,0 +1,6 @@
+-- The laws of the reader's answer: when it is which, in which order, and what is written then.
+pub mod Continuations
+pub mod Laws
+pub mod OutcomeLaws
+pub mod Places
+pub mod TokensInOrder

@@ -1,0 +1,12 @@
+pub mod Lists
+pub mod Count
+pub mod FileLaws
+pub mod Homes
+pub mod Laid
+pub mod Merge
+pub mod Owners
+pub mod Partners
+pub mod Places
+pub mod Rules
+pub mod Shape
+pub mod WordLaws

@@ -1,0 +1,10 @@
+pub mod Counts
+pub mod Front
+pub mod Same
+pub mod Table
+pub mod ClearLaws
+pub mod Exactly
+pub mod ListLaws
+pub mod Rest
+pub mod SameLaws
+pub mod Sets
