@@ -1,12 +1,12 @@
 -- The bytes up to 127: the sets of Chars.antt have no others, nor have runs of those, nor words of the rules at the front of a text.
 -- Assumes nothing.
-use Rattle.std.specs.Prelude.{Bool, true, false, ◌&&◌, List, [], ◌∷◌, ◌≡◌, refl, ℕ, zero, suc, ◌+◌, ◌-◌, ◌≤◌, ◌<◌, T, eqb, leb, ltb, length, get_or, drop}
+use Rattle.std.specs.Prelude.{Bool, true, false, ◌&&◌, List, [], ◌∷◌, ◌≡◌, refl, ℕ, zero, suc, ◌+◌, ◌-◌, ◌≤◌, ◌<◌, T, eqb, leb, ltb, length, get_or, take, drop}
 use Rattle.std.proofs.Math.Bool.{and-false}
-use Rattle.std.proofs.Common.{sym, ◌∙◌, ap, subst, arith, leb-true, leb-false, ltb-true, ltb-false, eqb-true, leb→le, get_or-drop}
-use Rattle.std.proofs.lemmas.Bool.{lt-leb}
+use Rattle.std.proofs.Common.{sym, ◌∙◌, ap, subst, arith, leb-true, leb-false, ltb-true, ltb-false, eqb-true, leb→le, get_or-drop, get_or-take}
+use Rattle.std.proofs.lemmas.Bool.{le-leb, lt-leb}
 use Rattle.text.proofs.Same.{differ}
 use Rattle.text.proofs.Table.{first-of, second-of}
-use Rattle.lexer.specs.Chars.{Range, among, run, begins}
+use Rattle.lexer.specs.Chars.{Range, among, plain_bytes, run, begins}
 use Rattle.lexer.proofs.Trials.{both_left, both_right}
 
 -- the first n bytes of a text are up to 127
@@ -52,6 +52,17 @@ run-passes p (b ∷ r) j h = go (p b) refl j h (run-passes p r)
     go true e (suc j) h ih = ih j (omega arith)
     go false e j h ih = absurd (omega arith)
 
+-- and what it stops at does not
+pub run-stops : (p : ℕ → Bool) (r : List ℕ) → run p r < length r → p (get_or r (run p r) 0) ≡ false
+unfolding run
+run-stops p [] h = absurd (omega arith)
+run-stops p (b ∷ r) h = go (p b) refl h (run-stops p r)
+  where
+    go : (t : Bool) → p b ≡ t → elim t [ true ↦ suc (run p r) | false ↦ 0 ] < suc (length r) → (run p r < length r → p (get_or r (run p r) 0) ≡ false)
+        → p (get_or (b ∷ r) (elim t [ true ↦ suc (run p r) | false ↦ 0 ]) 0) ≡ false
+    go true e h ih = ih (omega arith)
+    go false e h ih = e
+
 pub run-plain : (p : ℕ → Bool) (r : List ℕ) → Low p → Plain (run p r) r
 run-plain p r l j h = l (get_or r j 0) (run-passes p r j h)
 
@@ -81,3 +92,25 @@ plain_then n m r a b j h = go (ltb j n) refl
         let l = ltb-false j n e in
         let z : n + (j - n) ≡ j = omega arith in
         subst (λ x. x ≤ 127) (get_or-drop n r (j - n) 0 ∙ ap (λ i. get_or r i 0) z) (b (j - n) (omega arith))
+
+-- ---- the range of plain bytes
+
+-- a byte that fails its test
+over_plain : (b : ℕ) → among plain_bytes b ≡ false → 127 < b
+unfolding among plain_bytes
+over_plain b e = go (leb b 127) refl
+  where
+    go : (u : Bool) → leb b 127 ≡ u → 127 < b
+    go true q = differ (sym e ∙ simp (le-leb 0 b (omega arith), q))
+    go false q = leb-false _ _ q
+
+low-plain : Low (among plain_bytes)
+unfolding plain_bytes
+low-plain = low-among plain_bytes tt
+
+module _ (r : List ℕ) where
+  -- the bytes of a comment up to the first over 127
+  comment-plain : (n m : ℕ) → m ≡ run (among plain_bytes) (take n r) → m ≤ n → Plain m r
+  comment-plain n m e h j l =
+      subst (λ x. x ≤ 127) (get_or-take n r j 0 (omega arith))
+      (run-plain (among plain_bytes) (take n r) low-plain j (omega arith))

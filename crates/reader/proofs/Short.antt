@@ -100,3 +100,21 @@ same-records draft n tw rw rw' e h h' =
 pub short-listing : (draft : List ℕ) (tw : ℕ) → length draft ≤ tw / tok_wide → tw ≤ tok_wide * draft_limits.tokens → listing whole_file draft_limits draft tw (rec_wide * records_most) ≡ listing_of draft
 unfolding room
 short-listing draft tw h k = same-tokens draft (length draft) (few-tokens draft) tw (tok_wide * draft_limits.tokens) (rec_wide * records_most) (omega arith) (omega arith)
+
+-- And by buffers for as many tokens as it has bytes, and the records of as many.
+pub short-buffers : (draft : List ℕ) (k : ℕ) → length draft ≤ k → k ≤ draft_limits.tokens
+    → listing whole_file draft_limits draft (tok_wide * k) (rec_wide * (over whole_file + k)) ≡ listing whole_file draft_limits draft (tok_wide * draft_limits.tokens) (rec_wide * records_most)
+unfolding listing answer records_read room
+short-buffers draft k short h =
+    let n = few-tokens draft in
+    let fit : length (tokens_of (lexemes draft)) ≤ k = omega (arith, n, short) in
+    let en = whole_file in
+    let bytes = draft_limits.bytes in
+    let most = draft_limits.tokens in
+    let here = rec_wide * (over en + k) in
+    let few = reading en (limits_of bytes k) draft (tok_wide * k) in
+    let a : reading en draft_limits draft (tok_wide * k) ≡ few = same-reading draft k fit en bytes most (tok_wide * k) k (tok_wide * k) (omega (arith, h)) (omega arith) in
+    let b : reading en draft_limits draft (tok_wide * most) ≡ few = same-reading draft k fit en bytes most (tok_wide * most) k (tok_wide * k) (omega (arith, h)) (omega arith) in
+    let c : fitted (rec_wide * records_most) few ≡ fitted here few = records-fit draft k fit en bytes (rec_wide * records_most) here (omega (arith, h)) (omega arith) few refl in
+    ap (λ (r : Reading). lines (listed (fitted here r) (records_in r))) a
+    ∙ sym (ap (λ (r : Reading). lines (listed (fitted (rec_wide * records_most) r) (records_in r))) b ∙ ap (λ (x : Answer). lines (listed x (records_in few))) c)
