@@ -6,7 +6,7 @@
 
 The kinds table is read from the specs (Rules and Groups of crate kinds) by tools/antt_terms.py. Its forms without their marks are shapes; what is left
 of a tidy shape after a child is a shape again, and there are few of them. Shapes that the same children lead to an end are one state.
-Nothing here needs trust: antt computes on the result that it is right (specs/Children/Automaton.antt, Begins.antt).
+Nothing here needs trust: antt computes on the result that it is right (proofs/Children/Automaton.antt, Begins.antt).
 """
 import os
 import sys
@@ -212,7 +212,7 @@ def spec():
 
     flat = [x for row in ROWS for x in row]
     return "\n".join([
-        "-- Made by tools/children.py: the automaton of a record's children, and the states that it begins in. Automaton.antt and Begins.antt compute that\n"
+        "-- Made by tools/children.py: the automaton of a record's children, and the states that it begins in. proofs/Children/Automaton.antt and Begins.antt compute that\n"
         "-- both are right.\n-- Assumes nothing.\nuse Rattle.std.specs.Prelude.{List, [], ◌∷◌, ℕ}\n",
         "-- How a shape is reached: the dead one; the form of this number; what is left of that shape after a child of that cue.\n"
         "pub data Reach : Type 0 where\n  dead : Reach\n  form : ℕ → Reach\n  by : ℕ → ℕ → Reach\n",
@@ -234,7 +234,7 @@ def code():
         return f'pub(crate) const {name}: [u8; {length}] = *b"\\\n    ' + "\\\n    ".join(rows) + '";\n'
 
     return ("// The automaton of a record's children, and the states that it begins in, by kind. Made by tools/children.py from the kinds table; the proofs\n"
-            "// compute that both are right (specs/Children). They are held once and lent on.\n"
+            "// compute that both are right (proofs/Children). They are held once and lent on.\n"
             "// How many states there are, and how many entries each has: the next state by cue, and then 1 where a record may end.\n"
             f"pub(crate) const STATES: usize = {COUNT};\n\npub(crate) const COLUMNS: usize = {len(CUES) + 1};\n\n"
             + entries("STEPS", "STATES * COLUMNS", [x for row in ROWS for x in row], len(CUES) + 1)

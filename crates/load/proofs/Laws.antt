@@ -25,15 +25,7 @@ use Rattle.load.proofs.FunctionTest.{whole-exactly}
 use Rattle.load.specs.Load.{ways_right, is_right, load_as, load_of, contents, words_of}
 use Rattle.load.proofs.FormLaws.{some-fields, form-newer, form-is, rows-back, rows-many, rows-right, rows-are}
 use Rattle.load.specs.Promised.{Lines, Lists, Loads, no_form, a_bad_line, not_whole, no_room, loaded}
-
--- A listing of n records that form a whole function or program, for which there is room.
-pub record Taken (text : List ℕ) (room n : ℕ) : Type 0 where
-  pub form : Form
-  pub its : List Rec
-  pub lists : Lists form text its
-  pub whole : Whole its
-  pub fits : rec_wide * length its ≤ room
-  pub number : n ≡ length its
+use Rattle.load.specs.Taken.{Taken}
 
 abbrev Accepts : List ℕ → ℕ → Answer → Type 0
 Accepts text room (accepted m n) = Taken text room n

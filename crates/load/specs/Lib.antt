@@ -8,5 +8,6 @@ pub mod Form
 pub mod Load
 pub mod Meant
 pub mod Promised
+pub mod Taken
 pub mod Led
 pub mod Known

@@ -1,6 +1,6 @@
 -- What is promised of loading a listing: the answer and every word of the buffer, row by row in the requests' own terms, without the functions that
 -- read lines and test records.
--- Assumes nothing: these are definitions. That `load_of` and `words_of` keep the promise stands in Laws.antt.
+-- Assumes nothing: these are definitions. That `load_of` and `words_of` keep the promise stands in proofs/Laws.antt.
 use Rattle.std.specs.Prelude.{List, ◌++◌, ◌≡◌, ℕ, suc, ◌-◌, ◌*◌, ◌<◌, ◌≤◌, length, replicate}
 use Rattle.text.specs.Answers.{Answer, accepted, refused}
 use Rattle.text.specs.Refusals as refusal

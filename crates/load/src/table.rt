@@ -1,5 +1,5 @@
 // The automaton of a record's children, and the states that it begins in, by kind. Made by tools/children.py from the kinds table; the proofs
-// compute that both are right (specs/Children). They are held once and lent on.
+// compute that both are right (proofs/Children). They are held once and lent on.
 // How many states there are, and how many entries each has: the next state by cue, and then 1 where a record may end.
 pub(crate) const STATES: usize = 42;
 

@@ -26,5 +26,5 @@ pub record FileOwnership (R : Rule) (P : List Sort → Type 0) (len : ℕ) (ts :
   pub ordered : Ordered 0 len (children rs 0)
   -- "there may be one record more than tokens"
   pub few : length rs ≤ 1 + length ts
-  -- "all records but 41": the others are owned as law 3 says. Record j of them is record j + 1 of all (FileLaws.antt).
+  -- "all records but 41": the others are owned as law 3 says. Record j of them is record j + 1 of all (proofs/FileLaws.antt).
   pub others : Ownership R ts (drop 1 rs)

@@ -4,7 +4,8 @@ use Rattle.std.specs.Prelude.{List, ◌↔◌, ◌≡◌, refl, ℕ}
 use Rattle.std.proofs.Common.{sym, ◌∙◌, arith}
 use Rattle.text.specs.Answers.{Answer, accepted, refused, values}
 use Rattle.load.specs.Load.{load_of}
-use Rattle.load.proofs.Laws.{Taken, accepted-taken, some-record}
+use Rattle.load.specs.Taken.{Taken}
+use Rattle.load.proofs.Laws.{accepted-taken, some-record}
 use Rattle.reader.specs.Loading.{records_loaded, Refusing}
 
 -- A function or program has a record,

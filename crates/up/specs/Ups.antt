@@ -1,5 +1,5 @@
 -- The way up of the tree (document 02, order 7): "how many records back its parent begins, 0 for the top", for each record in the order handed over, so
--- that it is right also under arms that were exchanged. Parents.antt says that these are the ways up that are found through sizes.
+-- that it is right also under arms that were exchanged. proofs/Parents.antt says that these are the ways up that are found through sizes.
 -- Assumes nothing: these are definitions.
 use Rattle.std.specs.Prelude.{List, [], ◌∷◌, ◌++◌, ℕ, suc, ◌+◌, length}
 use Rattle.own.specs.Tree.{Items, none, mark, sub, Node, roots, turned, arrange}

@@ -1,5 +1,5 @@
 -- The way up (document 02, order 7): "Give every record a seventh word: how many records back its parent begins, 0 for the top and on a refusal's
--- line." It is found through the sizes of the records; Ups.antt has that of trees, and Parents.antt proves that both agree.
+-- line." It is found through the sizes of the records; Ups.antt has that of trees, and proofs/Parents.antt proves that both agree.
 -- Assumes nothing: these are definitions.
 use Rattle.std.specs.Prelude.{cond, List, [], ◌∷◌, ◌++◌, ℕ, zero, suc, ◌+◌, ◌-◌, ◌*◌, ◌/◌, ltb, length, get_or, take, drop}
 use Rattle.text.specs.Widths.{rec_wide}

@@ -1,7 +1,7 @@
 -- When the reader accepts and when it refuses, row by row in document 01's order of refusals: "Refusal 1 is tested first; of 2 to 5 the earliest
 -- place wins; then 6, 7 and 8 in turn, each over all tokens; of 9 to 14 the earliest place; last 15." 19 is "among 9 to 14" and 21 "among 2 to 5"
 -- (document 02, orders 2 and 6).
--- Assumes nothing: these are definitions. That `answer` is just that stands in OutcomeLaws.antt.
+-- Assumes nothing: these are definitions. That `answer` is just that stands in proofs/Answers/OutcomeLaws.antt.
 use Rattle.std.specs.Prelude.{List, ◌++◌, map, ◌≡◌, ℕ, suc, ◌-◌, ◌*◌, ◌≤◌, ◌<◌, length, get_or, take, replicate}
 use Rattle.std.proofs.Math.Option.{none, some}
 use Rattle.theory.specs.Ebnf.{Items, yield}

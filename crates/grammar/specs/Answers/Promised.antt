@@ -1,6 +1,6 @@
 -- What is promised of a reading, whichever entry reads: the answer, every word of both buffers, and the ownership of what is handed over. All of it
 -- is said in the terms of the papers, without the function `answer` and its tables.
--- Assumes nothing: these are definitions. That `answer` and the buffers keep the promise stands in Laws.antt.
+-- Assumes nothing: these are definitions. That `answer` and the buffers keep the promise stands in proofs/Answers/Laws.antt.
 use Rattle.std.specs.Prelude.{List, ◌↔◌, ◌≡◌, ℕ, length, replicate}
 use Rattle.text.specs.Answers.{Answer, accepted, refused}
 use Rattle.text.specs.Refusals as refusal

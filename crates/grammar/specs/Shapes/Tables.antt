@@ -1,6 +1,6 @@
 -- Made by tools/grammar.py from Shapes.antt: do not edit; `tools/grammar.py --check` says whether it is up to date.
 -- The productions of the shapes with their LL(1) table, and what each nonterminal stands for. The script needs no trust: the
--- checks in WellShapedLaws.antt are computed on what stands here.
+-- checks in proofs/Shapes/WellShapedLaws.antt are computed on what stands here.
 -- Assumes nothing.
 use Rattle.std.specs.Prelude.{true, false, List, [], ◌∷◌}
 use Rattle.theory.specs.Grammar.{tok, nt, on, Row}

@@ -1,6 +1,6 @@
 -- Well-shaped drafts, over the classes of their tokens: what a shape tree is, and the function that finds it (document 01, "Well-shaped drafts" and row
 -- 8 of "What the reader hands over"; limits and refusals 9 to 14, and so 19, are left aside, as it says; "8 now speaks of well-shaped files at the new
--- entry", document 02, order 3). The laws of both stand in WellShapedLaws.antt.
+-- entry", document 02, order 3). The laws of both stand in proofs/Shapes/WellShapedLaws.antt.
 -- Assumes nothing.
 use Rattle.std.specs.Prelude.{List, [], ◌∷◌, ◌≡◌, ℕ}
 use Rattle.theory.specs.Ebnf.{Items, yield, Match}

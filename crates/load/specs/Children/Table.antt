@@ -1,4 +1,4 @@
--- Made by tools/children.py: the automaton of a record's children, and the states that it begins in. Automaton.antt and Begins.antt compute that
+-- Made by tools/children.py: the automaton of a record's children, and the states that it begins in. proofs/Children/Automaton.antt and Begins.antt compute that
 -- both are right.
 -- Assumes nothing.
 use Rattle.std.specs.Prelude.{List, [], ◌∷◌, ℕ}
