@@ -231,10 +231,10 @@ def spec():
 def code():
     def entries(name, length, xs, width):
         rows = ["".join(f"\\x{x:02x}" for x in xs[i:i + width]) for i in range(0, len(xs), width)]
-        return f'pub(crate) const {name}: [u8; {length}] = *b"\\\n    ' + "\\\n    ".join(rows) + '";\n'
+        return f'pub(crate) static {name}: [u8; {length}] = *b"\\\n    ' + "\\\n    ".join(rows) + '";\n'
 
     return ("// The automaton of a record's children, and the states that it begins in, by kind. Made by tools/children.py from the kinds table; the proofs\n"
-            "// compute that both are right (proofs/Children). They are held once and lent on.\n"
+            "// compute that both are right (proofs/Children).\n"
             "// How many states there are, and how many entries each has: the next state by cue, and then 1 where a record may end.\n"
             f"pub(crate) const STATES: usize = {COUNT};\n\npub(crate) const COLUMNS: usize = {len(CUES) + 1};\n\n"
             + entries("STEPS", "STATES * COLUMNS", [x for row in ROWS for x in row], len(CUES) + 1)

@@ -14,7 +14,7 @@ table = [digits.find(chr(byte)) if chr(byte) in digits else len(digits) for byte
 rows = ["".join(f"\\x{v:02x}" for v in table[i:i + 32]) for i in range(0, 256, 32)]
 text = ("// The value of each of the 256 byte values as an upper-case hexadecimal digit, 16 for the rest, 32 to a line. Made by tools/digits.py.\n"
         "pub(crate) const BYTE_VALUES: usize = 256;\n\n"
-        'pub(crate) const DIGITS: [u8; BYTE_VALUES] = *b"\\\n    ' + "\\\n    ".join(rows) + '";\n')
+        'pub(crate) static DIGITS: [u8; BYTE_VALUES] = *b"\\\n    ' + "\\\n    ".join(rows) + '";\n')
 path = root / "src/digits.rt"
 if "--check" in sys.argv[1:]:
     if not path.exists() or path.read_text() != text:

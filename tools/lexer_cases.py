@@ -11,7 +11,6 @@ import itertools, pathlib, re, sys
 
 BYTES, TOKENS, BRACKETS, MATCHES = 16384, 2048, 48, 8
 WORDS = 3  # of a token in the buffer
-INPUT = 65536  # bytes that the program reads
 # The refusals by number, rows 1 to 7, and 21 of document 02.
 TOO_LONG, NOT_ASCII, NO_LEXEME, UNCLOSED, SIMC, TOO_MANY, TOO_DEEP = range(1, 8)
 NOT_UTF8 = 21
@@ -402,7 +401,6 @@ def write_cases():
 
 def main():
     cases = write_cases()
-    assert sum(len(line) + 1 for line in cases.lines) <= INPUT, "more cases than the program reads"
     folder = pathlib.Path(__file__).resolve().parent.parent / "crates/lexer_cases"
     bad = False
     for name, lines in (("stdin", cases.lines), ("stdout", cases.answers)):

@@ -66,7 +66,7 @@ def all_functions():
 def result_shaped():
     """1a: enums of two cases of which one or both hold a value."""
     for path, text in sources():
-        for name, body in re.findall(r"enum (\w+)[^{]*\{\n(.*?)\n\}", text, re.S):
+        for name, body in re.findall(r"^(?:pub(?:\([a-z]+\))? )?enum (\w+)[^{]*\{\n(.*?)\n\}", text, re.S | re.M):
             body = "\n".join(bare(l) for l in body.split("\n"))
             cases = re.findall(r"^    (\w+)", body, re.M)
             if len(cases) == 2 and re.search(r"[({]", body):

@@ -77,19 +77,22 @@ def main():
     lengths = [len(w) for w in entries]
     longest = [max(map(len, t)) for t in tables]
 
-    def array(name, kind, values):
+    def array(name, kind, values, count=None):
         """A few numbers in one line, bytes as a byte string; `rt fmt` lays out the others."""
-        head = f"pub const {name}: [{kind}; {len(values)}] = "
+        head = f"pub const {name}: [{kind}; {count or len(values)}] = "
         if len(values) >= 14 and kind == "u8":
             rows = ["".join(f"\\x{v:02x}" for v in values[i:i + 32]) for i in range(0, len(values), 32)]
             return head + '*b"\\\n    ' + "\\\n    ".join(rows) + '";\n'
         return head + "[" + ", ".join(map(str, values)) + "];\n"
 
     code = "// The words in one constant byte string, and where each lies. Made by tools/words.py from the lists of specs/Words.antt.\n"
-    code += f'pub const LETTERS: [u8; {len(letters)}] =\n    *b"{letters}";\n\n'
-    code += "// Where each entry starts in LETTERS, and its length.\n" + array("STARTS", "u16", starts) + "\n" + array("SIZES", "u8", lengths) + "\n"
-    code += "// The first entry of each table, and how many words it has.\n" + array("BASES", "u8", bases) + "\n" + array("COUNTS", "u8", [len(t) for t in tables]) + "\n"
-    code += "// How many bytes the longest word of each table has.\n" + array("LONGEST", "u8", longest) + "\n"
+    code += "// How many tables, entries and letters there are, and how many bytes the shortest and the longest word has.\n"
+    for name, value in (("TABLES", len(tables)), ("ENTRIES", len(entries)), ("LETTERS", len(letters)), ("FEWEST", min(lengths)), ("MOST", max(lengths))):
+        code += f"pub const {name}: usize = {value};\n\n"
+    code += f'pub const BYTES: [u8; LETTERS] =\n    *b"{letters}";\n\n'
+    code += "// Where each entry starts in BYTES, and its length.\n" + array("STARTS", "u16", starts, "ENTRIES") + "\n" + array("SIZES", "u8", lengths, "ENTRIES") + "\n"
+    code += "// The first entry of each table, and how many words it has.\n" + array("BASES", "u8", bases, "TABLES") + "\n" + array("COUNTS", "u8", [len(t) for t in tables], "TABLES") + "\n"
+    code += "// How many bytes the longest word of each table has.\n" + array("LONGEST", "u8", longest, "TABLES") + "\n"
     code += "// The slots of each table: the word whose length and bytes lead there, 255 (ff) where there is none.\n"
     code += "\n".join(array(f"{name}_SLOTS", "u8", row) for name, row in zip(names, slots))
 

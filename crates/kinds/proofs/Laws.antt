@@ -94,7 +94,7 @@ module _ {f : ℕ → ℕ} (t : Table f) where
   abbrev pub at_key : ℕ → ℕ → Bool
   at_key v k = ltb k (length t.entries) && eqb v (get_or t.entries k 0)
 
-  at_right : (v k : ℕ) → T (at_key v k) → v ≡ f k
+  pub at_right : (v k : ℕ) → T (at_key v k) → v ≡ f k
   at_right v k h =
       let a = ltb k (length t.entries) in
       let b = eqb v (get_or t.entries k 0) in

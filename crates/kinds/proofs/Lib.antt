@@ -1,4 +1,5 @@
 pub mod Laws
+pub mod Named
 pub mod Beyond
 pub mod Tables
 pub mod Decide

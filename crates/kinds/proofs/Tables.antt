@@ -1,11 +1,11 @@
 -- The tables of the four helpers, each against its definition by one computed test, and the two decisions against the rules, by one
 -- computed test over all kinds and classes, and one over all kinds and child kinds.
 -- Assumes nothing.
-use mathlib.Core.Bool.{not}
+use mathlib.Core.Bool.{false, not}
 use mathlib.Core.List.{List, [], ◌∷◌}
-use mathlib.Core.Path.{◌≡◌}
+use mathlib.Core.Path.{◌≡◌, sym, ap, ◌∙◌}
 use Prim.Native.Nat.{ℕ}
-use lib.Bits.{bit_and}
+use lib.Bits.{bit_and, and_zero_l}
 use lib.Dec.{T, eqb}
 use Rattle.text.specs.Table.{every}
 use Rattle.text.specs.Lists.{some, has, count, span}
@@ -93,3 +93,12 @@ owns-right = met marks_table group_table may_own tt no-owner no-class
 pub holds-right : (kind kid : ℕ) → not (eqb (bit_and (part_set kind) (category_set kid)) 0) ≡ may_hold kind kid
 unfolding may_hold has in_forms gather kinds_of forms_for forms all_forms count span
 holds-right = met parts_table category_table may_hold tt no-holder no-child
+
+-- Nothing meets an empty set.
+pub owns-none : (kind class : ℕ) → mark_set kind ≡ 0 → false ≡ may_own kind class
+owns-none kind class e =
+    ap (λ (x : ℕ). not (eqb x 0)) (sym (ap (λ (m : ℕ). bit_and m (group_set class)) e ∙ and_zero_l (group_set class))) ∙ owns-right kind class
+
+pub holds-none : (kind kid : ℕ) → part_set kind ≡ 0 → false ≡ may_hold kind kid
+holds-none kind kid e =
+    ap (λ (x : ℕ). not (eqb x 0)) (sym (ap (λ (m : ℕ). bit_and m (category_set kid)) e ∙ and_zero_l (category_set kid))) ∙ holds-right kind kid

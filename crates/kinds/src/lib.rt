@@ -1,13 +1,14 @@
 // What a record of a kind may own and hold (document 01, the kinds table): decisions over the record kinds and over ranges of
-// token classes and child kinds. A set of groups is a word, one bit a group; what the rules say of each kind is computed in specs/.
+// token classes. A set of groups is a word, one bit a group; what the rules say of each kind is computed in specs/.
 #![tactic(auto)]
 
 ghost use Rattle.std.specs.Prelude.{◌≡◌};
+ghost use Rattle.own.specs.Numbers.{kind_number};
 ghost use Rattle.kinds.specs.Decide.{may_own, may_hold};
 ghost use Rattle.kinds.specs.Groups.{mark_set, group_set, part_set, category_set};
 
 use lexer::classes as class;
-use own::kind;
+use own::kind::Kind;
 
 mod mark;
 pub mod part;
@@ -59,43 +60,43 @@ fn group(class: u32) -> u64
 }
 
 // The groups of the marks of a record kind.
-fn marks(kind: u32) -> u64
-    ensures { result ≡ mark_set kind }
+fn marks(kind: Kind) -> u64
+    ensures { result ≡ mark_set (kind_number kind) }
 {
     match kind {
-        kind::FUNCTION => mark::FUNCTION | mark::PARENS | mark::COMMA,
-        kind::NAME => mark::NAMES | mark::JET,
-        kind::PARAMETER => mark::COLON,
-        kind::ALIAS => mark::ALIASES,
-        kind::BUILTIN => mark::BUILTIN,
-        kind::BOOL_TYPE => mark::BOOL_TYPE,
-        kind::UNSIGNED => mark::UNSIGNED,
-        kind::EITHER_TYPE => mark::EITHER | mark::ANGLES | mark::COMMA,
-        kind::OPTION_TYPE => mark::OPTION | mark::ANGLES,
-        kind::TUPLE_TYPE | kind::TUPLE_PATTERN | kind::TUPLE => mark::PARENS | mark::COMMA,
-        kind::ARRAY_TYPE => mark::BRACKETS | mark::SEMI | mark::DECIMAL,
-        kind::LIST_TYPE => mark::LIST | mark::ANGLES | mark::COMMA | mark::DECIMAL,
-        kind::IDENTIFIER_PATTERN => mark::NAMES,
-        kind::IGNORE_PATTERN => mark::IDENT,
-        kind::ARRAY_PATTERN | kind::ARRAY => mark::BRACKETS | mark::COMMA,
-        kind::LET => mark::LET | mark::COLON | mark::EQUALS,
-        kind::BLOCK => mark::BRACES | mark::SEMI,
-        kind::LEFT => mark::LEFT | mark::PARENS,
-        kind::RIGHT => mark::RIGHT | mark::PARENS,
-        kind::SOME => mark::SOME | mark::PARENS,
-        kind::NONE => mark::NONE,
-        kind::BOOLEAN => mark::BOOLEAN,
-        kind::DECIMAL | kind::NUMBER => mark::DECIMAL,
-        kind::HEXADECIMAL => mark::HEX,
-        kind::BINARY => mark::BINARY,
-        kind::WITNESS => mark::WITNESS,
-        kind::PARAMETER_VALUE => mark::PARAM,
-        kind::VARIABLE => mark::VARIABLE,
-        kind::PARENTHESISED => mark::PARENS,
-        kind::LIST => mark::LIST_MACRO | mark::BRACKETS | mark::COMMA,
-        kind::ENUM_CONSTRUCTION => mark::PATH | mark::PARENS | mark::COMMA,
-        kind::MATCH..=kind::ENUM_MATCH => mark::MATCH | mark::BRACES,
-        kind::BUILTIN_ARM => mark::LEFT
+        Kind::Function => mark::FUNCTION | mark::PARENS | mark::COMMA,
+        Kind::Name => mark::NAMES | mark::JET,
+        Kind::Parameter => mark::COLON,
+        Kind::Alias => mark::ALIASES,
+        Kind::Builtin => mark::BUILTIN,
+        Kind::BoolType => mark::BOOL_TYPE,
+        Kind::Unsigned => mark::UNSIGNED,
+        Kind::EitherType => mark::EITHER | mark::ANGLES | mark::COMMA,
+        Kind::OptionType => mark::OPTION | mark::ANGLES,
+        Kind::TupleType | Kind::TuplePattern | Kind::Tuple => mark::PARENS | mark::COMMA,
+        Kind::ArrayType => mark::BRACKETS | mark::SEMI | mark::DECIMAL,
+        Kind::ListType => mark::LIST | mark::ANGLES | mark::COMMA | mark::DECIMAL,
+        Kind::IdentifierPattern => mark::NAMES,
+        Kind::IgnorePattern => mark::IDENT,
+        Kind::ArrayPattern | Kind::Array => mark::BRACKETS | mark::COMMA,
+        Kind::Let => mark::LET | mark::COLON | mark::EQUALS,
+        Kind::Block => mark::BRACES | mark::SEMI,
+        Kind::Left => mark::LEFT | mark::PARENS,
+        Kind::Right => mark::RIGHT | mark::PARENS,
+        Kind::Some => mark::SOME | mark::PARENS,
+        Kind::None => mark::NONE,
+        Kind::Boolean => mark::BOOLEAN,
+        Kind::Decimal | Kind::Number => mark::DECIMAL,
+        Kind::Hexadecimal => mark::HEX,
+        Kind::Binary => mark::BINARY,
+        Kind::Witness => mark::WITNESS,
+        Kind::ParameterValue => mark::PARAM,
+        Kind::Variable => mark::VARIABLE,
+        Kind::Parenthesised => mark::PARENS,
+        Kind::List => mark::LIST_MACRO | mark::BRACKETS | mark::COMMA,
+        Kind::EnumConstruction => mark::PATH | mark::PARENS | mark::COMMA,
+        Kind::Match | Kind::EnumMatch => mark::MATCH | mark::BRACES,
+        Kind::BuiltinArm => mark::LEFT
             | mark::RIGHT
             | mark::NONE
             | mark::SOME
@@ -104,59 +105,118 @@ fn marks(kind: u32) -> u64
             | mark::COLON
             | mark::FAT_ARROW
             | mark::COMMA,
-        kind::ENUM_ARM => mark::PATH | mark::PARENS | mark::COLON | mark::COMMA | mark::FAT_ARROW,
-        kind::CALL => mark::CALLED
+        Kind::EnumArm => mark::PATH | mark::PARENS | mark::COLON | mark::COMMA | mark::FAT_ARROW,
+        Kind::Call => mark::CALLED
             | mark::MACRO
             | mark::PATH
             | mark::ANGLES
             | mark::PARENS
             | mark::COMMA,
-        kind::TYPE_ITEM => mark::TYPE_WORD | mark::EQUALS | mark::SEMI,
-        _ => 0,
+        Kind::TypeItem => mark::TYPE_WORD | mark::EQUALS | mark::SEMI,
+        Kind::Program => 0,
     }
 }
 
 // The group of a child kind.
+fn child_group(child: Kind) -> u32
+    ensures { result ≡ category_set (kind_number child) }
+{
+    match child {
+        Kind::Function => part::FUNCTION_ITEM,
+        Kind::Name => part::NAME,
+        Kind::Parameter => part::PARAMETER,
+        Kind::Alias
+        | Kind::Builtin
+        | Kind::BoolType
+        | Kind::Unsigned
+        | Kind::EitherType
+        | Kind::OptionType
+        | Kind::TupleType
+        | Kind::ArrayType
+        | Kind::ListType => part::TYPE,
+        Kind::IdentifierPattern | Kind::IgnorePattern | Kind::TuplePattern | Kind::ArrayPattern =>
+            part::PATTERN,
+        Kind::Let => part::LET_STATEMENT,
+        Kind::Block => part::BLOCK,
+        Kind::Left
+        | Kind::Right
+        | Kind::Some
+        | Kind::None
+        | Kind::Boolean
+        | Kind::Decimal
+        | Kind::Hexadecimal
+        | Kind::Binary
+        | Kind::Witness
+        | Kind::ParameterValue
+        | Kind::Variable
+        | Kind::Parenthesised
+        | Kind::Tuple
+        | Kind::Array
+        | Kind::List
+        | Kind::EnumConstruction
+        | Kind::Match
+        | Kind::EnumMatch
+        | Kind::Call => part::SINGLE,
+        Kind::BuiltinArm => part::BUILTIN_ARM,
+        Kind::EnumArm => part::ENUM_ARM,
+        Kind::Number => part::NUMBER,
+        Kind::TypeItem => part::TYPE_ITEM,
+        Kind::Program => 0,
+    }
+}
+
+// The group of the kind of this number; none, where no kind has it.
 pub fn category(child: u32) -> u32
     ensures { result ≡ category_set child }
 {
-    match child {
-        kind::FUNCTION => part::FUNCTION_ITEM,
-        kind::NAME => part::NAME,
-        kind::PARAMETER => part::PARAMETER,
-        kind::ALIAS..=kind::LIST_TYPE => part::TYPE,
-        kind::IDENTIFIER_PATTERN..=kind::ARRAY_PATTERN => part::PATTERN,
-        kind::LET => part::LET_STATEMENT,
-        kind::BLOCK => part::BLOCK,
-        kind::LEFT..=kind::ENUM_MATCH | kind::CALL => part::SINGLE,
-        kind::BUILTIN_ARM => part::BUILTIN_ARM,
-        kind::ENUM_ARM => part::ENUM_ARM,
-        kind::NUMBER => part::NUMBER,
-        kind::TYPE_ITEM => part::TYPE_ITEM,
-        _ => 0,
+    match Kind::try_from(child) {
+        Ok(child) => child_group(child),
+        Err(_) => 0,
     }
 }
 
 // The groups of the children of a record kind; kinds of one token have none.
-fn parts(kind: u32) -> u32
-    ensures { result ≡ part_set kind }
+fn parts(kind: Kind) -> u32
+    ensures { result ≡ part_set (kind_number kind) }
 {
     match kind {
-        kind::FUNCTION => part::NAME | part::PARAMETER | part::TYPE | part::BLOCK,
-        kind::PARAMETER => part::NAME | part::TYPE,
-        kind::EITHER_TYPE..=kind::LIST_TYPE => part::TYPE,
-        kind::TUPLE_PATTERN..=kind::ARRAY_PATTERN => part::PATTERN,
-        kind::LET | kind::BUILTIN_ARM => part::PATTERN | part::TYPE | part::EXPRESSION,
-        kind::BLOCK => part::LET_STATEMENT | part::EXPRESSION,
-        kind::LEFT..=kind::SOME | kind::PARENTHESISED..=kind::LIST => part::EXPRESSION,
-        kind::ENUM_CONSTRUCTION => part::NAME | part::EXPRESSION,
-        kind::MATCH => part::EXPRESSION | part::BUILTIN_ARM,
-        kind::ENUM_MATCH => part::EXPRESSION | part::ENUM_ARM,
-        kind::ENUM_ARM => part::NAME | part::PATTERN | part::TYPE | part::EXPRESSION,
-        kind::CALL => part::NAME | part::TYPE | part::NUMBER | part::EXPRESSION,
-        kind::PROGRAM => part::FUNCTION_ITEM | part::TYPE_ITEM,
-        kind::TYPE_ITEM => part::NAME | part::TYPE,
-        _ => 0,
+        Kind::Function => part::NAME | part::PARAMETER | part::TYPE | part::BLOCK,
+        Kind::Parameter => part::NAME | part::TYPE,
+        Kind::EitherType | Kind::OptionType | Kind::TupleType | Kind::ArrayType | Kind::ListType =>
+            part::TYPE,
+        Kind::TuplePattern | Kind::ArrayPattern => part::PATTERN,
+        Kind::Let | Kind::BuiltinArm => part::PATTERN | part::TYPE | part::EXPRESSION,
+        Kind::Block => part::LET_STATEMENT | part::EXPRESSION,
+        Kind::Left
+        | Kind::Right
+        | Kind::Some
+        | Kind::Parenthesised
+        | Kind::Tuple
+        | Kind::Array
+        | Kind::List => part::EXPRESSION,
+        Kind::EnumConstruction => part::NAME | part::EXPRESSION,
+        Kind::Match => part::EXPRESSION | part::BUILTIN_ARM,
+        Kind::EnumMatch => part::EXPRESSION | part::ENUM_ARM,
+        Kind::EnumArm => part::NAME | part::PATTERN | part::TYPE | part::EXPRESSION,
+        Kind::Call => part::NAME | part::TYPE | part::NUMBER | part::EXPRESSION,
+        Kind::Program => part::FUNCTION_ITEM | part::TYPE_ITEM,
+        Kind::TypeItem => part::NAME | part::TYPE,
+        Kind::Name
+        | Kind::Alias
+        | Kind::Builtin
+        | Kind::BoolType
+        | Kind::Unsigned
+        | Kind::IdentifierPattern
+        | Kind::IgnorePattern
+        | Kind::None
+        | Kind::Boolean
+        | Kind::Decimal
+        | Kind::Hexadecimal
+        | Kind::Binary
+        | Kind::Witness
+        | Kind::ParameterValue
+        | Kind::Variable
+        | Kind::Number => 0,
     }
 }
 
@@ -164,12 +224,18 @@ fn parts(kind: u32) -> u32
 pub fn may_own(kind: u32, class: u32) -> bool
     ensures { result ≡ may_own kind class }
 {
-    marks(kind) & group(class) != 0
+    match Kind::try_from(kind) {
+        Ok(kind) => marks(kind) & group(class) != 0,
+        Err(_) => false,
+    }
 }
 
 // Whether a record of the kind may hold a child of that kind.
 pub fn may_hold(kind: u32, child: u32) -> bool
     ensures { result ≡ may_hold kind child }
 {
-    parts(kind) & category(child) != 0
+    match Kind::try_from(kind) {
+        Ok(kind) => parts(kind) & category(child) != 0,
+        Err(_) => false,
+    }
 }

@@ -1,4 +1,5 @@
-// Groups of token classes, one bit each, in the order of `groups` (specs/Groups.antt).
+// Groups of token classes, one bit each, in the order of `groups` (specs/Groups.antt). A set of them is a word, and `|` and `&` are those of words:
+// a type of sets would say the same again.
 // `pub`, `fn` and the thin arrow; `let`; `match`.
 pub(crate) const FUNCTION: u64 = 1 << 0;
 

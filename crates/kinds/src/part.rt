@@ -1,4 +1,5 @@
 // Groups of child kinds, one bit each, in the order of `categories` (specs/Groups.antt); the families are those of specs/Families.antt.
+// Constants of a word, as in mark.rt: the group of one kind is a set too, which meets that of the children of another.
 pub const NAME: u32 = 1 << 0;
 
 pub const PARAMETER: u32 = 1 << 1;

@@ -10,12 +10,13 @@ use Prim.Native.Nat.{ℕ, suc, ◌+◌, ◌≤◌, ◌<◌}
 use Rattle.std.proofs.Math.ListN.{length, drop}
 use Rattle.std.proofs.Math.Seq.{drop-append-le}
 use Rattle.text.specs.Ascii.{ascii, ascii_from}
-use Rattle.text.specs.Refusals as refusal
+use Rattle.text.specs.Refusals.{refusal_number}
+use Rattle.text.specs.declared.refusal.Refusal.TheVariants as refusal
 use Rattle.text.proofs.Same.{differ}
 use Rattle.utf8.specs.Utf8.{bad_at}
 use Rattle.words.specs.Words.{KEYWORDS, MACROS, MODULE_RESERVED, word_of}
-use Rattle.words.specs.declared.Found.{Found}
-use Rattle.words.specs.declared.Found.TheVariants.{Word, Plain}
+use Rattle.std.specs.Prelude.{Some, None}
+use Rattle.std.specs.Prelude as std
 use Rattle.lexer.specs.Chars.{Range, among, whitespace, binary_digits, decimal_digits, hex_digits, underscore, name_starts, first, run, begins}
 use Rattle.lexer.specs.Classes as class
 use Rattle.lexer.specs.Lexemes.{Lexeme, token, trivia, refused, ◌or_else◌, space, checked, comment, line_comment, block, closing, block_comment, name_length, is_name, module_token, qualified, macro_token, macro, word_token, word, digits, hexadecimal, binary, decimal, Mark, marks, mark, no_lexeme, lexeme}
@@ -76,26 +77,26 @@ trivia-keeps : {k n : ℕ} (c d : Bool) (y z : Lexeme) → (y ≡ token k n → 
 trivia-keeps c d y z other f = cond-keeps c d (some y) (some z) (λ q e. absurd (other (some_is e))) (λ q. (f q, λ e. clash (sym e)))
 
 -- how many bytes a found token has
-module-length : (f : Found) (n : ℕ) {k m : ℕ} → module_token f n ≡ some (token k m) → n ≡ m
-module-length (Word i) n e = cc
-module-length Plain n e = clash e
+module-length : (f : std.Option ℕ) (n : ℕ) {k m : ℕ} → module_token f n ≡ some (token k m) → n ≡ m
+module-length (Some i) n e = cc
+module-length None n e = clash e
 
-module-none : (f : Found) (n m : ℕ) → module_token f n ≡ none → module_token f m ≡ none
-module-none (Word i) n m e = clash (sym e)
-module-none Plain n m e = refl
+module-none : (f : std.Option ℕ) (n m : ℕ) → module_token f n ≡ none → module_token f m ≡ none
+module-none (Some i) n m e = clash (sym e)
+module-none None n m e = refl
 
-pub macro-length : (f : Found) (n : ℕ) {k m : ℕ} → macro_token f n ≡ some (token k m) → n ≡ m
-macro-length (Word i) n e = cc
-macro-length Plain n e = clash e
+pub macro-length : (f : std.Option ℕ) (n : ℕ) {k m : ℕ} → macro_token f n ≡ some (token k m) → n ≡ m
+macro-length (Some i) n e = cc
+macro-length None n e = clash e
 
-pub word-length : (f : Found) (n : ℕ) {k m : ℕ} → word_token f n ≡ token k m → n ≡ m
-word-length (Word i) n {k} {m} e = go (eqb (class.Pub + i) class.Simc) (ltb class.Simc (class.Pub + i)) e
+pub word-length : (f : std.Option ℕ) (n : ℕ) {k m : ℕ} → word_token f n ≡ token k m → n ≡ m
+word-length (Some i) n {k} {m} e = go (eqb (class.Pub + i) class.Simc) (ltb class.Simc (class.Pub + i)) e
   where
-    go : (a b : Bool) → cond a (refused refusal.Simc 0) (cond b (token class.Bool n) (token (class.Pub + i) n)) ≡ token k m → n ≡ m
+    go : (a b : Bool) → cond a (refused (refusal_number refusal.Simc) 0) (cond b (token class.Bool n) (token (class.Pub + i) n)) ≡ token k m → n ≡ m
     go true b e = no-refusal e
     go false true e = cc
     go false false e = cc
-word-length Plain n e = cc
+word-length None n e = cc
 
 digits-length : (base : List Range) (kind n : ℕ) (r : List ℕ) {k m : ℕ} → digits base kind n r ≡ some (token k m) → n ≤ m
 unfolding digits

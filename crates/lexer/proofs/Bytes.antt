@@ -12,7 +12,8 @@ use borrow.Author.Tests.{eq-eqb, ne_eqb, lt-ltb, le-leb, leb-false}
 use lib.Dec.{T, eqb, leb, leb→le}
 use lib.ListN.{length, get_or, drop}
 use Rattle.text.specs.Ascii.{ascii, ascii_from}
-use Rattle.text.specs.Refusals as refusal
+use Rattle.text.specs.Refusals.{refusal_number}
+use Rattle.text.specs.declared.refusal.Refusal.TheVariants as refusal
 use Rattle.text.proofs.Same.{differ}
 use Rattle.text.proofs.Table.{first-of, second-of}
 use Rattle.lexer.specs.Bytes.{byte_class, in_classes}
@@ -22,8 +23,8 @@ use Rattle.lexer.specs.Chars.{Range, among, whitespace, plain_bytes, binary_digi
 use Rattle.lexer.specs.Lexemes.{token, trivia, refused, ◌or_else◌, Mark, space, line_comment, block_comment, qualified, macro, digits, hexadecimal, binary, decimal, word, marks, mark, no_lexeme, lexeme}
 use Rattle.lexer.specs.Places.{Based, decimal_at}
 use Rattle.lexer.proofs.Plain.{over-among}
-use Rattle.lexer.specs.Step.{step_from, lexeme_at}
-use Rattle.lexer.specs.declared.Step.TheVariants.{Token, Trivia, Refused}
+use Rattle.lexer.specs.Step.{refused_step, step_from, lexeme_at}
+use Rattle.lexer.specs.declared.Step.TheVariants.{Token, Trivia}
 use Rattle.lexer.proofs.ByteClasses.{class-in, class-above, space-classes, plain-classes, decimal-run, hex-classes, hex-run, binary-classes, binary-run, digit-apart, not_digit, each-fails}
 use Rattle.lexer.proofs.Rest.{rest-first, rest-cons, rest-drop, begins-one}
 use Rattle.lexer.proofs.Runs.{run-same}
@@ -134,7 +135,7 @@ over-marks (m ∷ ms) t b r o =
     begins-not (ascii m.text) b r (leb→le 1 x (first-of (leb 1 x) (leb x 127) f)) (leb→le x 127 (second-of (leb 1 x) (leb x 127) f)) o in
     rw n (over-marks ms (second-of (leb 1 x && leb x 127) (low_marks ms) t) b r o)
 
-only-over : (b : ℕ) (r : List ℕ) → 127 < b → lexeme (b ∷ r) ≡ refused refusal.NotAscii 0
+only-over : (b : ℕ) (r : List ℕ) → 127 < b → lexeme (b ∷ r) ≡ refused (refusal_number refusal.NotAscii) 0
 unfolding lexeme space line_comment block_comment qualified macro hexadecimal binary decimal digits word begins ascii ascii_from no_lexeme whitespace decimal_digits name_starts underscore low_marks marks
 only-over b r o =
     let w : among whitespace b ≡ false = over-among whitespace tt b o in
@@ -164,7 +165,7 @@ module _ (s : List ℕ) (i c : ℕ) (h : i < length s) (q : c ≡ byte_class (ge
           let p : among plain_bytes (get_or s i 0) ≡ true = simp (le-leb 0 (get_or s i 0) (omega arith), e) in
           differ (sym (class-above byte.Underscore byte.LineEnd (get_or s i 0) c q a) ∙ plain-classes (get_or s i 0) ∙ p)
 
-  pub at-over : byte.LineEnd < c → Refused refusal.NotAscii i ≡ lexeme_at s i
+  pub at-over : byte.LineEnd < c → refused_step refusal.NotAscii i ≡ lexeme_at s i
   at-over a =
-      ap (Refused refusal.NotAscii) (let z : i ≡ i + 0 = omega arith in z)
+      ap (refused_step refusal.NotAscii) (let z : i ≡ i + 0 = omega arith in z)
       ∙ sym (ap (λ x. step_from x i) (ap lexeme (rest-cons s i (get_or s i 0) h refl) ∙ only-over (get_or s i 0) (drop (suc i) s) (over a)))

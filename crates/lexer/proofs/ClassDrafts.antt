@@ -16,8 +16,8 @@ use Rattle.text.specs.Table.{all, every}
 use Rattle.text.proofs.Table.{each, at, is_true, first-of, second-of, implied}
 use Rattle.words.proofs.Right.{Says, says}
 use Rattle.words.specs.Words.{FUNCTION_RESERVED, KEYWORDS, MACROS, MODULE_RESERVED, RULE_NAMES, BOOLEANS, BOOL, UINT_TYPES, BUILTIN_ALIASES, TYPE_NAMES, RULE_WORDS, find, word_of}
-use Rattle.words.specs.declared.Found.{Found}
-use Rattle.words.specs.declared.Found.TheVariants.{Word, Plain}
+use Rattle.std.specs.Prelude.{Some, None}
+use Rattle.std.specs.Prelude as std
 use Rattle.lexer.specs.Chars.{among, whitespace, line_ends, plain_bytes, binary_digits, decimal_digits, hex_digits, underscore, name_starts, name_bytes, run, begins}
 use Rattle.lexer.specs.Class.{word_class, class_of}
 use Rattle.lexer.specs.Classes as t
@@ -32,21 +32,21 @@ use Rattle.lexer.proofs.TokenKinds.{Kind, a_name, a_boolean, a_macro, another, k
 
 -- ---- the words of the rules
 
-abbrev place_is : Found → ℕ → Bool
-place_is (Word m) i = eqb m i
-place_is Plain i = false
+abbrev place_is : std.Option ℕ → ℕ → Bool
+place_is (Some m) i = eqb m i
+place_is None i = false
 
 -- each is found at its place
 places-pass : T (every (λ i w. place_is (word_of RULE_WORDS w) i) 0 RULE_WORDS)
 unfolding word_of find same FUNCTION_RESERVED MACROS RULE_NAMES BOOLEANS BOOL UINT_TYPES BUILTIN_ALIASES TYPE_NAMES RULE_WORDS ascii ascii_from
 places-pass = tt
 
-found_at : (i : ℕ) → i < length RULE_WORDS → word_of RULE_WORDS (get_or RULE_WORDS i []) ≡ Word i
+found_at : (i : ℕ) → i < length RULE_WORDS → word_of RULE_WORDS (get_or RULE_WORDS i []) ≡ Some i
 found_at i h = go (word_of RULE_WORDS (get_or RULE_WORDS i [])) (at (λ i w. place_is (word_of RULE_WORDS w) i) RULE_WORDS [] places-pass i h)
   where
-    go : (f : Found) → T (place_is f i) → f ≡ Word i
-    go (Word m) p = ap Word (eqb→eq m i p)
-    go Plain p = absurd p
+    go : (f : std.Option ℕ) → T (place_is f i) → f ≡ Some i
+    go (Some m) p = ap Some (eqb→eq m i p)
+    go None p = absurd p
 
 by_word : (k : ℕ) (w : List ℕ) → Memᴰ k word_kinds → (class_of k w ≡ word_class (word_of RULE_WORDS w) k) × (k < t.words)
 unfolding class_of
@@ -62,9 +62,9 @@ word-class k w m i h = (λ e. one (word_of RULE_WORDS w) (says RULE_WORDS w) (sy
     b : (class_of k w ≡ word_class (word_of RULE_WORDS w) k) × (k < t.words)
     b = by_word k w m
 
-    one : (f : Found) → Says RULE_WORDS w f → word_class f k ≡ t.words + i → w ≡ get_or RULE_WORDS i []
-    one (Word j) s e = let q : j ≡ i = omega arith in sym s.1 ∙ ap (λ (n : ℕ). get_or RULE_WORDS n []) q
-    one Plain s e = let l = b.1 in absurd (omega arith)
+    one : (f : std.Option ℕ) → Says RULE_WORDS w f → word_class f k ≡ t.words + i → w ≡ get_or RULE_WORDS i []
+    one (Some j) s e = let q : j ≡ i = omega arith in sym s.1 ∙ ap (λ (n : ℕ). get_or RULE_WORDS n []) q
+    one None s e = let l = b.1 in absurd (omega arith)
 
 -- ---- the samples
 

@@ -12,8 +12,8 @@ use Rattle.text.specs.Table.{every}
 use Rattle.text.proofs.Table.{at, first-of, second-of, implied}
 use Rattle.words.proofs.Members.{found_in, plain_out, found-passes}
 use Rattle.words.specs.Words.{FUNCTION_RESERVED, KEYWORDS, MACROS, RULE_NAMES, BOOLEANS, BOOL, UINT_TYPES, BUILTIN_ALIASES, TYPE_NAMES, RULE_WORDS, ALIAS_RESERVED, find, word_of}
-use Rattle.words.specs.declared.Found.{Found}
-use Rattle.words.specs.declared.Found.TheVariants.{Word, Plain}
+use Rattle.std.specs.Prelude.{Some, None}
+use Rattle.std.specs.Prelude as std
 use Rattle.lexer.specs.Chars.{among, decimal_digits, underscore, name_starts, name_bytes, run}
 use Rattle.lexer.specs.Class.{word_class, class_of}
 use Rattle.lexer.specs.Classes as t
@@ -51,9 +51,9 @@ unfolding all
 within k {c = c} t (Memᴰ.head {x = x} {xs = l} e) = listed k c (subst (λ n. T (has k n)) (sym e) (first-of (has k x) (all (has k) l) t))
 within k t (Memᴰ.tail {x = x} {xs = l} m) = within k (second-of (has k x) (all (has k) l) t) m
 
-abbrev is_word : Found → Bool
-is_word (Word i) = true
-is_word Plain = false
+abbrev is_word : std.Option ℕ → Bool
+is_word (Some i) = true
+is_word None = false
 
 -- ---- the tables
 
@@ -107,44 +107,44 @@ data Sorted (ws : List (List ℕ)) (f r : List ℕ) (w : List ℕ) (c : ℕ) : T
   taken : Memᴰ w ws → Memᴰ c r → ¬ Memᴰ c f → Sorted ws f r w c
 
 -- of a name that is no keyword
-name-passes : {ws : List (List ℕ)} {f r : List ℕ} → Reserves ws f r → (w : List ℕ) → name_length w ≡ length w → word_of KEYWORDS w ≡ Plain → (i : ℕ) → word_of RULE_WORDS w ≡ Word i
+name-passes : {ws : List (List ℕ)} {f r : List ℕ} → Reserves ws f r → (w : List ℕ) → name_length w ≡ length w → word_of KEYWORDS w ≡ None → (i : ℕ) → word_of RULE_WORDS w ≡ Some i
     → T (given (t.words + i) && sorted f r (is_word (word_of ws w)) (t.words + i))
 name-passes {ws} {f} {r} s w l q i e =
     let h = found-passes (name_test ws f r) RULE_WORDS s.words w i e in
     rw (q, eq-eqb (name_length w) (length w) l) at h
 
 module _ {ws : List (List ℕ)} {f r : List ℕ} (s : Reserves ws f r) where
-  by-test : (w : List ℕ) (x : Found) → word_of ws w ≡ x → (c : ℕ) → T (sorted f r (is_word x) c) → Sorted ws f r w c
-  by-test w (Word i) q c h = taken (found_in ws w i q) (listed r c (first-of (has r c) _ h)) (unlisted f c (second-of (has r c) _ h))
-  by-test w Plain q c h = free (plain_out ws w q) (listed f c (first-of (has f c) _ h)) (unlisted r c (second-of (has f c) _ h))
+  by-test : (w : List ℕ) (x : std.Option ℕ) → word_of ws w ≡ x → (c : ℕ) → T (sorted f r (is_word x) c) → Sorted ws f r w c
+  by-test w (Some i) q c h = taken (found_in ws w i q) (listed r c (first-of (has r c) _ h)) (unlisted f c (second-of (has r c) _ h))
+  by-test w None q c h = free (plain_out ws w q) (listed f c (first-of (has f c) _ h)) (unlisted r c (second-of (has f c) _ h))
 
   -- a name that is no word of the rules is no reserved one
-  unreserved : (w : List ℕ) → word_of RULE_WORDS w ≡ Plain → word_of ws w ≡ Plain
+  unreserved : (w : List ℕ) → word_of RULE_WORDS w ≡ None → word_of ws w ≡ None
   unreserved w e = go (word_of ws w) refl
     where
-      go : (x : Found) → word_of ws w ≡ x → x ≡ Plain
-      go (Word i) q = absurd (subst (λ x. T (is_word x)) e (found-passes (λ i w. is_word (word_of RULE_WORDS w)) ws s.known w i q))
-      go Plain q = refl
+      go : (x : std.Option ℕ) → word_of ws w ≡ x → x ≡ None
+      go (Some i) q = absurd (subst (λ x. T (is_word x)) e (found-passes (λ i w. is_word (word_of RULE_WORDS w)) ws s.known w i q))
+      go None q = refl
 
-  name-sorted : (w : List ℕ) → name_length w ≡ length w → word_of KEYWORDS w ≡ Plain → Sorted ws f r w (class_of t.Ident w)
+  name-sorted : (w : List ℕ) → name_length w ≡ length w → word_of KEYWORDS w ≡ None → Sorted ws f r w (class_of t.Ident w)
   unfolding class_of
   name-sorted w l q = go (word_of RULE_WORDS w) refl
     where
-      go : (x : Found) → word_of RULE_WORDS w ≡ x → Sorted ws f r w (word_class x t.Ident)
-      go (Word i) e = by-test w (word_of ws w) refl (t.words + i) (second-of (given (t.words + i)) _ (name-passes s w l q i e))
-      go Plain e = by-test w Plain (unreserved w e) t.Ident s.plain
+      go : (x : std.Option ℕ) → word_of RULE_WORDS w ≡ x → Sorted ws f r w (word_class x t.Ident)
+      go (Some i) e = by-test w (word_of ws w) refl (t.words + i) (second-of (given (t.words + i)) _ (name-passes s w l q i e))
+      go None e = by-test w None (unreserved w e) t.Ident s.plain
 
   sorted-identifier : {w : List ℕ} {c : ℕ} → Sorted ws f r w c → Memᴰ c t.identifiers
   sorted-identifier (free a b d) = within t.identifiers (first-of (all (has t.identifiers) f) _ s.names) b
   sorted-identifier (taken a b d) = within t.identifiers (second-of (all (has t.identifiers) f) _ s.names) b
 
-name-given : (w : List ℕ) → name_length w ≡ length w → word_of KEYWORDS w ≡ Plain → T (given (class_of t.Ident w))
+name-given : (w : List ℕ) → name_length w ≡ length w → word_of KEYWORDS w ≡ None → T (given (class_of t.Ident w))
 unfolding class_of given never_given word_of find same FUNCTION_RESERVED MACROS RULE_NAMES BOOLEANS BOOL UINT_TYPES BUILTIN_ALIASES TYPE_NAMES RULE_WORDS ascii ascii_from has
 name-given w l q = go (word_of RULE_WORDS w) refl
   where
-    go : (x : Found) → word_of RULE_WORDS w ≡ x → T (given (word_class x t.Ident))
-    go (Word i) e = first-of (given (t.words + i)) _ (name-passes functions w l q i e)
-    go Plain e = tt
+    go : (x : std.Option ℕ) → word_of RULE_WORDS w ≡ x → T (given (word_class x t.Ident))
+    go (Some i) e = first-of (given (t.words + i)) _ (name-passes functions w l q i e)
+    go None e = tt
 
 -- ---- the other tokens
 
@@ -164,7 +164,7 @@ other-class k w h = go (eqb k t.Bool || eqb k t.Ident || eqb k t.Macro) (first-o
     go false h = refl
 
 data Sort (k : ℕ) (w : List ℕ) : Type 0 where
-  named : k ≡ t.Ident → name_length w ≡ length w → word_of KEYWORDS w ≡ Plain → Sort k w
+  named : k ≡ t.Ident → name_length w ≡ length w → word_of KEYWORDS w ≡ None → Sort k w
   unnamed : ¬ (k ≡ t.Ident) → T (nameless (class_of k w)) → Sort k w
 
 sort-of : {k : ℕ} {w : List ℕ} → OneToken k w → Sort k w

@@ -13,14 +13,14 @@ use lib.ListN.{length, get_or, drop, length-drop}
 use lib.Seq.{drop-cons}
 use Rattle.text.specs.Counts.{more, place_of}
 use Rattle.text.proofs.Counts.{place-more}
-use Rattle.text.specs.Refusals as refusal
 use Rattle.text.proofs.Same.{differ}
 use Rattle.text.proofs.Table.{both_left, both_right}
 use Rattle.utf8.proofs.Sequences.{high}
 use Rattle.lexer.specs.Chars.{first}
 use Rattle.lexer.specs.Lexemes.{closed, within, inside, onward, closing}
 use Rattle.lexer.specs.Trivia.{edge_of, broken_of}
-use Rattle.lexer.specs.declared.Step.TheVariants.{Refused}
+use Rattle.text.specs.declared.refusal.Refusal.TheVariants as code
+use Rattle.lexer.specs.Step.{refused_step}
 use Rattle.lexer.specs.declared.trivia.Edge.TheVariants.{Opens, Closes, Neither}
 use Rattle.lexer.proofs.Rest.{rest-first, rest-cons, there}
 
@@ -183,7 +183,7 @@ module _ (s : List ℕ) (j d : ℕ) where
           → broken_of (closing (drop (j + 2) s) (d - 1) 0) i k ≡ broken_of (closing (drop j s) d 0) i k
       broken-closes e n = sym (broken-two (closing (drop (j + 2) s) (d - 1) 0) i k) ∙ sym (ap (λ x. broken_of x i k) (closing-closes e n))
 
-      pub broken-last : Closes ≡ edge_of (get_or s j 0) (get_or s (j + 1) 0) → d ≡ 0 → Refused refusal.NotUtf8 k ≡ broken_of (closing (drop j s) d 0) i k
+      pub broken-last : Closes ≡ edge_of (get_or s j 0) (get_or s (j + 1) 0) → d ≡ 0 → refused_step code.NotUtf8 k ≡ broken_of (closing (drop j s) d 0) i k
       broken-last e z = sym (ap (λ x. broken_of x i k) (closing-last e z))
 
       pub broken-neither : Neither ≡ edge_of (get_or s j 0) (get_or s (j + 1) 0) → broken_of (closing (drop (j + 1) s) d 0) i k ≡ broken_of (closing (drop j s) d 0) i k
@@ -199,7 +199,7 @@ module _ (s : List ℕ) (j d : ℕ) where
       go (b ∷ []) k = refl
       go (b ∷ c ∷ l) k = absurd (omega arith)
 
-  pub broken-never : (i k : ℕ) → length s ≤ j + 1 → Refused refusal.Unclosed i ≡ broken_of (closing (drop j s) d 0) i k
+  pub broken-never : (i k : ℕ) → length s ≤ j + 1 → refused_step code.Unclosed i ≡ broken_of (closing (drop j s) d 0) i k
   broken-never i k h = sym (ap (λ x. broken_of x i k) (closing-never h))
 
   pub place-never : length s ≤ j + 1 → place_of (closing (drop j s) d 0) j ≡ none

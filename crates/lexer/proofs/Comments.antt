@@ -1,6 +1,6 @@
 -- What the functions on comments cite of the definition.
 -- Assumes nothing.
-use mathlib.Core.Bool.{Bool, true, false, not, ◌&&◌, ◌||◌, and-false, and-true}
+use mathlib.Core.Bool.{Bool, true, false, not, ◌&&◌, ◌||◌, and-false}
 use mathlib.Core.List.{List, [], ◌∷◌}
 use mathlib.Core.Option.{Option, none, some}
 use mathlib.Core.Path.{◌≡◌, refl, sym, ◌∙◌, ap, subst}
@@ -12,7 +12,8 @@ use lib.Dec.{eqb, leb, ltb}
 use lib.ListN.{length, get_or, take, drop}
 use Rattle.text.specs.Ascii.{ascii, ascii_from}
 use Rattle.text.specs.Counts.{more, place_of}
-use Rattle.text.specs.Refusals as refusal
+use Rattle.text.specs.Refusals.{refusal_number}
+use Rattle.text.specs.declared.refusal.Refusal.TheVariants as refusal
 use Rattle.text.proofs.Same.{differ}
 use Rattle.text.proofs.Table.{both_left, both_right}
 use Rattle.utf8.proofs.Parts.{bad_in, bad-end, bad-found, Good, good-next}
@@ -20,10 +21,10 @@ use Rattle.utf8.proofs.Sequences.{ascii-at, high, char-high}
 use Rattle.utf8.specs.Utf8.{char_length, bad_at}
 use Rattle.lexer.specs.Chars.{among, whitespace, line_ends, decimal_digits, underscore, name_starts, first, run, begins}
 use Rattle.lexer.specs.Lexemes.{Inside, closed, within, inside, onward, closing, block, refused, checked, comment, in_line, space, line_comment, block_comment, qualified, macro, digits, hexadecimal, binary, decimal, word, marks, mark, no_lexeme, lexeme}
-use Rattle.lexer.specs.Step.{step_from, lexeme_at}
-use Rattle.lexer.specs.Trivia.{plain_in_line, plain_in_block, edge_of, broken_of}
+use Rattle.lexer.specs.Step.{refused_step, step_from, lexeme_at}
+use Rattle.lexer.specs.Trivia.{plain_beside, plain_in_line, plain_in_block, edge_of, broken_of}
 use Rattle.lexer.specs.declared.Step.{Step}
-use Rattle.lexer.specs.declared.Step.TheVariants.{Trivia, Refused}
+use Rattle.lexer.specs.declared.Step.TheVariants.{Trivia}
 use Rattle.lexer.specs.declared.trivia.Edge.TheVariants.{Opens, Closes, Neither}
 use Rattle.lexer.proofs.Rest.{rest-first, rest-cons, rest-drop, begins-one}
 use Rattle.lexer.proofs.Runs.{run_end, run_in, run-true}
@@ -47,27 +48,24 @@ neither-end b l c = simp (one_byte 10 b l, one_byte 13 b c)
 pub past-cr : (b : ℕ) → 13 < b → in_line b ≡ true
 past-cr b h = neither-end b (λ z. absurd (omega arith)) (λ z. absurd (omega arith))
 
--- a byte past CR, CR, and any other
+-- CR, LF, and any other byte
 module _ (b : ℕ) where
-  pub line-past : 13 < b → leb b 127 ≡ plain_in_line b
-  line-past h = sym (ap (λ t. leb b 127 && t) (past-cr b h) ∙ and-true (leb b 127))
-
-  pub line-cr : b ≡ 13 → false ≡ plain_in_line b
+  is-cr : b ≡ 13 → false ≡ plain_in_line b
   unfolding among line_ends
-  line-cr e = rw e refl
+  is-cr e = rw e refl
 
   is-lf : b ≡ 10 → false ≡ plain_in_line b
   unfolding among line_ends
   is-lf e = rw e refl
 
-  pub line_other : b ≤ 13 → (b ≡ 13 → ⊥) → not (eqb b 10) ≡ plain_in_line b
-  line_other h n = go (eqb b 10) refl
+  pub plain-line : plain_beside 13 10 b ≡ plain_in_line b
+  plain-line = go (eqb b 13) (eqb b 10) refl refl
     where
-      go : (t : Bool) → eqb b 10 ≡ t → not (eqb b 10) ≡ plain_in_line b
-      go true e = ap not e ∙ is-lf (eqb-true b 10 e)
-      go false e = ap not e ∙ sym (simp (le-leb b 127 (omega arith), neither-end b (eqb-false b 10 e) n))
+      go : (t u : Bool) → eqb b 13 ≡ t → eqb b 10 ≡ u → (leb b 127 && not (t || u)) ≡ plain_in_line b
+      go true u e f = and-false (leb b 127) ∙ is-cr (eqb-true b 13 e)
+      go false true e f = and-false (leb b 127) ∙ is-lf (eqb-true b 10 f)
+      go false false e f = ap (λ t. leb b 127 && t) (sym (neither-end b (eqb-false b 10 f) (eqb-false b 13 e)))
 
-  -- what such a byte is, and what it is not
   pub line_plain : plain_in_line b ≡ true → (b ≤ 127) × (in_line b ≡ true)
   line_plain e = (leb-true b 127 (both_left (leb b 127) (in_line b) e), both_right (leb b 127) (in_line b) e)
 
@@ -139,19 +137,19 @@ module _ (s : List ℕ) (i e : ℕ) where
       go none q = ap Trivia (let z : e ≡ i + (e - i) = omega arith in z)
       go (some n) q = let z : ◌≡◌ {A = ℕ} 0 1 = cc in absurd (omega arith)
 
-  comment-bad : (j : ℕ) → bad_in s i e ≡ some j → Refused refusal.NotUtf8 j ≡ comment_at s i e
+  comment-bad : (j : ℕ) → bad_in s i e ≡ some j → refused_step refusal.NotUtf8 j ≡ comment_at s i e
   unfolding comment bad_in
   comment-bad j q = go (bad_at (take (e - i) (drop i s))) q
     where
-      go : (x : Option ℕ) → place_of x i ≡ some j → Refused refusal.NotUtf8 j ≡ step_from (checked x (e - i)) i
+      go : (x : Option ℕ) → place_of x i ≡ some j → refused_step refusal.NotUtf8 j ≡ step_from (checked x (e - i)) i
       go none q = let z : ◌≡◌ {A = ℕ} 0 1 = cc in absurd (omega arith)
-      go (some n) q = let z : i + n ≡ j = cc in ap (Refused refusal.NotUtf8) (sym z)
+      go (some n) q = let z : i + n ≡ j = cc in ap (refused_step refusal.NotUtf8) (sym z)
 
 -- sequences up to its end, or up to a place before it where none stands
 comment-whole : (s : List ℕ) (i e : ℕ) → i ≤ e → Good s i e → Trivia e ≡ comment_at s i e
 comment-whole s i e h g = comment-good s i e h (sym (g.keeps e (omega arith)) ∙ bad-end s e)
 
-comment-broken : (s : List ℕ) (i j e : ℕ) → Good s i j → j < length s → 0 ≡ char_length (drop j s) → j < e → Refused refusal.NotUtf8 j ≡ comment_at s i e
+comment-broken : (s : List ℕ) (i j e : ℕ) → Good s i j → j < length s → 0 ≡ char_length (drop j s) → j < e → refused_step refusal.NotUtf8 j ≡ comment_at s i e
 comment-broken s i j e g h q k = comment-bad s i e j (sym (g.keeps e (omega arith)) ∙ bad-found s j e 0 q refl h k)
 
 -- a byte up to 127 is one
@@ -188,7 +186,7 @@ module _ (r : List ℕ) where
       let n : first r ≡ 47 → ⊥ = (λ z. absurd (omega arith)) in
       simp (begins-one 46 r, begins-one 41 r, ne_eqb _ _ n, eq-eqb _ _ e)
 
-  slash-alone : (first r ≡ 47 → ⊥) → (first r ≡ 42 → ⊥) → lexeme (47 ∷ r) ≡ refused refusal.NoLexeme 0
+  slash-alone : (first r ≡ 47 → ⊥) → (first r ≡ 42 → ⊥) → lexeme (47 ∷ r) ≡ refused (refusal_number refusal.NoLexeme) 0
   unfolding lexeme space among whitespace line_comment block_comment begins ascii ascii_from qualified name_starts underscore macro hexadecimal binary decimal digits decimal_digits word mark marks no_lexeme
   slash-alone n m = simp (begins-one 46 r, begins-one 41 r, ne_eqb _ _ n, ne_eqb _ _ m)
 
@@ -229,16 +227,16 @@ module _ (s : List ℕ) (i b : ℕ) (h : i < length s) (e : get_or s i 0 ≡ 47)
           let l : k - i ≡ 2 + n = omega arith in
           ap (λ x. step_from x i) (ap (λ m. comment m (drop i s)) l ∙ sym (ap (λ x. block x (drop i s)) p) ∙ block-is z)
 
-  at-unclosed : b ≡ 42 → place_of (closing (drop (i + 2) s) 0 0) (i + 2) ≡ none → Refused refusal.Unclosed i ≡ lexeme_at s i
+  at-unclosed : b ≡ 42 → place_of (closing (drop (i + 2) s) 0 0) (i + 2) ≡ none → refused_step refusal.Unclosed i ≡ lexeme_at s i
   at-unclosed z q = go (closing (drop (i + 2) s) 0 0) refl q
     where
-      go : (x : Option ℕ) → closing (drop (i + 2) s) 0 0 ≡ x → place_of x (i + 2) ≡ none → Refused refusal.Unclosed i ≡ lexeme_at s i
-      go none p q = ap (Refused refusal.Unclosed) (let z : i ≡ i + 0 = omega arith in z) ∙ ap (λ x. step_from x i) (sym (ap (λ x. block x (drop i s)) p) ∙ block-is z)
+      go : (x : Option ℕ) → closing (drop (i + 2) s) 0 0 ≡ x → place_of x (i + 2) ≡ none → refused_step refusal.Unclosed i ≡ lexeme_at s i
+      go none p q = ap (refused_step refusal.Unclosed) (let z : i ≡ i + 0 = omega arith in z) ∙ ap (λ x. step_from x i) (sym (ap (λ x. block x (drop i s)) p) ∙ block-is z)
       go (some n) p q = let z : ◌≡◌ {A = ℕ} 0 1 = cc in absurd (omega arith)
 
-  pub at-slash : (b ≡ 47 → ⊥) → (b ≡ 42 → ⊥) → Refused refusal.NoLexeme i ≡ lexeme_at s i
+  pub at-slash : (b ≡ 47 → ⊥) → (b ≡ 42 → ⊥) → refused_step refusal.NoLexeme i ≡ lexeme_at s i
   at-slash n m =
-      ap (Refused refusal.NoLexeme) (let z : i ≡ i + 0 = omega arith in z)
+      ap (refused_step refusal.NoLexeme) (let z : i ≡ i + 0 = omega arith in z)
       ∙ sym (ap (λ x. step_from x i) (ap lexeme here ∙ slash-alone (drop (suc i) s) (λ z. n (sym next ∙ z)) (λ z. m (sym next ∙ z))))
 
 -- ---- a line comment
@@ -248,7 +246,7 @@ module _ (s : List ℕ) (i j : ℕ) (h : i + 1 < length s) (a : get_or s i 0 ≡
   line-whole l g e = comment-whole s i j l g ∙ at-line s i 47 (omega arith) a (sym b) refl j e
 
   pub line-broken : Good s i j → j < length s → in_line (get_or s j 0) ≡ true → 0 ≡ char_length (drop j s) → run_end in_line s j ≡ run_end in_line s (i + 2)
-      → Refused refusal.NotUtf8 j ≡ lexeme_at s i
+      → refused_step refusal.NotUtf8 j ≡ lexeme_at s i
   line-broken g l x q e =
       let z = run_in in_line s j l x in
       comment-broken s i j (run_end in_line s (i + 2)) g l q (omega arith) ∙ at-line s i 47 (omega arith) a (sym b) refl _ refl
@@ -283,5 +281,5 @@ module _ (s : List ℕ) (i : ℕ) (h : i + 1 < length s) (a : get_or s i 0 ≡ 4
   pub block-whole : (k : ℕ) → i ≤ k → Good s i k → place_of (closing (drop (i + 2) s) 0 0) (i + 2) ≡ some k → Trivia k ≡ lexeme_at s i
   block-whole k l g e = comment-whole s i k l g ∙ at_block s i 42 (omega arith) a (sym b) refl k e
 
-  pub block-unclosed : place_of (closing (drop (i + 2) s) 0 0) (i + 2) ≡ none → Refused refusal.Unclosed i ≡ lexeme_at s i
+  pub block-unclosed : place_of (closing (drop (i + 2) s) 0 0) (i + 2) ≡ none → refused_step refusal.Unclosed i ≡ lexeme_at s i
   block-unclosed e = at-unclosed s i 42 (omega arith) a (sym b) refl e

@@ -11,13 +11,14 @@ use Prim.Native.Nat.{ℕ, ◌+◌, ◌-◌, ◌≤◌, ◌<◌}
 use native.Mathlib.Omega.{arith}
 use Rattle.std.proofs.Math.ListN.{get_or, drop}
 use Rattle.text.specs.Ascii.{ascii, ascii_from}
-use Rattle.text.specs.Refusals as refusal
+use Rattle.text.specs.Refusals.{refusal_number}
+use Rattle.text.specs.declared.refusal.Refusal.TheVariants as refusal
 use Rattle.text.proofs.Table.{first-of, second-of}
 use Rattle.utf8.specs.Utf8.{bad_at}
 use Rattle.words.proofs.Right.{Says, says}
 use Rattle.words.specs.Words.{KEYWORDS, MACROS, MODULE_RESERVED, word_of}
-use Rattle.words.specs.declared.Found.{Found}
-use Rattle.words.specs.declared.Found.TheVariants.{Word, Plain}
+use Rattle.std.specs.Prelude.{Some, None}
+use Rattle.std.specs.Prelude as std
 use Rattle.lexer.specs.Classes as t
 use Rattle.lexer.specs.Chars.{Range, among, whitespace, binary_digits, decimal_digits, hex_digits, underscore, name_starts, name_bytes, first, run, begins}
 use Rattle.lexer.specs.Lexemes.{Lexeme, token, trivia, refused, space, checked, comment, line_comment, closing, block, block_comment, name_length, is_name, module_token, qualified, macro_token, macro, word_token, word, digits, hexadecimal, binary, decimal, Mark, marks, mark, no_lexeme, trials, lexeme}
@@ -28,11 +29,11 @@ use Rattle.lexer.proofs.Trials.{Finds, nil, ◌&◌, cond-if, try-if, both_left,
 
 -- what a refusal behind n bytes of a text finds there
 pub data Fault (r : List ℕ) : ℕ → ℕ → Type 0 where
-  over : 1 ≤ length r → 127 < first r → Fault r refusal.NotAscii 0
-  nothing : first r ≤ 127 → NoneFinds trials r → Fault r refusal.NoLexeme 0
-  unclosed : begins (ascii "/*") r ≡ true → closing (drop 2 r) 0 0 ≡ none → Fault r refusal.Unclosed 0
-  simc : is_name r ≡ true → take (name_length r) r ≡ ascii "simc" → Fault r refusal.Simc 0
-  bad : {n k : ℕ} → Comment r n → bad_at (take n r) ≡ some k → Fault r refusal.NotUtf8 k
+  over : 1 ≤ length r → 127 < first r → Fault r (refusal_number refusal.NotAscii) 0
+  nothing : first r ≤ 127 → NoneFinds trials r → Fault r (refusal_number refusal.NoLexeme) 0
+  unclosed : begins (ascii "/*") r ≡ true → closing (drop 2 r) 0 0 ≡ none → Fault r (refusal_number refusal.Unclosed) 0
+  simc : is_name r ≡ true → take (name_length r) r ≡ ascii "simc" → Fault r (refusal_number refusal.Simc) 0
+  bad : {n k : ℕ} → Comment r n → bad_at (take n r) ≡ some k → Fault r (refusal_number refusal.NotUtf8) k
 
 -- n bytes of a text are up to 127, or they are a comment
 pub data Clear (r : List ℕ) (n : ℕ) : Type 0 where
@@ -96,9 +97,9 @@ module _ (r : List ℕ) where
   unfolding name_length name_bytes name_starts decimal_digits underscore
   name-plain s = run-plain (among name_bytes) s (low-among name_bytes tt)
 
-  module-tells : (f : Found) (n : ℕ) → plain.Plain n r → Finds (Tells r) (module_token f n)
-  module-tells (Word k) n p = p
-  module-tells Plain n p = tt
+  module-tells : (f : std.Option ℕ) (n : ℕ) → plain.Plain n r → Finds (Tells r) (module_token f n)
+  module-tells (Some k) n p = p
+  module-tells None n p = tt
 
   qualified-tells : Finds (Tells r) (qualified r)
   unfolding qualified ascii ascii_from
@@ -110,9 +111,9 @@ module _ (r : List ℕ) where
       let p = plain_then n 2 r (name-plain r) (begins-plain (ascii "::") (drop n r) tt b) in
       module-tells (word_of MODULE_RESERVED (take n r)) (n + 2 + name_length name) (plain_then (n + 2) (name_length name) r p (name-plain name)))
 
-  macro-found : (f : Found) (n : ℕ) → plain.Plain n r → Finds (Tells r) (macro_token f n)
-  macro-found (Word k) n p = p
-  macro-found Plain n p = tt
+  macro-found : (f : std.Option ℕ) (n : ℕ) → plain.Plain n r → Finds (Tells r) (macro_token f n)
+  macro-found (Some k) n p = p
+  macro-found None n p = tt
 
   macro-tells : Finds (Tells r) (macro r)
   unfolding macro ascii ascii_from
@@ -123,17 +124,17 @@ module _ (r : List ℕ) where
       macro-found (word_of MACROS (take (n + 1) r)) (n + 1) (plain_then n 1 r (name-plain r) (begins-plain (ascii "!") (drop n r) tt b)))
 
   -- the keyword with the number of `simc` is that word
-  simc-is : (p : List ℕ) (k : ℕ) → Says KEYWORDS p (Word k) → t.Pub + k ≡ t.Simc → p ≡ ascii "simc"
+  simc-is : (p : List ℕ) (k : ℕ) → Says KEYWORDS p (Some k) → t.Pub + k ≡ t.Simc → p ≡ ascii "simc"
   unfolding KEYWORDS
   simc-is p k s e =
       let z : k ≡ t.Simc - t.Pub = omega arith in
       sym s.1 ∙ ap (λ n. get_or KEYWORDS n []) z
 
-  word-found : (f : Found) → is_name r ≡ true → Says KEYWORDS (take (name_length r) r) f → Tells r (word_token f (name_length r))
-  word-found (Word k) i s =
+  word-found : (f : std.Option ℕ) → is_name r ≡ true → Says KEYWORDS (take (name_length r) r) f → Tells r (word_token f (name_length r))
+  word-found (Some k) i s =
       cond-if (Tells r) (eqb (t.Pub + k) t.Simc) (λ e. simc i (simc-is (take (name_length r) r) k s (eqb-true _ _ e)))
       (λ _. cond-if (Tells r) (ltb t.Simc (t.Pub + k)) (λ _. name-plain r) (λ _. name-plain r))
-  word-found Plain i s = name-plain r
+  word-found None i s = name-plain r
 
   word-tells : Finds (Tells r) (word r)
   unfolding word

@@ -11,7 +11,7 @@ use lib.Dec.{ltb, eqb}
 use lib.ListN.{length, get_or, drop, set, length-drop, length-append, length-set, get_or-append}
 use lib.Seq.{sets-eq, take_at, drop_at, drop-drop, get_or_at}
 use Rattle.text.specs.Answers.{Answer, accepted, refused}
-use Rattle.text.specs.Refusals as refusal
+use Rattle.text.specs.declared.refusal.Refusal.TheVariants as refusal
 use Rattle.text.specs.Widths.{tok_wide}
 use Rattle.text.specs.Front.{front, Held}
 use Rattle.lexer.specs.Lexemes.{Token, Lexemes, tokens, refused_at, with_token, lexemes_from, lexemes}
@@ -22,7 +22,9 @@ use Rattle.lexer.specs.Nesting.{is_past, nest_after, nest_of, outermost, passed_
 use Rattle.lexer.specs.Step.{step_of}
 use Rattle.lexer.specs.declared.Step.{Step}
 use Rattle.lexer.specs.declared.Step.TheVariants as S
-use Rattle.lexer.specs.declared.Lexed.{Lexed}
+use Rattle.std.specs.Prelude as std
+use Rattle.text.specs.declared.refusal.Refused.{Refused}
+use Rattle.text.specs.Refusals.{refusal_number}
 use Rattle.lexer.specs.declared.depth.Nest.{Nest}
 use Rattle.lexer.proofs.Nesting.{nest-snoc, nest_deep}
 use Rattle.lexer.proofs.Steps.{follow, Leads, rest-follows, step-leads}
@@ -128,8 +130,8 @@ module _ {s : List ℕ} {room : ℕ} {o : List ℕ} {i n w : ℕ} {x : Nest} {ou
         nested = v.nested;
       }
 
-  pub fill-refused : (c p : ℕ) → step_of s i ≡ S.Refused c p → lexemes s ≡ refused_at c p
-  fill-refused c p q = sym (left v (S.Refused c p) q)
+  pub fill-refused : (r : Refused) → step_of s i ≡ S.Refused r → lexemes s ≡ refused_at (refusal_number r.refusal) r.place
+  fill-refused r q = sym (left v (S.Refused r) q)
 
   pub fill-over : step_of s i ≡ S.Nothing → lexemes s ≡ tokens v.done
   fill-over q = sym (left v S.Nothing q) ∙ ap tokens (append-nil v.done)
@@ -175,30 +177,30 @@ module _ {s : List ℕ} {room : ℕ} {o : List ℕ} {i n w : ℕ} {x : Nest} {ou
 
   -- every token is found: the answer and the buffer
   abbrev said : Bool → Bool → Answer
-  said a b = cond a (refused refusal.TooMany w) (cond b (refused refusal.TooDeep x.place) (accepted n 0))
+  said a b = cond a (refused (refusal_number refusal.TooMany) w) (cond b (refused (refusal_number refusal.TooDeep) x.place) (accepted n 0))
 
-  deep_is : cond (is_past x) (refused refusal.TooDeep x.place) (accepted n 0) ≡ deep (first_too_deep 0 0 v.done) n
+  deep_is : cond (is_past x) (refused (refusal_number refusal.TooDeep) x.place) (accepted n 0) ≡ deep (first_too_deep 0 0 v.done) n
   deep_is = go (is_past x) ∙ sym (ap (λ (p : Option ℕ). deep p n) (sym (nest_deep v.done 0 0 0 (omega arith)) ∙ ap passed_at v.nested))
     where
-      go : (b : Bool) → cond b (refused refusal.TooDeep x.place) (accepted n 0) ≡ deep (cond b (some x.place) none) n
+      go : (b : Bool) → cond b (refused (refusal_number refusal.TooDeep) x.place) (accepted n 0) ≡ deep (cond b (some x.place) none) n
       go true = refl
       go false = refl
 
   pub fill-answer : step_of s i ≡ S.Nothing → said (ltb room n) (is_past x) ≡ judged_in room (lexemes s)
   fill-answer q =
       go (ltb room n) refl
-      ∙ sym (ap (λ y. cond (ltb room y) (refused refusal.TooMany first-over) (deep (first_too_deep 0 0 v.done) y)) v.number)
+      ∙ sym (ap (λ y. cond (ltb room y) (refused (refusal_number refusal.TooMany) first-over) (deep (first_too_deep 0 0 v.done) y)) v.number)
       ∙ sym (ap (judged_in room) (fill-over q))
     where
       first-over : ℕ
       first-over = (get_or v.done room no_token).start
 
-      go : (b : Bool) → ltb room n ≡ b → said b (is_past x) ≡ cond b (refused refusal.TooMany first-over) (deep (first_too_deep 0 0 v.done) n)
-      go true f = ap (refused refusal.TooMany) (v.over (ltb-true room n f))
+      go : (b : Bool) → ltb room n ≡ b → said b (is_past x) ≡ cond b (refused (refusal_number refusal.TooMany) first-over) (deep (first_too_deep 0 0 v.done) n)
+      go true f = ap (refused (refusal_number refusal.TooMany)) (v.over (ltb-true room n f))
       go false f = deep_is
 
   -- the tokens stand in the buffer unless they are refused
-  pub fill-held : (r : Lexed) → step_of s i ≡ S.Nothing → meant r ≡ said (ltb room n) (is_past x) → Held (meant r) (token_words (tokens_of (lexemes s))) o out
+  pub fill-held : (r : std.Result ℕ Refused) → step_of s i ≡ S.Nothing → meant r ≡ said (ltb room n) (is_past x) → Held (meant r) (token_words (tokens_of (lexemes s))) o out
   fill-held r q e = record { holds = λ k m h. go (ltb room n) (is_past x) refl (sym e ∙ h) }
     where
       go : (a b : Bool) → ltb room n ≡ a → {k m : ℕ} → said a b ≡ accepted k m → out ≡ front (token_words (tokens_of (lexemes s))) o

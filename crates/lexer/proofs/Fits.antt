@@ -5,7 +5,8 @@ use Rattle.std.proofs.Common.{sym, ap, ◌∙◌, arith, ltb-false}
 use Rattle.std.proofs.Math.Option.{Option, none, some}
 use Rattle.text.proofs.Same.{differ}
 use Rattle.text.specs.Answers.{Answer, accepted, refused}
-use Rattle.text.specs.Refusals as refusal
+use Rattle.text.specs.Refusals.{refusal_number}
+use Rattle.text.specs.declared.refusal.Refusal.TheVariants as refusal
 use Rattle.text.specs.Front.{front}
 use Rattle.text.proofs.Front.{front-cleared}
 use Rattle.text.specs.Widths.{tok_wide}
@@ -33,7 +34,7 @@ fits : (l : Limits) (tw n : ℕ) (x : Lexemes) → judged l tw x ≡ accepted n 
 fits l tw n (refused_at c p) e = absurd (not-both e)
 fits l tw n (tokens ts) e = go (ltb (room l tw) (length ts)) refl e
   where
-    go : (b : Bool) → ltb (room l tw) (length ts) ≡ b → cond b (refused refusal.TooMany (get_or ts (room l tw) no_token).start) (deep (first_too_deep 0 0 ts) (length ts)) ≡ accepted n 0 → (length ts ≡ n) × (length ts ≤ room l tw)
+    go : (b : Bool) → ltb (room l tw) (length ts) ≡ b → cond b (refused (refusal_number refusal.TooMany) (get_or ts (room l tw) no_token).start) (deep (first_too_deep 0 0 ts) (length ts)) ≡ accepted n 0 → (length ts ≡ n) × (length ts ≤ room l tw)
     go true q f = absurd (not-both f)
     go false q f = (deep_is (first_too_deep 0 0 ts) f, ltb-false (room l tw) (length ts) q)
 
@@ -42,7 +43,7 @@ pub lexed-fits : (l : Limits) (draft : List ℕ) (tw n : ℕ) → lexed_of l dra
 unfolding lexed_of
 lexed-fits l draft tw n e = go (ltb l.bytes (length draft)) e
   where
-    go : (b : Bool) → cond b (refused refusal.TooLong l.bytes) (judged l tw (lexemes draft)) ≡ accepted n 0 → (length (tokens_of (lexemes draft)) ≡ n) × (length (tokens_of (lexemes draft)) ≤ room l tw)
+    go : (b : Bool) → cond b (refused (refusal_number refusal.TooLong) l.bytes) (judged l tw (lexemes draft)) ≡ accepted n 0 → (length (tokens_of (lexemes draft)) ≡ n) × (length (tokens_of (lexemes draft)) ≤ room l tw)
     go true f = absurd (not-both f)
     go false f = fits l tw n (lexemes draft) f
 
@@ -59,7 +60,7 @@ pub lexed-short : (l : Limits) (draft : List ℕ) (tw n : ℕ) → lexed_of l dr
 unfolding lexed_of
 lexed-short l draft tw n e = go (ltb l.bytes (length draft)) refl e
   where
-    go : (b : Bool) → ltb l.bytes (length draft) ≡ b → cond b (refused refusal.TooLong l.bytes) (judged l tw (lexemes draft)) ≡ accepted n 0 → length draft ≤ l.bytes
+    go : (b : Bool) → ltb l.bytes (length draft) ≡ b → cond b (refused (refusal_number refusal.TooLong) l.bytes) (judged l tw (lexemes draft)) ≡ accepted n 0 → length draft ≤ l.bytes
     go true q f = absurd (not-both f)
     go false q f = ltb-false l.bytes (length draft) q
 

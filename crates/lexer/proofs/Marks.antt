@@ -11,7 +11,8 @@ use borrow.Author.Tests.{eq-eqb, ne_eqb, leb-true, leb-false}
 use lib.Dec.{T, eqb, leb}
 use lib.ListN.{length, get_or, drop, replicate, length-replicate}
 use Rattle.text.specs.Ascii.{ascii, ascii_from}
-use Rattle.text.specs.Refusals as refusal
+use Rattle.text.specs.Refusals.{refusal_number}
+use Rattle.text.specs.declared.refusal.Refusal.TheVariants as refusal
 use Rattle.text.specs.Same.{same}
 use Rattle.text.proofs.Same.{differ}
 use Rattle.text.specs.Table.{every, all}
@@ -37,10 +38,10 @@ chosen b g h =
 -- the same by the byte's class
 abbrev pub by_class : ℕ → Bool → Bool → Lexeme
 by_class c g h =
-    cond (eqb c byte.Minus) (cond g (token t.Arrow 2) (refused refusal.NoLexeme 0))
+    cond (eqb c byte.Minus) (cond g (token t.Arrow 2) (refused (refusal_number refusal.NoLexeme) 0))
     (cond (eqb c byte.Colon) (cond h (token t.DoubleColon 2) (token t.Colon 1))
     (cond (eqb c byte.Eq) (cond g (token t.FatArrow 2) (token t.Eq 1))
-    (cond (eqb c byte.Other) (refused refusal.NoLexeme 0)
+    (cond (eqb c byte.Other) (refused (refusal_number refusal.NoLexeme) 0)
     (token c 1))))
 
 -- what is tested of each byte up to 127 that may be a mark

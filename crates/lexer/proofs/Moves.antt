@@ -17,8 +17,8 @@ use Rattle.text.specs.Lists.{has}
 use Rattle.utf8.proofs.Laws.{bad-place}
 use Rattle.utf8.specs.Utf8.{bad_at}
 use Rattle.words.specs.Words.{KEYWORDS, MACROS, MODULE_RESERVED, word_of}
-use Rattle.words.specs.declared.Found.{Found}
-use Rattle.words.specs.declared.Found.TheVariants.{Word, Plain}
+use Rattle.std.specs.Prelude.{Some, None}
+use Rattle.std.specs.Prelude as std
 use Rattle.lexer.specs.Classes as t
 use Rattle.lexer.specs.Chars.{Range, among, whitespace, line_ends, binary_digits, decimal_digits, hex_digits, underscore, name_starts, name_bytes, first, run, begins}
 use Rattle.lexer.specs.Lexemes.{Lexeme, token, trivia, refused, space, checked, comment, line_comment, Inside, closed, within, inside, onward, closing, block, block_comment, name_length, is_name, module_token, qualified, macro_token, macro, word_token, word, digits, hexadecimal, binary, decimal, Mark, marks, mark, no_lexeme, trials, lexeme}
@@ -126,9 +126,9 @@ module _ (r : List ℕ) where
 
   -- ---- names and words
 
-  module-moves : (f : Found) (n : ℕ) → 1 ≤ n → n ≤ length r → Finds (Moves (length r)) (module_token f n)
-  module-moves (Word k) n h l = (h, l)
-  module-moves Plain n h l = tt
+  module-moves : (f : std.Option ℕ) (n : ℕ) → 1 ≤ n → n ≤ length r → Finds (Moves (length r)) (module_token f n)
+  module-moves (Some k) n h l = (h, l)
+  module-moves None n h l = tt
 
   qualified-moves : Finds (Moves (length r)) (qualified r)
   unfolding qualified name_length ascii ascii_from
@@ -140,9 +140,9 @@ module _ (r : List ℕ) where
       let l = run-behind (among name_bytes) (n + 2) r h in
       module-moves (word_of MODULE_RESERVED (take n r)) (n + 2 + name_length name) (omega arith) l)
 
-  macro-found : (f : Found) (n : ℕ) → 1 ≤ n → n ≤ length r → Finds (Moves (length r)) (macro_token f n)
-  macro-found (Word k) n h l = (h, l)
-  macro-found Plain n h l = tt
+  macro-found : (f : std.Option ℕ) (n : ℕ) → 1 ≤ n → n ≤ length r → Finds (Moves (length r)) (macro_token f n)
+  macro-found (Some k) n h l = (h, l)
+  macro-found None n h l = tt
 
   macro-moves : Finds (Moves (length r)) (macro r)
   unfolding macro ascii ascii_from
@@ -152,12 +152,12 @@ module _ (r : List ℕ) where
       (λ t. let h = begins-behind (ascii "!") (name_length r) r (omega arith) (both_right (is_name r) (begins (ascii "!") (drop (name_length r) r)) t) in
       macro-found (word_of MACROS (take n r)) n (omega arith) h)
 
-  word-found : (f : Found) (n : ℕ) → 1 ≤ n → n ≤ length r → Moves (length r) (word_token f n)
+  word-found : (f : std.Option ℕ) (n : ℕ) → 1 ≤ n → n ≤ length r → Moves (length r) (word_token f n)
   unfolding has
-  word-found (Word k) n h l =
+  word-found (Some k) n h l =
       cond-if (Moves (length r)) (eqb (t.Pub + k) t.Simc) (λ _. (tt, omega arith))
       (λ _. cond-if (Moves (length r)) (ltb t.Simc (t.Pub + k)) (λ _. (h, l)) (λ _. (h, l)))
-  word-found Plain n h l = (h, l)
+  word-found None n h l = (h, l)
 
   -- ---- digits
 

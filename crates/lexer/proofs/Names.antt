@@ -11,19 +11,20 @@ use lib.Dec.{eqb, ltb}
 use lib.ListN.{length, get_or, take, drop}
 use lib.Seq.{get_or-drop}
 use Rattle.text.specs.Ascii.{ascii, ascii_from}
-use Rattle.text.specs.Refusals as refusal
+use Rattle.text.specs.Refusals.{refusal_number}
+use Rattle.text.specs.declared.refusal.Refusal.TheVariants as refusal
 use Rattle.text.specs.Part.{part_of}
 use Rattle.words.specs.Words.{KEYWORDS, MACROS, MODULE_RESERVED, word_of}
-use Rattle.words.specs.declared.Found.TheVariants.{Word, Plain}
+use Rattle.std.specs.Prelude.{Some, None}
 use Rattle.lexer.specs.Bytes.{in_classes}
 use Rattle.lexer.specs.Bytes as byte
 use Rattle.lexer.specs.Classes as t
 use Rattle.lexer.specs.Chars.{among, whitespace, decimal_digits, name_starts, name_bytes, is, run, begins}
 use Rattle.lexer.specs.Lexemes.{token, refused, ◌or_else◌, space, line_comment, block_comment, name_length, is_name, module_token, qualified, macro_token, macro, word_token, word, digits, hexadecimal, binary, decimal, lexeme}
 use Rattle.lexer.specs.Places.{Named, keyword_at}
-use Rattle.lexer.specs.Step.{step_from, lexeme_at}
+use Rattle.lexer.specs.Step.{refused_step, step_from, lexeme_at}
 use Rattle.lexer.proofs.TextLaws.{part-rest}
-use Rattle.lexer.specs.declared.Step.TheVariants.{Token, Refused}
+use Rattle.lexer.specs.declared.Step.TheVariants.{Token}
 use Rattle.lexer.proofs.ByteClasses.{name-classes, name-apart, not_name, each-fails}
 use Rattle.lexer.proofs.Rest.{rest-first, rest-cons, rest-drop, begins-one, begins-two}
 use Rattle.lexer.proofs.Runs.{run-same, run-end-within}
@@ -96,14 +97,14 @@ module _ (s : List ℕ) (i e : ℕ) (v : Named s i e) where
   pub not_named : among name_starts (get_or s (e + 2) 0) ≡ false → qualified (drop i s) ≡ none
   not_named h = qualified-is ∙ simp (h, and-false)
 
-  pub not-reserved : get_or s e 0 ≡ 58 → get_or s (e + 1) 0 ≡ 58 → among name_starts (get_or s (e + 2) 0) ≡ true → word_of MODULE_RESERVED (part_of s i e) ≡ Plain
+  pub not-reserved : get_or s e 0 ≡ 58 → get_or s (e + 1) 0 ≡ 58 → among name_starts (get_or s (e + 2) 0) ≡ true → word_of MODULE_RESERVED (part_of s i e) ≡ None
       → qualified (drop i s) ≡ none
   not-reserved a b c d = qualified-is ∙ simp (eq-eqb _ _ a, eq-eqb _ _ b, c, d)
 
   pub no-macro : (get_or s e 0 ≡ 33 → ⊥) → macro (drop i s) ≡ none
   no-macro h = macro-is ∙ simp (ne_eqb _ _ h)
 
-  pub plain-macro : get_or s e 0 ≡ 33 → e + 1 ≤ length s → word_of MACROS (part_of s i (e + 1)) ≡ Plain → macro (drop i s) ≡ none
+  pub plain-macro : get_or s e 0 ≡ 33 → e + 1 ≤ length s → word_of MACROS (part_of s i (e + 1)) ≡ None → macro (drop i s) ≡ none
   plain-macro a h d =
       let t : take (name_length (drop i s) + 1) (drop i s) ≡ part_of s i (e + 1) = sym (part-rest s i (name_length (drop i s) + 1) (e + 1) (let z = v.ends in omega arith) h) in
       macro-is ∙ simp (eq-eqb _ _ a, t, d)
@@ -111,7 +112,7 @@ module _ (s : List ℕ) (i e : ℕ) (v : Named s i e) where
   -- ---- the lexeme
 
   pub at-module : (k m : ℕ) → get_or s e 0 ≡ 58 → get_or s (e + 1) 0 ≡ 58 → among name_starts (get_or s (e + 2) 0) ≡ true
-      → word_of MODULE_RESERVED (part_of s i e) ≡ Word k → m ≡ e + 2 + run (in_classes byte.Underscore byte.Letter) (drop (e + 2) s) → Token (t.Jet + k) m ≡ lexeme_at s i
+      → word_of MODULE_RESERVED (part_of s i e) ≡ Some k → m ≡ e + 2 + run (in_classes byte.Underscore byte.Letter) (drop (e + 2) s) → Token (t.Jet + k) m ≡ lexeme_at s i
   unfolding name_length
   at-module k m a b c d q =
       let w : qualified (drop i s) ≡ some (token (t.Jet + k) (name_length (drop i s) + 2 + name_length (drop (e + 2) s))) =
@@ -121,7 +122,7 @@ module _ (s : List ℕ) (i e : ℕ) (v : Named s i e) where
       let l : lexeme (drop i s) ≡ token (t.Jet + k) (name_length (drop i s) + 2 + name_length (drop (e + 2) s)) = lexeme-is ∙ simp w in
       ap (Token (t.Jet + k)) z ∙ sym (ap (λ x. step_from x i) l)
 
-  pub at-macro : (k : ℕ) → qualified (drop i s) ≡ none → get_or s e 0 ≡ 33 → e + 1 ≤ length s → word_of MACROS (part_of s i (e + 1)) ≡ Word k → Token t.Macro (e + 1) ≡ lexeme_at s i
+  pub at-macro : (k : ℕ) → qualified (drop i s) ≡ none → get_or s e 0 ≡ 33 → e + 1 ≤ length s → word_of MACROS (part_of s i (e + 1)) ≡ Some k → Token t.Macro (e + 1) ≡ lexeme_at s i
   at-macro k b a h d =
       let x : take (name_length (drop i s) + 1) (drop i s) ≡ part_of s i (e + 1) = sym (part-rest s i (name_length (drop i s) + 1) (e + 1) (let z = v.ends in omega arith) h) in
       let w : macro (drop i s) ≡ some (token t.Macro (name_length (drop i s) + 1)) = macro-is ∙ simp (eq-eqb _ _ a, x, d) in
@@ -134,16 +135,16 @@ module _ (s : List ℕ) (i e : ℕ) (v : Named s i e) where
       let l : lexeme (drop i s) ≡ word_token (word_of KEYWORDS (part_of s i e)) (name_length (drop i s)) = lexeme-is ∙ simp (a, b) in
       ap (λ x. step_from x i) l
 
-  pub at_plain : qualified (drop i s) ≡ none → macro (drop i s) ≡ none → word_of KEYWORDS (part_of s i e) ≡ Plain → Token t.Ident e ≡ lexeme_at s i
+  pub at_plain : qualified (drop i s) ≡ none → macro (drop i s) ≡ none → word_of KEYWORDS (part_of s i e) ≡ None → Token t.Ident e ≡ lexeme_at s i
   at_plain a b d = sym (word-is a b ∙ ap (λ f. step_from (word_token f (name_length (drop i s))) i) d ∙ ap (Token t.Ident) (sym v.ends))
 
-  pub at-keyword : (k : ℕ) → qualified (drop i s) ≡ none → macro (drop i s) ≡ none → word_of KEYWORDS (part_of s i e) ≡ Word k → keyword_at k i e ≡ lexeme_at s i
+  pub at-keyword : (k : ℕ) → qualified (drop i s) ≡ none → macro (drop i s) ≡ none → word_of KEYWORDS (part_of s i e) ≡ Some k → keyword_at k i e ≡ lexeme_at s i
   at-keyword k a b d = sym (word-is a b ∙ ap (λ f. step_from (word_token f (name_length (drop i s))) i) d ∙ go (eqb (t.Pub + k) t.Simc) (ltb t.Simc (t.Pub + k)))
     where
       go : (a b : Bool)
-          → step_from (cond a (refused refusal.Simc 0) (cond b (token t.Bool (name_length (drop i s))) (token (t.Pub + k) (name_length (drop i s))))) i
-          ≡ cond a (Refused refusal.Simc i) (cond b (Token t.Bool e) (Token (t.Pub + k) e))
-      go true b = ap (Refused refusal.Simc) (let z : i + 0 ≡ i = omega arith in z)
+          → step_from (cond a (refused (refusal_number refusal.Simc) 0) (cond b (token t.Bool (name_length (drop i s))) (token (t.Pub + k) (name_length (drop i s))))) i
+          ≡ cond a (refused_step refusal.Simc i) (cond b (Token t.Bool e) (Token (t.Pub + k) e))
+      go true b = ap (refused_step refusal.Simc) (let z : i + 0 ≡ i = omega arith in z)
       go false true = ap (Token t.Bool) (sym v.ends)
       go false false = ap (Token (t.Pub + k)) (sym v.ends)
 

@@ -7,17 +7,18 @@ use native.Mathlib.Omega.{arith}
 use borrow.Author.Tests.{lt-ltb, le-ltb}
 use lib.ListN.{length, replicate, take}
 use Rattle.text.specs.Answers.{Answer, accepted, refused}
-use Rattle.text.specs.Refusals as refusal
+use Rattle.text.specs.Refusals.{refusal_number}
+use Rattle.text.specs.declared.refusal.Refusal.TheVariants as refusal
 use Rattle.text.specs.Widths.{tok_wide}
 use Rattle.lexer.specs.Lexemes.{lexemes}
 use Rattle.lexer.specs.Limits.{limits_of, room, meant, judged_in, lexed_of, tokens_of, token_words, content, buffer_of}
 use Rattle.text.specs.Front.{Held}
 use Rattle.lexer.proofs.Fits.{words-fit, tokens-cleared}
-use Rattle.lexer.specs.declared.Lexed.{Lexed}
-use Rattle.lexer.specs.declared.Lexed.TheVariants.{Tokens, Refused}
+use Rattle.std.specs.Prelude.{Result, Ok, Err}
+use Rattle.text.specs.declared.refusal.Refused.{Refused}
 
 module _ (b t : ℕ) (s : List ℕ) (size : ℕ) where
-  pub too_long : b < length s → refused refusal.TooLong b ≡ lexed_of (limits_of b t) s size
+  pub too_long : b < length s → refused (refusal_number refusal.TooLong) b ≡ lexed_of (limits_of b t) s size
   unfolding lexed_of
   too_long h = simp (lt-ltb _ _ h)
 
@@ -26,15 +27,15 @@ module _ (b t : ℕ) (s : List ℕ) (size : ℕ) where
   unfolding lexed_of room
   not-too-long h k e = ap (λ (m : ℕ). judged_in m (lexemes s)) e ∙ simp (le-ltb _ _ h)
 
-  pub buffer-refused : {r : Lexed} {c p : ℕ} → meant r ≡ lexed_of (limits_of b t) s size → r ≡ Refused c p → replicate size 0 ≡ buffer_of (limits_of b t) s size
+  pub buffer-refused : {r : Result ℕ Refused} {x : Refused} → meant r ≡ lexed_of (limits_of b t) s size → r ≡ Err x → replicate size 0 ≡ buffer_of (limits_of b t) s size
   unfolding buffer_of
   buffer-refused e g = ap (λ (x : Answer). content x (tokens_of (lexemes s)) size) (sym (ap meant g) ∙ e)
 
-  is-accepted : {r : Lexed} {n : ℕ} → meant r ≡ lexed_of (limits_of b t) s size → r ≡ Tokens n → lexed_of (limits_of b t) s size ≡ accepted n 0
+  is-accepted : {r : Result ℕ Refused} {n : ℕ} → meant r ≡ lexed_of (limits_of b t) s size → r ≡ Ok n → lexed_of (limits_of b t) s size ≡ accepted n 0
   is-accepted e g = sym e ∙ ap meant g
 
 -- As many tokens as are accepted fit the buffer, and with zeros behind them they are what it has.
-module _ (b t : ℕ) (s o : List ℕ) {r : Lexed} {n : ℕ} (out : List ℕ) (e : meant r ≡ lexed_of (limits_of b t) s (length o)) (g : r ≡ Tokens n) where
+module _ (b t : ℕ) (s o : List ℕ) {r : Result ℕ Refused} {n : ℕ} (out : List ℕ) (e : meant r ≡ lexed_of (limits_of b t) s (length o)) (g : r ≡ Ok n) where
   pub tokens-fit : length out ≡ length o → tok_wide * n ≤ length out
   tokens-fit l = omega (arith, l, (words-fit (limits_of b t) s o n (is-accepted b t s (length o) e g)).0)
 

@@ -10,7 +10,8 @@ use Prim.Native.Nat.{ℕ, zero, suc, ◌+◌, ◌-◌, ◌≤◌, ◌<◌}
 use native.Mathlib.Omega.{arith}
 use Rattle.std.proofs.Math.ListN.{length, get_or, drop, length-drop}
 use Rattle.text.specs.Ascii.{ascii, ascii_from}
-use Rattle.text.specs.Refusals as refusal
+use Rattle.text.specs.Refusals.{refusal_number}
+use Rattle.text.specs.declared.refusal.Refusal.TheVariants as refusal
 use Rattle.text.proofs.Rest.{part-short}
 use Rattle.text.proofs.Same.{differ}
 use Rattle.lexer.specs.Chars.{among, name_starts, underscore, first}
@@ -29,9 +30,9 @@ module _ (draft : List ℕ) where
   -- a bad one of a comment that lexing comes to
 
   data Kind (p : ℕ) : ℕ → Type 0 where
-    big : p < length draft → 127 < get_or draft p 0 → (Commented draft p → ⊥) → Kind p refusal.NotAscii
+    big : p < length draft → 127 < get_or draft p 0 → (Commented draft p → ⊥) → Kind p (refusal_number refusal.NotAscii)
     stop : {c : ℕ} → Reached draft p → p < length draft → get_or draft p 0 ≤ 127 → lexeme (drop p draft) ≡ refused c 0 → Kind p c
-    bad : {q n k : ℕ} → Reached draft q → Comment (drop q draft) n → bad_at (take n (drop q draft)) ≡ some k → p ≡ q + k → Kind p refusal.NotUtf8
+    bad : {q n k : ℕ} → Reached draft q → Comment (drop q draft) n → bad_at (take n (drop q draft)) ≡ some k → p ≡ q + k → Kind p (refusal_number refusal.NotUtf8)
 
   -- where a name starts the draft has not ended
   starts-there : (p : ℕ) → is_name (drop p draft) ≡ true → p < length draft
@@ -189,11 +190,11 @@ module _ (draft : List ℕ) where
   -- the row of a refusal
   fault-row : (i c n : ℕ) → Reached draft i → i < length draft → Fault (drop i draft) c n → Row draft c (i + n)
   fault-row i c n v h (over l b) =
-      subst (Row draft refusal.NotAscii) (sym (add-zero i)) (not_ascii h (subst (λ x. 127 < x) (rest-first draft i) b) (outside i v b))
-  fault-row i c n v h (nothing b z) = subst (Row draft refusal.NoLexeme) (sym (add-zero i)) (no_lexeme v h (subst (λ x. x ≤ 127) (rest-first draft i) b) z)
+      subst (Row draft (refusal_number refusal.NotAscii)) (sym (add-zero i)) (not_ascii h (subst (λ x. 127 < x) (rest-first draft i) b) (outside i v b))
+  fault-row i c n v h (nothing b z) = subst (Row draft (refusal_number refusal.NoLexeme)) (sym (add-zero i)) (no_lexeme v h (subst (λ x. x ≤ 127) (rest-first draft i) b) z)
   fault-row i c n v h (fault.unclosed b e) =
-      subst (Row draft refusal.Unclosed) (sym (add-zero i)) (unclosed v b (ap (λ s. closing s 0 0) (sym (drop-drop 2 i draft)) ∙ e))
-  fault-row i c n v h (fault.simc b e) = subst (Row draft refusal.Simc) (sym (add-zero i)) (simc v b e)
+      subst (Row draft (refusal_number refusal.Unclosed)) (sym (add-zero i)) (unclosed v b (ap (λ s. closing s 0 0) (sym (drop-drop 2 i draft)) ∙ e))
+  fault-row i c n v h (fault.simc b e) = subst (Row draft (refusal_number refusal.Simc)) (sym (add-zero i)) (simc v b e)
   fault-row i c n v h (fault.bad m e) = not_utf8 v m e
 
   -- ---- all lexemes

@@ -1,13 +1,13 @@
 -- The lexemes of a draft from a place on, by the lexing step at that place.
 -- Assumes nothing.
-use mathlib.Core.Bool.{Bool, true, false}
+use mathlib.Core.Bool.{Bool, true, false, cond, ◌||◌}
 use mathlib.Core.List.{List, [], ◌∷◌}
 use mathlib.Core.Path.{◌≡◌, refl, sym, ◌∙◌, ap, ap₂, subst}
 use Prim.Native.Nat.{ℕ, zero, suc, ◌+◌, ◌-◌, ◌≤◌, ◌<◌}
 use native.Mathlib.Nat.{add-zero}
 use native.Mathlib.Omega.{arith}
-use borrow.Author.Tests.{lt-ltb, le-ltb, ltb-true, ltb-false}
-use lib.Dec.{ltb}
+use borrow.Author.Tests.{lt-ltb, le-ltb, ltb-true, ltb-false, eqb-true}
+use lib.Dec.{T, eqb, ltb}
 use lib.ListN.{length, get_or, drop, length-drop, drop_of_length-le}
 use lib.Seq.{drop-cons, drop-drop}
 use Rattle.lexer.specs.Lexemes.{Lexeme, token, trivia, refused, lexeme, Lexemes, tokens, refused_at, with_token, add, lexemes_from}
@@ -15,6 +15,25 @@ use Rattle.lexer.specs.Step.{step_from, step_of}
 use Rattle.lexer.specs.declared.Step.{Step}
 use Rattle.lexer.specs.declared.Step.TheVariants.{Token, Trivia, Refused, Nothing}
 use Rattle.lexer.proofs.Moves.{Moves, lexeme-moves}
+use Rattle.lexer.specs.Step.{refusal_of}
+use Rattle.text.specs.Lists.{has}
+use Rattle.text.specs.Refusals.{refusal_number}
+use Rattle.text.specs.Refusals as refusal
+use Rattle.text.specs.declared.refusal.Refusal.TheVariants as code
+
+-- a number of the bytes' family is that of its refusal
+pub number-back : (c : ℕ) → T (has refusal.of_bytes c) → refusal_number (refusal_of c) ≡ c
+unfolding has
+number-back c = go (eqb 2 c) (eqb 3 c) (eqb 4 c) (eqb 5 c) (eqb 21 c) refl refl refl refl refl
+  where
+    go : (a b d e f : Bool) → eqb 2 c ≡ a → eqb 3 c ≡ b → eqb 4 c ≡ d → eqb 5 c ≡ e → eqb 21 c ≡ f → T (a || (b || (d || (e || (f || false)))))
+        → refusal_number (cond a code.NotAscii (cond b code.NoLexeme (cond d code.Unclosed (cond e code.Simc code.NotUtf8)))) ≡ c
+    go true b d e f p q r s t h = eqb-true 2 c p
+    go false true d e f p q r s t h = eqb-true 3 c q
+    go false false true e f p q r s t h = eqb-true 4 c r
+    go false false false true f p q r s t h = eqb-true 5 c s
+    go false false false false true p q r s t h = eqb-true 21 c t
+    go false false false false false p q r s t h = absurd h
 
 -- the bytes that are still part of the last lexeme are passed over
 pub passed : (r : List ℕ) (i k : ℕ) → lexemes_from r i k ≡ lexemes_from (drop k r) (i + k) 0
@@ -30,14 +49,14 @@ passed (b ∷ r) i (suc k) =
 abbrev pub follow : Step → ℕ → (ℕ → Lexemes) → Lexemes
 follow (Token k e) i go = with_token (record { kind = k; start = i; end = e }) (go e)
 follow (Trivia e) i go = go e
-follow (Refused c p) i go = refused_at c p
+follow (Refused r) i go = refused_at (refusal_number r.refusal) r.place
 follow Nothing i go = tokens []
 
 -- where a step leads in a draft of m bytes
 abbrev pub Leads : ℕ → ℕ → Step → Type 0
 Leads i m (Token k e) = (i < e) × (e ≤ m)
 Leads i m (Trivia e) = (i < e) × (e ≤ m)
-Leads i m (Refused c p) = Unit {0}
+Leads i m (Refused r) = Unit {0}
 Leads i m Nothing = m ≤ i
 
 module _ (s : List ℕ) (i : ℕ) where
@@ -56,14 +75,14 @@ module _ (s : List ℕ) (i : ℕ) where
   added : (x : Lexeme) → Moves (length (drop i s)) x → add x i (λ n. lexemes_from (drop (suc i) s) (i + 1) (n - 1)) ≡ follow (step_from x i) i rest
   added (token k n) v = ap (λ l. with_token (record { kind = k; start = i; end = i + n }) l) (onward n v.0)
   added (trivia n) v = onward n v.0
-  added (refused c n) v = refl
+  added (refused c n) v = ap (λ d. refused_at d (i + n)) (sym (number-back c v.0))
 
   leads : (x : Lexeme) → i < length s → Moves (length (drop i s)) x → Leads i (length s) (step_from x i)
   leads (token k n) h v = (omega (arith, v.0), omega (arith, v.1, length-drop i s))
   leads (trivia n) h v = (omega (arith, v.0), omega (arith, v.1, length-drop i s))
   leads (refused c n) h v = tt
 
-  here : i < length s → Moves (length (drop i s)) (lexeme (drop i s))
+  pub here : i < length s → Moves (length (drop i s)) (lexeme (drop i s))
   here h = subst (λ l. Moves (length l) (lexeme l)) (sym (drop-cons s i 0 h)) (lexeme-moves (get_or s i 0) (drop (suc i) s))
 
   step_in : i < length s → step_of s i ≡ step_from (lexeme (drop i s)) i

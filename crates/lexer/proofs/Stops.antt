@@ -8,7 +8,8 @@ use Rattle.std.proofs.Math.Path.{ap}
 use Rattle.std.proofs.Math.ListN.{drop}
 use Rattle.text.specs.Ascii.{ascii, ascii_from}
 use Rattle.text.specs.Counts.{more}
-use Rattle.text.specs.Refusals as refusal
+use Rattle.text.specs.Refusals.{refusal_number}
+use Rattle.text.specs.declared.refusal.Refusal.TheVariants as refusal
 use Rattle.text.specs.Same.{same}
 use Rattle.text.proofs.Same.{differ}
 use Rattle.utf8.proofs.Sequences.{ascii-one}
@@ -32,7 +33,7 @@ either-none : (b : Bool) → ◌≡◌ {A = Option Lexeme} (cond b none none) no
 either-none true = refl
 either-none false = refl
 
-pub stops-nothing : (r : List ℕ) → first r ≤ 127 → NoneFinds trials r → lexeme r ≡ refused refusal.NoLexeme 0
+pub stops-nothing : (r : List ℕ) → first r ≤ 127 → NoneFinds trials r → lexeme r ≡ refused (refusal_number refusal.NoLexeme) 0
 unfolding lexeme no_lexeme
 stops-nothing r h n = none_first trials r (no_lexeme (first r)) n ∙ simp (le-ltb 127 (first r) h)
 
@@ -54,7 +55,7 @@ is_block : (r : List ℕ) → begins (ascii "/*") r ≡ true → lexeme r ≡ bl
 unfolding ascii ascii_from
 is_block r b = subst (λ l. lexeme l ≡ block (closing (drop 2 l) 0 0) l) (sym (begins-front (ascii "/*") r b)) (block_at (drop 2 r))
 
-pub stops-unclosed : (r : List ℕ) → begins (ascii "/*") r ≡ true → closing (drop 2 r) 0 0 ≡ none → lexeme r ≡ refused refusal.Unclosed 0
+pub stops-unclosed : (r : List ℕ) → begins (ascii "/*") r ≡ true → closing (drop 2 r) 0 0 ≡ none → lexeme r ≡ refused (refusal_number refusal.Unclosed) 0
 stops-unclosed r b e = is_block r b ∙ ap (λ o. block o r) e
 
 -- a lexeme is refused, behind k bytes at most
@@ -134,15 +135,15 @@ module _ (r : List ℕ) (e : take (name_length (115 ∷ r)) (115 ∷ r) ≡ asci
       let c = is_name (115 ∷ r) && begins (ascii "!") (drop n (115 ∷ r)) in
       ap (λ k. cond c (macro_token (word_of MACROS (take k (115 ∷ r))) (n + 1)) none) (add-one n) ∙ either-none c
 
-  keyword : word (115 ∷ r) ≡ some (refused refusal.Simc 0)
+  keyword : word (115 ∷ r) ≡ some (refused (refusal_number refusal.Simc) 0)
   unfolding word among name_starts KEYWORDS word_of find same ascii ascii_from
   keyword = ap (λ p. some (word_token (word_of KEYWORDS p) (name_length (115 ∷ r)))) e
 
-  at-simc : lexeme (115 ∷ r) ≡ refused refusal.Simc 0
-  at-simc = only-names r (refused refusal.Simc 0) not-qualified not-macro keyword
+  at-simc : lexeme (115 ∷ r) ≡ refused (refusal_number refusal.Simc) 0
+  at-simc = only-names r (refused (refusal_number refusal.Simc) 0) not-qualified not-macro keyword
 
-pub stops-simc : (r : List ℕ) → take (name_length r) r ≡ ascii "simc" → lexeme r ≡ refused refusal.Simc 0
+pub stops-simc : (r : List ℕ) → take (name_length r) r ≡ ascii "simc" → lexeme r ≡ refused (refusal_number refusal.Simc) 0
 unfolding ascii ascii_from
 stops-simc r e =
     let s : r ≡ ascii "simc" ++ drop (name_length r) r = sym (take-append-drop (name_length r) r) ∙ ap (λ l. l ++ drop (name_length r) r) e in
-    subst (λ l. lexeme l ≡ refused refusal.Simc 0) (sym s) (at-simc (drop 1 (ascii "simc" ++ drop (name_length r) r)) (subst (λ l. take (name_length l) l ≡ ascii "simc") s e))
+    subst (λ l. lexeme l ≡ refused (refusal_number refusal.Simc) 0) (sym s) (at-simc (drop 1 (ascii "simc" ++ drop (name_length r) r)) (subst (λ l. take (name_length l) l ≡ ascii "simc") s e))

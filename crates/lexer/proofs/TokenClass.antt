@@ -9,12 +9,12 @@ use borrow.Author.Tests.{ne_eqb}
 use lib.Dec.{eqb}
 use Rattle.words.specs.Words.{FUNCTION_RESERVED, MACROS, RULE_NAMES, BOOLEANS, BOOL, UINT_TYPES, BUILTIN_ALIASES, TYPE_NAMES, RULE_WORDS, words_of, word_of}
 use Rattle.words.proofs.Right.{below}
-use Rattle.words.specs.declared.Found.TheVariants.{Word, Plain}
+use Rattle.std.specs.Prelude.{Some, None}
 use Rattle.words.specs.declared.Table.TheVariants.{RuleWords}
 use Rattle.lexer.specs.Class.{class_of}
 use Rattle.lexer.specs.Classes as t
 
-pub few_words : (p : List ℕ) (k : ℕ) → word_of (words_of RuleWords) p ≡ Word k → k < 60
+pub few_words : (p : List ℕ) (k : ℕ) → word_of (words_of RuleWords) p ≡ Some k → k < 60
 unfolding words_of RULE_WORDS RULE_NAMES FUNCTION_RESERVED MACROS BOOLEANS TYPE_NAMES BOOL UINT_TYPES BUILTIN_ALIASES
 few_words p k e = below (words_of RuleWords) p k e
 
@@ -24,7 +24,7 @@ unfolding class_of
 small_kind kind text h = simp (ne_eqb kind t.Bool (λ z. absurd (omega arith)), ne_eqb kind t.Ident (λ z. absurd (omega arith)), ne_eqb kind t.Macro (λ z. absurd (omega arith)))
 
 -- what is no word is of its kind, whichever that is
-pub no_word : (kind : ℕ) (text : List ℕ) → word_of RULE_WORDS text ≡ Plain → kind ≡ class_of kind text
+pub no_word : (kind : ℕ) (text : List ℕ) → word_of RULE_WORDS text ≡ None → kind ≡ class_of kind text
 unfolding class_of
 no_word kind text q = rw q (go (eqb kind t.Bool || eqb kind t.Ident || eqb kind t.Macro))
   where

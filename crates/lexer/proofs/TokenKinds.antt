@@ -9,13 +9,14 @@ use Rattle.std.proofs.Math.Dec.{T}
 use Rattle.std.proofs.Math.Seq.{take-length}
 use Rattle.text.specs.Ascii.{ascii}
 use Rattle.text.specs.Lists.{has}
-use Rattle.text.specs.Refusals as refusal
+use Rattle.text.specs.Refusals.{refusal_number}
+use Rattle.text.specs.declared.refusal.Refusal.TheVariants as refusal
 use Rattle.text.specs.Table.{every}
 use Rattle.text.proofs.Table.{first-of, second-of}
 use Rattle.words.proofs.Members.{found-passes}
 use Rattle.words.specs.Words.{KEYWORDS, MACROS, MODULE_RESERVED, word_of}
-use Rattle.words.specs.declared.Found.{Found}
-use Rattle.words.specs.declared.Found.TheVariants.{Word, Plain}
+use Rattle.std.specs.Prelude.{Some, None}
+use Rattle.std.specs.Prelude as std
 use Rattle.lexer.specs.Chars.{Range, among, whitespace, line_ends, underscore, binary_digits, decimal_digits, hex_digits, first, run, begins}
 use Rattle.lexer.specs.Classes as t
 use Rattle.lexer.specs.Lexemes.{Lexeme, token, trivia, refused, ◌or_else◌, space, comment, line_comment, block, closing, block_comment, name_length, is_name, module_token, qualified, macro_token, macro, word_token, word, digits, hexadecimal, binary, decimal, Mark, marks, mark, no_lexeme, lexeme}
@@ -28,9 +29,9 @@ other_kind k = leb t.Pub k && ltb k t.words && not (has (t.Simc ∷ t.Bool ∷ t
 
 -- A name token is a name and no keyword, a boolean is one of the two, a macro one of the four.
 pub data Kind (w : List ℕ) (k : ℕ) : Type 0 where
-  a_name : k ≡ t.Ident → name_length w ≡ length w → word_of KEYWORDS w ≡ Plain → Kind w k
-  a_boolean : (i : ℕ) → k ≡ t.Bool → word_of KEYWORDS w ≡ Word i → ltb t.Simc (t.Pub + i) ≡ true → Kind w k
-  a_macro : (i : ℕ) → k ≡ t.Macro → word_of MACROS w ≡ Word i → Kind w k
+  a_name : k ≡ t.Ident → name_length w ≡ length w → word_of KEYWORDS w ≡ None → Kind w k
+  a_boolean : (i : ℕ) → k ≡ t.Bool → word_of KEYWORDS w ≡ Some i → ltb t.Simc (t.Pub + i) ≡ true → Kind w k
+  a_macro : (i : ℕ) → k ≡ t.Macro → word_of MACROS w ≡ Some i → Kind w k
   another : T (other_kind k) → Kind w k
 
 -- the bytes of a line comment
@@ -62,9 +63,9 @@ mark-kinds : T (kinds marks)
 unfolding marks has
 mark-kinds = tt
 
-of-module : (p : List ℕ) (f : Found) → word_of MODULE_RESERVED p ≡ f → (n : ℕ) {k m : ℕ} → module_token f n ≡ some (token k m) → T (other_kind k)
-of-module p (Word i) q n {k} e = let z : t.Jet + i ≡ k = cc in subst (λ j. T (other_kind j)) z (found-passes (λ i w. other_kind (t.Jet + i)) MODULE_RESERVED module-kinds p i q)
-of-module p Plain q n e = clash e
+of-module : (p : List ℕ) (f : std.Option ℕ) → word_of MODULE_RESERVED p ≡ f → (n : ℕ) {k m : ℕ} → module_token f n ≡ some (token k m) → T (other_kind k)
+of-module p (Some i) q n {k} e = let z : t.Jet + i ≡ k = cc in subst (λ j. T (other_kind j)) z (found-passes (λ i w. other_kind (t.Jet + i)) MODULE_RESERVED module-kinds p i q)
+of-module p None q n e = clash e
 
 of-mark : (ms : List Mark) → T (kinds ms) → (r : List ℕ) {k n : ℕ} → mark ms r ≡ some (token k n) → T (other_kind k)
 unfolding mark
@@ -87,23 +88,23 @@ module _ (w : List ℕ) (k : ℕ) where
   whole : {n : ℕ} → n ≡ length w → take n w ≡ w
   whole e = ap (λ (m : ℕ). take m w) e ∙ take-length w
 
-  of-macro : (f : Found) (n : ℕ) → word_of MACROS (take n w) ≡ f → macro_token f n ≡ some x → Kind w k
-  of-macro (Word i) n q e =
-      let l : n ≡ length w = macro-length (Word i) n e in
+  of-macro : (f : std.Option ℕ) (n : ℕ) → word_of MACROS (take n w) ≡ f → macro_token f n ≡ some x → Kind w k
+  of-macro (Some i) n q e =
+      let l : n ≡ length w = macro-length (Some i) n e in
       a_macro i (let z : t.Macro ≡ k = cc in sym z) (ap (word_of MACROS) (sym (whole l)) ∙ q)
-  of-macro Plain n q e = clash e
+  of-macro None n q e = clash e
 
-  of_word : (f : Found) → word_of KEYWORDS (take (name_length w) w) ≡ f → word_token f (name_length w) ≡ x → Kind w k
-  of_word Plain q e =
-      let l : name_length w ≡ length w = word-length Plain (name_length w) e in
+  of_word : (f : std.Option ℕ) → word_of KEYWORDS (take (name_length w) w) ≡ f → word_token f (name_length w) ≡ x → Kind w k
+  of_word None q e =
+      let l : name_length w ≡ length w = word-length None (name_length w) e in
       a_name (let z : t.Ident ≡ k = cc in sym z) l (ap (word_of KEYWORDS) (sym (whole l)) ∙ q)
-  of_word (Word i) q e = go (eqb (t.Pub + i) t.Simc) (ltb t.Simc (t.Pub + i)) refl (found-passes _ KEYWORDS keyword-kinds w i p) e
+  of_word (Some i) q e = go (eqb (t.Pub + i) t.Simc) (ltb t.Simc (t.Pub + i)) refl (found-passes _ KEYWORDS keyword-kinds w i p) e
     where
-      p : word_of KEYWORDS w ≡ Word i
-      p = ap (word_of KEYWORDS) (sym (whole (word-length (Word i) (name_length w) e))) ∙ q
+      p : word_of KEYWORDS w ≡ Some i
+      p = ap (word_of KEYWORDS) (sym (whole (word-length (Some i) (name_length w) e))) ∙ q
 
       go : (a b : Bool) → ltb t.Simc (t.Pub + i) ≡ b → T (a || (b || other_kind (t.Pub + i)))
-          → cond a (refused refusal.Simc 0) (cond b (token t.Bool (name_length w)) (token (t.Pub + i) (name_length w))) ≡ x → Kind w k
+          → cond a (refused (refusal_number refusal.Simc) 0) (cond b (token t.Bool (name_length w)) (token (t.Pub + i) (name_length w))) ≡ x → Kind w k
       go true b s h e = no-refusal e
       go false true s h e = a_boolean i (let z : t.Bool ≡ k = cc in sym z) p s
       go false false s h e = let z : t.Pub + i ≡ k = cc in another (subst (λ j. T (other_kind j)) z h)
@@ -112,7 +113,7 @@ module _ (w : List ℕ) (k : ℕ) where
   unfolding no_lexeme
   none_any b e = go (ltb 127 b) e
     where
-      go : (c : Bool) → cond c (refused refusal.NotAscii 0) (refused refusal.NoLexeme 0) ≡ x → Kind w k
+      go : (c : Bool) → cond c (refused (refusal_number refusal.NotAscii) 0) (refused (refusal_number refusal.NoLexeme) 0) ≡ x → Kind w k
       go true e = no-refusal e
       go false e = no-refusal e
 

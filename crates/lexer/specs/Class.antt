@@ -1,14 +1,12 @@
 -- The class of a token for the rules: its kind, or the word or macro that it is. `true` and `false` are apart.
 -- Assumes nothing.
-use Rattle.std.specs.Prelude.{cond, ◌||◌, List, ℕ, ◌+◌, eqb}
+use Rattle.std.specs.Prelude.{cond, ◌||◌, List, ℕ, ◌+◌, eqb, Option, Some, None}
 use Rattle.words.specs.Words.{RULE_WORDS, word_of}
-use Rattle.words.specs.declared.Found.{Found}
-use Rattle.words.specs.declared.Found.TheVariants.{Word, Plain}
 use Rattle.lexer.specs.Classes as t
 
-abbrev pub word_class : Found → ℕ → ℕ
-word_class (Word k) kind = t.words + k
-word_class Plain kind = kind
+abbrev pub word_class : Option ℕ → ℕ → ℕ
+word_class (Some k) kind = t.words + k
+word_class None kind = kind
 
 -- booleans, names and macros have a class of their own where the rules tell them apart
 unfoldable pub class_of : ℕ → List ℕ → ℕ

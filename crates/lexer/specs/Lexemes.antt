@@ -5,11 +5,11 @@ use Rattle.std.proofs.Math.Option.{Option, none, some}
 use Prim.Native.String.{String}
 use Rattle.text.specs.Ascii.{ascii}
 use Rattle.text.specs.Counts.{more}
-use Rattle.text.specs.Refusals as refusal
+use Rattle.text.specs.Refusals.{refusal_number}
+use Rattle.text.specs.declared.refusal.Refusal.TheVariants as refusal
 use Rattle.utf8.specs.Utf8.{bad_at}
 use Rattle.words.specs.Words.{KEYWORDS, MACROS, MODULE_RESERVED, word_of}
-use Rattle.words.specs.declared.Found.{Found}
-use Rattle.words.specs.declared.Found.TheVariants.{Word, Plain}
+use Rattle.std.specs.Prelude as std
 use Rattle.lexer.specs.Classes as t
 use Rattle.lexer.specs.Chars.{Range, among, whitespace, line_ends, binary_digits, decimal_digits, hex_digits, underscore, name_starts, name_bytes, is, first, run, begins}
 
@@ -33,7 +33,7 @@ space r = cond (among whitespace (first r)) (some (trivia (run (among whitespace
 -- "Let comments hold any well-formed UTF-8" (order 6): n bytes, refused at the first bad place of them, if there is one
 abbrev pub checked : Option ℕ → ℕ → Lexeme
 checked none n = trivia n
-checked (some p) n = refused refusal.NotUtf8 p
+checked (some p) n = refused (refusal_number refusal.NotUtf8) p
 
 unfoldable pub comment : ℕ → List ℕ → Lexeme
 comment n r = checked (bad_at (take n r)) n
@@ -69,7 +69,7 @@ closing [] d p = none
 closing (b ∷ r) d p = onward (inside d p b) (closing r)
 
 abbrev pub block : Option ℕ → List ℕ → Lexeme
-block none r = refused refusal.Unclosed 0
+block none r = refused (refusal_number refusal.Unclosed) 0
 block (some n) r = comment (2 + n) r
 
 unfoldable pub block_comment : List ℕ → Option Lexeme
@@ -84,9 +84,9 @@ name_length r = run (among name_bytes) r
 abbrev pub is_name : List ℕ → Bool
 is_name r = among name_starts (first r)
 
-abbrev pub module_token : Found → ℕ → Option Lexeme
-module_token (Word k) n = some (token (t.Jet + k) n)
-module_token Plain n = none
+abbrev pub module_token : std.Option ℕ → ℕ → Option Lexeme
+module_token (std.Some k) n = some (token (t.Jet + k) n)
+module_token std.None n = none
 
 -- "`jet::`, `witness::` or `param::` with a name, no gap": the kinds from Jet on, in the order of the words
 unfoldable pub qualified : List ℕ → Option Lexeme
@@ -95,9 +95,9 @@ qualified r =
     let name = drop (n + 2) r in
     cond (is_name r && begins (ascii "::") (drop n r) && is_name name) (module_token (word_of MODULE_RESERVED (take n r)) (n + 2 + name_length name)) none
 
-abbrev pub macro_token : Found → ℕ → Option Lexeme
-macro_token (Word k) n = some (token t.Macro n)
-macro_token Plain n = none
+abbrev pub macro_token : std.Option ℕ → ℕ → Option Lexeme
+macro_token (std.Some k) n = some (token t.Macro n)
+macro_token std.None n = none
 
 -- "`assert! panic! dbg! list!`"
 unfoldable pub macro : List ℕ → Option Lexeme
@@ -106,9 +106,9 @@ macro r =
     cond (is_name r && begins (ascii "!") (drop (name_length r) r)) (macro_token (word_of MACROS (take n r)) n) none
 
 -- the keywords are the kinds from Pub on in the order of the words, of which `simc` is refused; behind it are the booleans; any other name is an identifier
-abbrev pub word_token : Found → ℕ → Lexeme
-word_token (Word k) n = cond (eqb (t.Pub + k) t.Simc) (refused refusal.Simc 0) (cond (ltb t.Simc (t.Pub + k)) (token t.Bool n) (token (t.Pub + k) n))
-word_token Plain n = token t.Ident n
+abbrev pub word_token : std.Option ℕ → ℕ → Lexeme
+word_token (std.Some k) n = cond (eqb (t.Pub + k) t.Simc) (refused (refusal_number refusal.Simc) 0) (cond (ltb t.Simc (t.Pub + k)) (token t.Bool n) (token (t.Pub + k) n))
+word_token std.None n = token t.Ident n
 
 unfoldable pub word : List ℕ → Option Lexeme
 word r = cond (is_name r) (some (word_token (word_of KEYWORDS (take (name_length r) r)) (name_length r))) none
@@ -154,7 +154,7 @@ mark (m ∷ ms) r = cond (begins (ascii m.text) r) (some (token m.kind (length (
 
 -- "a byte over 127", and "another byte starts no lexeme"
 unfoldable pub no_lexeme : ℕ → Lexeme
-no_lexeme b = cond (ltb 127 b) (refused refusal.NotAscii 0) (refused refusal.NoLexeme 0)
+no_lexeme b = cond (ltb 127 b) (refused (refusal_number refusal.NotAscii) 0) (refused (refusal_number refusal.NoLexeme) 0)
 
 -- "Tried in order: trivia; `jet::`, `witness::` or `param::` with a name, no gap; `assert! panic! dbg! list!`; `0x` digits; `0b` digits; decimal;
 -- a word; a mark, the longer first."

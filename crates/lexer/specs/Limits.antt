@@ -1,14 +1,14 @@
 -- What the lexer hands over within its limits (document 01, "What the reader hands over", rows 1 to 7).
 -- Assumes nothing.
-use Rattle.std.specs.Prelude.{Bool, cond, ◌||◌, List, [], ◌∷◌, ◌++◌, ℕ, ◌+◌, ◌-◌, ◌*◌, ◌/◌, min, eqb, ltb, length, get_or, replicate}
+use Rattle.std.specs.Prelude.{Bool, cond, ◌||◌, List, [], ◌∷◌, ◌++◌, ℕ, ◌+◌, ◌-◌, ◌*◌, ◌/◌, min, eqb, ltb, length, get_or, replicate, Result, Ok, Err}
 use Rattle.std.proofs.Math.Option.{Option, none, some}
 use Rattle.text.specs.Answers.{Answer, accepted, refused}
-use Rattle.text.specs.Refusals as refusal
+use Rattle.text.specs.declared.refusal.Refusal.TheVariants as refusal
 use Rattle.text.specs.Widths.{tok_wide}
 use Rattle.lexer.specs.Classes as t
 use Rattle.lexer.specs.Lexemes.{Token, Lexemes, tokens, refused_at, lexemes}
-use Rattle.lexer.specs.declared.Lexed.{Lexed}
-use Rattle.lexer.specs.declared.Lexed.TheVariants.{Tokens, Refused}
+use Rattle.text.specs.Refusals.{refusal_number, refused_by}
+use Rattle.text.specs.declared.refusal.Refused.{Refused}
 
 -- how many bytes and how many tokens a draft may have
 pub record Limits : Type 0 where
@@ -59,26 +59,26 @@ room l size = min l.tokens (size / tok_wide)
 abbrev pub no_token : Token
 no_token = record { kind = 0; start = 0; end = 0 }
 
--- The paper's answer for each case of `Lexed`, as far as rows 1 to 7 decide it: `accepted n 0` says that none of them applies; there are no records yet.
-abbrev pub meant : Lexed → Answer
-meant (Tokens n) = accepted n 0
-meant (Refused c p) = refused c p
+-- The paper's answer for each result, as far as rows 1 to 7 decide it: `accepted n 0` says that none of them applies; there are no records yet.
+abbrev pub meant : Result ℕ Refused → Answer
+meant (Ok n) = accepted n 0
+meant (Err r) = refused_by r
 
 abbrev pub deep : Option ℕ → ℕ → Answer
 deep none n = accepted n 0
-deep (some p) n = refused refusal.TooDeep p
+deep (some p) n = refused (refusal_number refusal.TooDeep) p
 
 -- the refusals of the bytes, then too many tokens for the r that fit, then too deep
 abbrev pub judged_in : ℕ → Lexemes → Answer
 judged_in r (refused_at c p) = refused c p
-judged_in r (tokens ts) = cond (ltb r (length ts)) (refused refusal.TooMany (get_or ts r no_token).start) (deep (first_too_deep 0 0 ts) (length ts))
+judged_in r (tokens ts) = cond (ltb r (length ts)) (refused (refusal_number refusal.TooMany) (get_or ts r no_token).start) (deep (first_too_deep 0 0 ts) (length ts))
 
 abbrev pub judged : Limits → ℕ → Lexemes → Answer
 judged l size = judged_in (room l size)
 
 -- the answer for a draft and a token buffer of so many words
 unfoldable pub lexed_of : Limits → List ℕ → ℕ → Answer
-lexed_of l draft size = cond (ltb l.bytes (length draft)) (refused refusal.TooLong l.bytes) (judged l size (lexemes draft))
+lexed_of l draft size = cond (ltb l.bytes (length draft)) (refused (refusal_number refusal.TooLong) l.bytes) (judged l size (lexemes draft))
 
 -- "A token is three u32 words: kind .., start, end"
 unfoldable pub token_words : List Token → List ℕ

@@ -1,15 +1,15 @@
 -- What the private functions of the lexer know of a place.
 -- Assumes nothing.
 use Rattle.std.specs.Prelude.{true, cond, List, ◌≡◌, ℕ, ◌+◌, ◌≤◌, ◌<◌, eqb, ltb, length, get_or, drop, Option, Some, None}
-use Rattle.text.specs.Refusals as refusal
+use Rattle.text.specs.declared.refusal.Refusal.TheVariants as code
 use Rattle.lexer.specs.Bytes.{in_classes}
 use Rattle.lexer.specs.Bytes as byte
 use Rattle.lexer.specs.Classes as t
 use Rattle.lexer.specs.Chars.{among, name_starts, run}
 use Rattle.lexer.specs.Lexemes.{name_length}
-use Rattle.lexer.specs.Step.{lexeme_at}
+use Rattle.lexer.specs.Step.{lexeme_at, refused_step}
 use Rattle.lexer.specs.declared.Step.{Step}
-use Rattle.lexer.specs.declared.Step.TheVariants.{Token, Refused}
+use Rattle.lexer.specs.declared.Step.TheVariants.{Token}
 
 -- a name stands from i up to e
 pub record Named (s : List ℕ) (i e : ℕ) : Type 0 where
@@ -20,7 +20,7 @@ pub record Named (s : List ℕ) (i e : ℕ) : Type 0 where
 
 -- keyword number k from i up to e
 abbrev pub keyword_at : ℕ → ℕ → ℕ → Step
-keyword_at k i e = cond (eqb (t.Pub + k) t.Simc) (Refused refusal.Simc i) (cond (ltb t.Simc (t.Pub + k)) (Token t.Bool e) (Token (t.Pub + k) e))
+keyword_at k i e = cond (eqb (t.Pub + k) t.Simc) (refused_step code.Simc i) (cond (ltb t.Simc (t.Pub + k)) (Token t.Bool e) (Token (t.Pub + k) e))
 
 -- the decimal token at i
 abbrev pub decimal_at : List ℕ → ℕ → Step

@@ -4,7 +4,8 @@
 use Rattle.std.specs.Prelude.{true, List, [], ◌∷◌, ◌≡◌, ℕ, ◌+◌, ◌≤◌, ◌<◌, length, get_or, take, drop}
 use Rattle.std.proofs.Math.Option.{Option, none, some}
 use Rattle.text.specs.Ascii.{ascii}
-use Rattle.text.specs.Refusals as refusal
+use Rattle.text.specs.Refusals.{refusal_number}
+use Rattle.text.specs.declared.refusal.Refusal.TheVariants as refusal
 use Rattle.utf8.specs.Utf8.{bad_at}
 use Rattle.lexer.specs.Chars.{begins}
 use Rattle.lexer.specs.Lexemes.{Lexeme, token, trivia, refused, line_length, closing, name_length, is_name, trials, lexeme}
@@ -37,15 +38,15 @@ pub data Commented (draft : List ℕ) (p : ℕ) : Type 0 where
 -- Row c applies to a draft at place p.
 pub data Row (draft : List ℕ) : ℕ → ℕ → Type 0 where
   -- "a byte over 127": "that byte", wherever it stands; order 6: "only of bytes outside comments"
-  not_ascii : {p : ℕ} → p < length draft → 127 < get_or draft p 0 → (Commented draft p → ⊥) → Row draft refusal.NotAscii p
+  not_ascii : {p : ℕ} → p < length draft → 127 < get_or draft p 0 → (Commented draft p → ⊥) → Row draft (refusal_number refusal.NotAscii) p
   -- "another byte starts no lexeme": "that byte", where lexing comes to it
-  no_lexeme : {p : ℕ} → Reached draft p → p < length draft → get_or draft p 0 ≤ 127 → NoneFinds trials (drop p draft) → Row draft refusal.NoLexeme p
+  no_lexeme : {p : ℕ} → Reached draft p → p < length draft → get_or draft p 0 ≤ 127 → NoneFinds trials (drop p draft) → Row draft (refusal_number refusal.NoLexeme) p
   -- "block comment never closed": "its outermost `/*`"
-  unclosed : {p : ℕ} → Reached draft p → begins (ascii "/*") (drop p draft) ≡ true → closing (drop (p + 2) draft) 0 0 ≡ none → Row draft refusal.Unclosed p
+  unclosed : {p : ℕ} → Reached draft p → begins (ascii "/*") (drop p draft) ≡ true → closing (drop (p + 2) draft) 0 0 ≡ none → Row draft (refusal_number refusal.Unclosed) p
   -- "the word `simc`": "its start"
-  simc : {p : ℕ} → Reached draft p → is_name (drop p draft) ≡ true → take (name_length (drop p draft)) (drop p draft) ≡ ascii "simc" → Row draft refusal.Simc p
+  simc : {p : ℕ} → Reached draft p → is_name (drop p draft) ≡ true → take (name_length (drop p draft)) (drop p draft) ≡ ascii "simc" → Row draft (refusal_number refusal.Simc) p
   -- "when bytes inside a comment are not well-formed UTF-8": "at the first byte of the bad sequence"
-  not_utf8 : {q n k : ℕ} → Reached draft q → Comment (drop q draft) n → bad_at (take n (drop q draft)) ≡ some k → Row draft refusal.NotUtf8 (q + k)
+  not_utf8 : {q n k : ℕ} → Reached draft q → Comment (drop q draft) n → bad_at (take n (drop q draft)) ≡ some k → Row draft (refusal_number refusal.NotUtf8) (q + k)
 
 -- "of 2 to 5 the earliest place wins", and 21 "among 2 to 5 by earliest place"
 pub record Earliest (draft : List ℕ) (c p : ℕ) : Type 0 where

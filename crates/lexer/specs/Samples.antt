@@ -2,7 +2,8 @@
 -- Assumes nothing.
 use Rattle.std.specs.Prelude.{[], ◌∷◌, ◌≡◌, refl, ℕ}
 use Rattle.text.specs.Ascii.{ascii, ascii_from}
-use Rattle.text.specs.Refusals as refusal
+use Rattle.text.specs.Refusals.{refusal_number}
+use Rattle.text.specs.declared.refusal.Refusal.TheVariants as refusal
 use Rattle.text.specs.Same.{same}
 use Rattle.utf8.specs.Utf8.{utf8_char, fits, sequence, bad_from, bad_at}
 use Rattle.words.specs.Words.{KEYWORDS, MACROS, MODULE_RESERVED, find, word_of}
@@ -19,7 +20,7 @@ unfolding ascii ascii_from same KEYWORDS MACROS MODULE_RESERVED find word_of amo
 hex = refl
 
 -- `/*/**/`: 4 at 0
-pub unclosed : lexemes (ascii "/*/**/") ≡ refused_at refusal.Unclosed 0
+pub unclosed : lexemes (ascii "/*/**/") ≡ refused_at (refusal_number refusal.Unclosed) 0
 unfolding ascii ascii_from same KEYWORDS MACROS MODULE_RESERVED find word_of among whitespace line_ends binary_digits decimal_digits hex_digits underscore name_starts name_bytes run begins utf8_char fits sequence bad_from bad_at space comment line_comment inside closing block_comment name_length qualified macro word digits hexadecimal binary decimal marks mark no_lexeme lexeme lexemes_from lexemes
 unclosed = refl
 
@@ -29,11 +30,11 @@ unfolding ascii ascii_from same KEYWORDS MACROS MODULE_RESERVED find word_of amo
 greek = refl
 
 -- the same cut off by LF: 21 at 2
-pub cut_off : lexemes (0x2F ∷ 0x2F ∷ 0xCE ∷ 0x0A ∷ 0xB1 ∷ []) ≡ refused_at refusal.NotUtf8 2
+pub cut_off : lexemes (0x2F ∷ 0x2F ∷ 0xCE ∷ 0x0A ∷ 0xB1 ∷ []) ≡ refused_at (refusal_number refusal.NotUtf8) 2
 unfolding ascii ascii_from same KEYWORDS MACROS MODULE_RESERVED find word_of among whitespace line_ends binary_digits decimal_digits hex_digits underscore name_starts name_bytes run begins utf8_char fits sequence bad_from bad_at space comment line_comment inside closing block_comment name_length qualified macro word digits hexadecimal binary decimal marks mark no_lexeme lexeme lexemes_from lexemes
 cut_off = refl
 
 -- `/*` and CE, never closed: 4 at 0
-pub cut-open : lexemes (0x2F ∷ 0x2A ∷ 0xCE ∷ []) ≡ refused_at refusal.Unclosed 0
+pub cut-open : lexemes (0x2F ∷ 0x2A ∷ 0xCE ∷ []) ≡ refused_at (refusal_number refusal.Unclosed) 0
 unfolding ascii ascii_from same KEYWORDS MACROS MODULE_RESERVED find word_of among whitespace line_ends binary_digits decimal_digits hex_digits underscore name_starts name_bytes run begins utf8_char fits sequence bad_from bad_at space comment line_comment inside closing block_comment name_length qualified macro word digits hexadecimal binary decimal marks mark no_lexeme lexeme lexemes_from lexemes
 cut-open = refl

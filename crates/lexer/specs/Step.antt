@@ -1,6 +1,9 @@
 -- The lexing step at a place of a draft, as the enum `Step`.
 -- Assumes nothing.
-use Rattle.std.specs.Prelude.{cond, List, ℕ, ◌+◌, ltb, length, drop}
+use Rattle.std.specs.Prelude.{cond, List, ℕ, ◌+◌, eqb, ltb, length, drop}
+use Rattle.text.specs.Refusals.{refusal_number}
+use Rattle.text.specs.declared.refusal.Refusal.TheVariants as refusal
+use Rattle.text.specs.declared.refusal.Refusal.{Refusal}
 use Rattle.lexer.specs.Lexemes.{Lexeme, token, trivia, refused, lexeme}
 use Rattle.lexer.specs.declared.Step.{Step}
 use Rattle.lexer.specs.declared.Step.TheVariants.{Token, Trivia, Refused, Nothing}
@@ -23,7 +26,7 @@ stops c p = record { number = c; place = p; kind = 0; next = 0 }
 abbrev pub numbers : Step → Numbers
 numbers (Token k e) = goes_on k e
 numbers (Trivia e) = goes_on 0 e
-numbers (Refused c p) = stops c p
+numbers (Refused r) = stops (refusal_number r.refusal) r.place
 numbers Nothing = stops 0 0
 
 -- and those that the lexeme at place i has.
@@ -36,11 +39,23 @@ numbers_from (refused c n) i = stops c (i + n)
 unfoldable pub numbers_at : List ℕ → ℕ → Numbers
 numbers_at draft i = cond (ltb i (length draft)) (numbers_from (lexeme (drop i draft)) i) (stops 0 0)
 
+-- the refusal of a number that a lexeme may have: one of the bytes' family
+abbrev pub refusal_of : ℕ → Refusal
+refusal_of c =
+    cond (eqb (refusal_number refusal.NotAscii) c) refusal.NotAscii
+    (cond (eqb (refusal_number refusal.NoLexeme) c) refusal.NoLexeme
+    (cond (eqb (refusal_number refusal.Unclosed) c) refusal.Unclosed
+    (cond (eqb (refusal_number refusal.Simc) c) refusal.Simc
+    refusal.NotUtf8)))
+
+abbrev pub refused_step : Refusal → ℕ → Step
+refused_step r p = Refused (record { refusal = r; place = p })
+
 -- the lexeme at place i
 abbrev pub step_from : Lexeme → ℕ → Step
 step_from (token k n) i = Token k (i + n)
 step_from (trivia n) i = Trivia (i + n)
-step_from (refused c n) i = Refused c (i + n)
+step_from (refused c n) i = refused_step (refusal_of c) (i + n)
 
 -- the lexeme that the draft has at place i
 abbrev pub lexeme_at : List ℕ → ℕ → Step

@@ -1,4 +1,5 @@
 // The classes of bytes by number, as specs/Bytes.antt has them, ordered so that each run of bytes is a range of them.
+// Numbers and no enum: runs are compared as ranges, and a mark of one byte has its kind for its class without a conversion.
 use crate::classes as class;
 
 // Names are UNDERSCORE to LETTER; numbers UNDERSCORE to BINARY_DIGIT, DIGIT or HEX_LETTER by their base.

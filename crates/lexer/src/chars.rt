@@ -5,46 +5,47 @@ ghost use Rattle.lexer.specs.Bytes.{byte_class, in_classes, ClassTable};
 
 use crate::table::CLASSES;
 
-// The table by value. The lexing loop holds it beside its other values, where reading an entry takes no address of its own.
-pub(crate) fn class_table() -> [u8; 256]
-    ensures { ClassTable result }
-{
-    CLASSES
+// The class of each byte. The lexing loop holds the table by value beside its other values, where reading an entry takes no address of its own.
+#[derive(Drop)]
+pub(crate) struct Classes {
+    of: [u8; 256],
+    ghost right: { ClassTable of },
 }
 
-pub(crate) fn byte_class(classes: &[u8; 256], b: u8) -> u8
-    requires { ClassTable classes.now }
-    ensures { result ≡ byte_class b }
-{
-    classes[b as usize]
-}
-
-// Where the run of bytes of the classes from least to most that starts at i ends.
-pub(crate) fn run_end(classes: &[u8; 256], s: &[u8], i: usize, least: u8, most: u8) -> usize
-    requires class_table { ClassTable classes.now }
-    requires i_in_bounds { i ≤ length s.now }
-    ensures { result ≡ i + run (in_classes least most) (drop i s.now) }
-{
-    let mut j = i;
-    while j < s.len() {
-        let c = byte_class(classes, s[j]);
-        if c < least {
-            return j;
-        }
-        if c > most {
-            return j;
-        }
-        j += 1;
+impl Classes {
+    pub(crate) fn new() -> Self {
+        Classes { of: CLASSES }
     }
-    j
-}
 
-// The same, where the byte at i is known to be of the run.
-#[inline(always)]
-pub(crate) fn rest_end(classes: &[u8; 256], s: &[u8], i: usize, least: u8, most: u8) -> usize
-    requires class_table { ClassTable classes.now }
-    requires i_in_run { (i < length s.now) × (in_classes least most (get_or s.now i 0) ≡ true) }
-    ensures { result ≡ i + run (in_classes least most) (drop i s.now) }
-{
-    run_end(classes, s, i + 1, least, most)
+    pub(crate) fn of(&self, b: u8) -> u8
+        ensures { result ≡ byte_class b }
+    {
+        self.of[usize::from(b)]
+    }
+
+    // Where the run of bytes of the classes from least to most that starts at i ends.
+    pub(crate) fn run_end(&self, s: &[u8], i: usize, least: u8, most: u8) -> usize
+        requires { i ≤ length s.now }
+        ensures { result ≡ i + run (in_classes least most) (drop i s.now) }
+    {
+        for j in i..s.len() {
+            let c = self.of(s[j]);
+            if c < least {
+                return j;
+            }
+            if c > most {
+                return j;
+            }
+        }
+        s.len()
+    }
+
+    // The same, where the byte at i is known to be of the run.
+    #[inline(always)]
+    pub(crate) fn rest_end(&self, s: &[u8], i: usize, least: u8, most: u8) -> usize
+        requires { (i < length s.now) × (in_classes least most (get_or s.now i 0) ≡ true) }
+        ensures { result ≡ i + run (in_classes least most) (drop i s.now) }
+    {
+        self.run_end(s, i + 1, least, most)
+    }
 }

@@ -1,4 +1,5 @@
 // The classes of tokens by number, as specs/Classes.antt has them: a token's kind, 1 to 36 in the order of `Token`, or the word or macro that it is.
+// Numbers and no enum: the kinds are words of a lent buffer, which may hold any number, and `class` answers for each.
 // Keywords.
 pub const PUB: u32 = 1;
 

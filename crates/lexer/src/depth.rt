@@ -12,7 +12,7 @@ const MOST_IN_ROW: usize = 8;
 
 // What is known behind some tokens: brackets open and `match` tokens in a row. A depth over MOST_OPEN says that a limit is passed, whichever of
 // the two, by the token that starts at place: a flag of its own would be one value more to hold in the lexing loop.
-#[derive(Drop)]
+#[derive(Clone, Copy, PartialEq, Eq, Debug)]
 pub(crate) struct Nest {
     pub(crate) depth: usize,
     pub(crate) row: usize,
@@ -63,19 +63,12 @@ fn opened(nest: Nest, start: usize) -> Nest
     }
 }
 
-// One less, never below 0.
-fn less_one(depth: usize) -> usize
-    ensures { result ≡ depth - 1 }
-{
-    if 0 < depth { depth - 1 } else { 0 }
-}
-
-// Behind a bracket that closes.
+// Behind a bracket that closes: one less, never below 0.
 fn closed(nest: Nest) -> Nest
     ensures { result ≡ within (nest.depth - 1) 0 nest.place }
 {
     Nest {
-        depth: less_one(nest.depth),
+        depth: nest.depth.saturating_sub(1),
         row: 0,
         place: nest.place,
     }
@@ -90,9 +83,8 @@ fn matched(nest: Nest, start: usize) -> Nest
         return passing(start);
     }
     Nest {
-        depth: nest.depth,
         row: nest.row + 1,
-        place: nest.place,
+        ..nest
     }
 }
 
@@ -100,11 +92,7 @@ fn matched(nest: Nest, start: usize) -> Nest
 fn ended(nest: Nest) -> Nest
     ensures { result ≡ within nest.depth 0 nest.place }
 {
-    Nest {
-        depth: nest.depth,
-        row: 0,
-        place: nest.place,
-    }
+    Nest { row: 0, ..nest }
 }
 
 // Behind a bracket or `match`, where no limit is passed.
@@ -113,14 +101,8 @@ fn count_one(nest: Nest, kind: u32, start: usize) -> Nest
     ensures { result ≡ counted (depth_after kind nest.depth) (row_after kind nest.row) start nest.place }
 {
     match kind {
-        class::LPAREN => opened(nest, start),
-        class::LBRACKET => opened(nest, start),
-        class::LBRACE => opened(nest, start),
-        class::LANGLE => opened(nest, start),
-        class::RPAREN => closed(nest),
-        class::RBRACKET => closed(nest),
-        class::RBRACE => closed(nest),
-        class::RANGLE => closed(nest),
+        class::LPAREN | class::LBRACKET | class::LBRACE | class::LANGLE => opened(nest, start),
+        class::RPAREN | class::RBRACKET | class::RBRACE | class::RANGLE => closed(nest),
         class::MATCH => matched(nest, start),
         _ => ended(nest),
     }

@@ -2,21 +2,20 @@
 // compiler knows in each of its ways what was found there.
 ghost use Rattle.std.specs.Prelude.{true, cond, eqb, ◌≡◌, ◌+◌, ◌<◌, length, get_or};
 ghost use Rattle.lexer.specs.Chars.{among, decimal_digits, name_starts};
-ghost use Rattle.lexer.specs.Bytes.{byte_class, in_classes, ClassTable};
+ghost use Rattle.lexer.specs.Bytes.{byte_class, in_classes};
 ghost use Rattle.lexer.specs.Bytes as byte;
 ghost use Rattle.lexer.specs.Places.{IfAny};
 
-use crate::chars::{byte_class, rest_end};
+use crate::chars::Classes;
 use crate::{Step, byte, classes as class, scan};
 use text::peek;
 
 // A name behind which neither `!` nor `::` stands.
-fn plain_name(classes: &[u8; 256], s: &[u8], i: usize) -> Option<Step>
-    requires class_table { ClassTable classes.now }
-    requires i_in_bounds { (i < length s.now) × (among name_starts (get_or s.now i 0) ≡ true) × (in_classes byte.Underscore byte.Letter (get_or s.now i 0) ≡ true) }
+fn plain_name(classes: &Classes, s: &[u8], i: usize) -> Option<Step>
+    requires { (i < length s.now) × (among name_starts (get_or s.now i 0) ≡ true) × (in_classes byte.Underscore byte.Letter (get_or s.now i 0) ≡ true) }
     ensures { IfAny s.now i result }
 {
-    let e = rest_end(classes, s, i, byte::UNDERSCORE, byte::LETTER);
+    let e = classes.rest_end(s, i, byte::UNDERSCORE, byte::LETTER);
     let b = peek(s, e);
     if b == b'!' {
         return None;
@@ -30,15 +29,14 @@ fn plain_name(classes: &[u8; 256], s: &[u8], i: usize) -> Option<Step>
 }
 
 // A number that does not begin with 0.
-fn plain_number(classes: &[u8; 256], s: &[u8], i: usize) -> Option<Step>
-    requires class_table { ClassTable classes.now }
-    requires i_in_bounds { (i < length s.now) × (among decimal_digits (get_or s.now i 0) ≡ true) }
+fn plain_number(classes: &Classes, s: &[u8], i: usize) -> Option<Step>
+    requires { (i < length s.now) × (among decimal_digits (get_or s.now i 0) ≡ true) }
     ensures { IfAny s.now i result }
 {
     if s[i] == b'0' {
         return None;
     }
-    let e = rest_end(classes, s, i, byte::UNDERSCORE, byte::DIGIT);
+    let e = classes.rest_end(s, i, byte::UNDERSCORE, byte::DIGIT);
     Some(Step::Token {
         kind: class::DEC_LITERAL,
         end: e,
@@ -46,7 +44,7 @@ fn plain_number(classes: &[u8; 256], s: &[u8], i: usize) -> Option<Step>
 }
 
 // The mark of one byte at i, or that of two if the byte next stands behind it.
-fn one_or_two(s: &[u8], i: usize, one: u32, next: u8, two: u32) -> Step
+pub(crate) fn one_or_two(s: &[u8], i: usize, one: u32, next: u8, two: u32) -> Step
     requires { i < length s.now }
     ensures { result ≡ cond (eqb (get_or s.now (i + 1) 0) next) (Step.Token two (i + 2)) (Step.Token one (i + 1)) }
 {
@@ -72,7 +70,7 @@ fn plain_mark(s: &[u8], i: usize, c: u8) -> Option<Step>
             return None;
         }
         return Some(Step::Token {
-            kind: c as u32,
+            kind: u32::from(c),
             end: i + 1,
         });
     }
@@ -98,12 +96,11 @@ fn plain_mark(s: &[u8], i: usize, c: u8) -> Option<Step>
 }
 
 // What stands at a place of the draft, if it is one of these.
-pub(crate) fn lexeme(classes: &[u8; 256], s: &[u8], i: usize) -> Option<Step>
-    requires class_table { ClassTable classes.now }
-    requires i_in_bounds { i < length s.now }
+pub(crate) fn lexeme(classes: &Classes, s: &[u8], i: usize) -> Option<Step>
+    requires { i < length s.now }
     ensures { IfAny s.now i result }
 {
-    let c = byte_class(classes, s[i]);
+    let c = classes.of(s[i]);
     if c <= byte::LETTER {
         if c > byte::DIGIT {
             return plain_name(classes, s, i);
@@ -119,6 +116,6 @@ pub(crate) fn lexeme(classes: &[u8; 256], s: &[u8], i: usize) -> Option<Step>
     if c > byte::LINE_END {
         return None;
     }
-    let e = rest_end(classes, s, i, byte::SPACE, byte::LINE_END);
+    let e = classes.rest_end(s, i, byte::SPACE, byte::LINE_END);
     Some(Step::Trivia { end: e })
 }

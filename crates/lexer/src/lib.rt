@@ -11,7 +11,8 @@ ghost use Rattle.lexer.specs.Texts.{OneToken};
 ghost use Rattle.lexer.specs.Lexemes.{lexemes};
 ghost use Rattle.lexer.specs.Limits.{draft_limits, meant, lexed_of, buffer_of, tokens_of, token_words};
 
-use words::{Found, Table};
+use text::refusal::Refused;
+use words::Table;
 
 mod buffer;
 mod byte;
@@ -30,27 +31,20 @@ pub const DRAFT_BYTES: usize = 16384;
 pub const DRAFT_TOKENS: usize = 2048;
 
 // What stands at a place of a draft.
-#[derive(Drop)]
+#[derive(Clone, Copy, PartialEq, Eq, Debug)]
 pub enum Step {
     // A token of a kind, up to an end.
     Token { kind: u32, end: usize },
     // Whitespace or a comment, up to an end.
     Trivia { end: usize },
-    // A refusal by its number, at a place.
-    Refused { number: u32, place: usize },
+    // A refusal, at a place.
+    Refused(Refused),
     // The end of the draft.
     Nothing,
 }
 
-// How many tokens a draft has, or why it is refused.
-#[derive(Drop)]
-pub enum Lexed {
-    Tokens(usize),
-    Refused { number: u32, place: usize },
-}
-
-// Writes the tokens of the draft, `TOKEN_WORDS` words each, and zeros behind them; on a refusal every word is 0.
-pub fn lex(draft: &[u8], out: &mut [u32]) -> Lexed
+// Writes the tokens of the draft, `TOKEN_WORDS` words each, and zeros behind them, and says how many there are; on a refusal every word is 0.
+pub fn lex(draft: &[u8], out: &mut [u32]) -> Result<usize, Refused>
     ensures result_value { meant result ≡ lexed_of draft_limits draft.now (length out.old) }
     ensures out_after { out.new ≡ buffer_of draft_limits draft.now (length out.old) }
 {
@@ -58,7 +52,7 @@ pub fn lex(draft: &[u8], out: &mut [u32]) -> Lexed
 }
 
 // As `lex`, for a caller that needs no zeros: the words behind the tokens stay; on a refusal the words may be anything.
-pub fn lex_front(draft: &[u8], out: &mut [u32]) -> Lexed
+pub fn lex_front(draft: &[u8], out: &mut [u32]) -> Result<usize, Refused>
     ensures result_value { meant result ≡ lexed_of draft_limits draft.now (length out.old) }
     ensures held { Held (meant result) (token_words (tokens_of (lexemes draft.now))) out.old out.new }
 {
@@ -69,12 +63,7 @@ pub fn lex_front(draft: &[u8], out: &mut [u32]) -> Lexed
 fn may_be_word(kind: u32) -> bool
     ensures { result ≡ (eqb kind t.Bool || eqb kind t.Ident || eqb kind t.Macro) }
 {
-    match kind {
-        classes::BOOL => true,
-        classes::IDENT => true,
-        classes::MACRO => true,
-        _ => false,
-    }
+    matches!(kind, classes::BOOL | classes::IDENT | classes::MACRO)
 }
 
 // The class of a token that may be a word. Few tokens of such kinds are, so the kind is looked at behind the look-up. Out of line, so that others pay nothing.
@@ -82,8 +71,7 @@ fn may_be_word(kind: u32) -> bool
 fn word_class(draft: &[u8], kind: u32, start: usize, end: usize) -> u32
     ensures { result ≡ class_of kind (part_of draft.now start end) }
 {
-    let f = words::word(Table::RuleWords, draft, start, end);
-    let Found::Word(k) = f else {
+    let Some(k) = words::word(Table::RuleWords, draft, start, end) else {
         return kind;
     };
     if may_be_word(kind) {

@@ -2,22 +2,18 @@
 ghost use Rattle.std.specs.Prelude.{cond, ◌≡◌, ◌+◌, ◌*◌, ◌-◌, ◌≤◌, ◌<◌, ◌^◌, min, eqb, ltb, length};
 ghost use Rattle.text.specs.Answers.{accepted, refused};
 ghost use Rattle.text.specs.Front.{Held};
-ghost use Rattle.text.specs.Refusals as refusal;
+ghost use Rattle.text.specs.Refusals.{refusal_number};
+ghost use Rattle.text.specs.declared.refusal.Refusal.TheVariants as refusal;
 ghost use Rattle.text.specs.Widths.{tok_wide};
 ghost use Rattle.lexer.specs.Lexemes.{lexemes};
 ghost use Rattle.lexer.specs.Limits.{limits_of, meant, judged_in, lexed_of, buffer_of, tokens_of, token_words};
 ghost use Rattle.lexer.specs.Nesting.{is_past};
 
-use crate::chars::class_table;
+use crate::chars::Classes;
 use crate::depth::Nest;
-use crate::{Lexed, Step, buffer, depth, scan};
-use text::{TOKEN_WORDS, refusal};
-
-fn least(a: usize, b: usize) -> usize
-    ensures { result ≡ min a b }
-{
-    if a < b { a } else { b }
-}
+use crate::{Step, buffer, depth, scan};
+use text::TOKEN_WORDS;
+use text::refusal::{Refusal, Refused};
 
 // The start of the first token too many: of token number n, if it is that one.
 fn first_over(n: usize, room: usize, start: usize, over: usize) -> usize
@@ -27,33 +23,32 @@ fn first_over(n: usize, room: usize, start: usize, over: usize) -> usize
 }
 
 // Too many tokens, then too deep; else the n tokens.
-fn count(room: usize, n: usize, over: usize, nest: Nest) -> Lexed
-    ensures { meant result ≡ cond (ltb room n) (refused refusal.TooMany over) (cond (is_past nest) (refused refusal.TooDeep nest.place) (accepted n 0)) }
+fn count(room: usize, n: usize, over: usize, nest: Nest) -> Result<usize, Refused>
+    ensures { meant result ≡ cond (ltb room n) (refused (refusal_number refusal.TooMany) over) (cond (is_past nest) (refused (refusal_number refusal.TooDeep) nest.place) (accepted n 0)) }
 {
     if room < n {
-        return Lexed::Refused {
-            number: refusal::TOO_MANY,
+        return Err(Refused {
+            refusal: Refusal::TooMany,
             place: over,
-        };
+        });
     }
-    let place = nest.place;
     if depth::passed(nest) {
-        return Lexed::Refused {
-            number: refusal::TOO_DEEP,
-            place,
-        };
+        return Err(Refused {
+            refusal: Refusal::TooDeep,
+            place: nest.place,
+        });
     }
-    Lexed::Tokens(n)
+    Ok(n)
 }
 
 // Lexes the whole draft, in one pass: the refusals of the bytes, then too many tokens, then too deep. Tokens past the room are counted and not written.
 #[inline(never)]
-fn fill(draft: &[u8], out: &mut [u32], room: usize) -> Lexed
+fn fill(draft: &[u8], out: &mut [u32], room: usize) -> Result<usize, Refused>
     requires { (length draft.now < 2 ^ 32) × (tok_wide * room ≤ length out.old) }
     ensures result_value { meant result ≡ judged_in room (lexemes draft.now) }
     ensures held { Held (meant result) (token_words (tokens_of (lexemes draft.now))) out.old out.new }
 {
-    let classes = class_table();
+    let classes = Classes::new();
     let mut at: usize = 0;
     let mut n: usize = 0;
     let mut over: usize = 0;
@@ -72,8 +67,8 @@ fn fill(draft: &[u8], out: &mut [u32], room: usize) -> Lexed
             Step::Trivia { end } => {
                 at = end;
             }
-            Step::Refused { number, place } => {
-                return Lexed::Refused { number, place };
+            Step::Refused(refused) => {
+                return Err(refused);
             }
             Step::Nothing => {
                 return count(room, n, over, nest);
@@ -83,33 +78,41 @@ fn fill(draft: &[u8], out: &mut [u32], room: usize) -> Lexed
 }
 
 // Writes the tokens of a draft of so many bytes and tokens at most, and leaves what is behind them.
-pub(crate) fn lex_front_within(draft: &[u8], out: &mut [u32], bytes: usize, tokens: usize) -> Lexed
+pub(crate) fn lex_front_within(
+    draft: &[u8],
+    out: &mut [u32],
+    bytes: usize,
+    tokens: usize,
+) -> Result<usize, Refused>
     requires { bytes < 2 ^ 32 }
     ensures result_value { meant result ≡ lexed_of (limits_of bytes tokens) draft.now (length out.old) }
     ensures held { Held (meant result) (token_words (tokens_of (lexemes draft.now))) out.old out.new }
 {
     if draft.len() > bytes {
-        return Lexed::Refused {
-            number: refusal::TOO_LONG,
+        return Err(Refused {
+            refusal: Refusal::TooLong,
             place: bytes,
-        };
+        });
     }
-    let room = least(tokens, out.len() / TOKEN_WORDS);
+    let room = tokens.min(out.len() / TOKEN_WORDS);
     fill(draft, out, room)
 }
 
 // The same with zeros behind the tokens; on a refusal every word is 0.
-pub(crate) fn lex_within(draft: &[u8], out: &mut [u32], bytes: usize, tokens: usize) -> Lexed
+pub(crate) fn lex_within(
+    draft: &[u8],
+    out: &mut [u32],
+    bytes: usize,
+    tokens: usize,
+) -> Result<usize, Refused>
     requires { bytes < 2 ^ 32 }
     ensures result_value { meant result ≡ lexed_of (limits_of bytes tokens) draft.now (length out.old) }
     ensures out_after { out.new ≡ buffer_of (limits_of bytes tokens) draft.now (length out.old) }
 {
-    let r = lex_front_within(draft, out, bytes, tokens);
-    let Lexed::Tokens(n) = r else {
-        text::clear(out);
-        return r;
-    };
-    let used = TOKEN_WORDS * n;
-    text::clear_from(out, used);
-    Lexed::Tokens(n)
+    let lexed = lex_front_within(draft, out, bytes, tokens);
+    match lexed {
+        Ok(n) => text::clear_from(out, TOKEN_WORDS * n),
+        Err(_) => out.fill(0),
+    }
+    lexed
 }

@@ -4,21 +4,22 @@ ghost use Rattle.std.proofs.Math.Option.{none};
 ghost use Rattle.words.specs.Words.{KEYWORDS};
 ghost use Rattle.lexer.specs.Chars.{among, decimal_digits, name_starts};
 ghost use Rattle.lexer.specs.Lexemes.{macro, qualified};
-ghost use Rattle.lexer.specs.Bytes.{byte_class, ClassTable};
+ghost use Rattle.lexer.specs.Bytes.{byte_class};
 ghost use Rattle.lexer.specs.Bytes as byte;
 ghost use Rattle.lexer.specs.Step.{numbers, numbers_at, lexeme_at, step_of};
 ghost use Rattle.lexer.specs.Places.{Named, Based, keyword_at, decimal_at};
 
-use crate::chars::{byte_class, class_table, run_end};
+use crate::chars::Classes;
+use crate::frequent::one_or_two;
 use crate::{Step, byte, classes as class, frequent, trivia};
-use text::{peek, refusal};
-use words::{Found, Table};
+use text::peek;
+use text::refusal::{Refusal, Refused};
+use words::Table;
 
-fn starts_name(classes: &[u8; 256], b: u8) -> bool
-    requires { ClassTable classes.now }
+fn starts_name(classes: &Classes, b: u8) -> bool
     ensures { result ≡ among name_starts b }
 {
-    let c = byte_class(classes, b);
+    let c = classes.of(b);
     if c == byte::UNDERSCORE {
         return true;
     }
@@ -35,10 +36,10 @@ fn keyword(k: usize, i: usize, e: usize) -> Step
 {
     let kind = class::PUB + k as u32;
     if kind == class::SIMC {
-        return Step::Refused {
-            number: refusal::SIMC,
+        return Step::Refused(Refused {
+            refusal: Refusal::Simc,
             place: i,
-        };
+        });
     }
     if kind > class::SIMC {
         return Step::Token {
@@ -55,8 +56,8 @@ pub(crate) fn word(s: &[u8], i: usize, e: usize) -> Step
     ensures { result ≡ lexeme_at s.now i }
 {
     match words::which(Table::Keywords, &s[i..e]) {
-        Found::Word(k) => keyword(k, i, e),
-        Found::Plain => Step::Token {
+        Some(k) => keyword(k, i, e),
+        None => Step::Token {
             kind: class::IDENT,
             end: e,
         },
@@ -69,33 +70,31 @@ fn macro_word(s: &[u8], i: usize, e: usize) -> Step
     ensures { result ≡ lexeme_at s.now i }
 {
     match words::word(Table::Macros, s, i, e + 1) {
-        Found::Word(_) => Step::Token {
+        Some(_) => Step::Token {
             kind: class::MACRO,
             end: e + 1,
         },
-        Found::Plain => word(s, i, e),
+        None => word(s, i, e),
     }
 }
 
 // The name from i up to e, behind which `::` and a name stand.
-fn module_word(classes: &[u8; 256], s: &[u8], i: usize, e: usize) -> Step
-    requires class_table { ClassTable classes.now }
-    requires named { Named s.now i e × (get_or s.now e 0 ≡ 58) × (get_or s.now (e + 1) 0 ≡ 58) × (among name_starts (get_or s.now (e + 2) 0) ≡ true) }
+fn module_word(classes: &Classes, s: &[u8], i: usize, e: usize) -> Step
+    requires { Named s.now i e × (get_or s.now e 0 ≡ 58) × (get_or s.now (e + 1) 0 ≡ 58) × (among name_starts (get_or s.now (e + 2) 0) ≡ true) }
     ensures { result ≡ lexeme_at s.now i }
 {
     match words::word(Table::ModuleReserved, s, i, e) {
-        Found::Word(k) => Step::Token {
+        Some(k) => Step::Token {
             kind: class::JET + k as u32,
-            end: run_end(classes, s, e + 2, byte::UNDERSCORE, byte::LETTER),
+            end: classes.run_end(s, e + 2, byte::UNDERSCORE, byte::LETTER),
         },
-        Found::Plain => word(s, i, e),
+        None => word(s, i, e),
     }
 }
 
 // The name from i up to e, behind which `:` stands.
-fn colon_word(classes: &[u8; 256], s: &[u8], i: usize, e: usize) -> Step
-    requires class_table { ClassTable classes.now }
-    requires named { Named s.now i e × (get_or s.now e 0 ≡ 58) }
+fn colon_word(classes: &Classes, s: &[u8], i: usize, e: usize) -> Step
+    requires { Named s.now i e × (get_or s.now e 0 ≡ 58) }
     ensures { result ≡ lexeme_at s.now i }
 {
     if peek(s, e + 1) != b':' {
@@ -108,12 +107,11 @@ fn colon_word(classes: &[u8; 256], s: &[u8], i: usize, e: usize) -> Step
 }
 
 // What stands at the start of a name.
-fn name(classes: &[u8; 256], s: &[u8], i: usize) -> Step
-    requires class_table { ClassTable classes.now }
-    requires i_in_bounds { (i < length s.now) × (among name_starts (get_or s.now i 0) ≡ true) }
+fn name(classes: &Classes, s: &[u8], i: usize) -> Step
+    requires { (i < length s.now) × (among name_starts (get_or s.now i 0) ≡ true) }
     ensures { result ≡ lexeme_at s.now i }
 {
-    let e = run_end(classes, s, i, byte::UNDERSCORE, byte::LETTER);
+    let e = classes.run_end(s, i, byte::UNDERSCORE, byte::LETTER);
     let b = peek(s, e);
     if b == b':' {
         return colon_word(classes, s, i, e);
@@ -124,12 +122,11 @@ fn name(classes: &[u8; 256], s: &[u8], i: usize) -> Step
     word(s, i, e)
 }
 
-fn decimal(classes: &[u8; 256], s: &[u8], i: usize) -> Step
-    requires class_table { ClassTable classes.now }
-    requires i_in_bounds { i ≤ length s.now }
+fn decimal(classes: &Classes, s: &[u8], i: usize) -> Step
+    requires { i ≤ length s.now }
     ensures { result ≡ decimal_at s.now i }
 {
-    let e = run_end(classes, s, i, byte::UNDERSCORE, byte::DIGIT);
+    let e = classes.run_end(s, i, byte::UNDERSCORE, byte::DIGIT);
     Step::Token {
         kind: class::DEC_LITERAL,
         end: e,
@@ -137,12 +134,11 @@ fn decimal(classes: &[u8; 256], s: &[u8], i: usize) -> Step
 }
 
 // A token of this kind if a digit of its base stands behind the two bytes of its prefix, else a decimal one.
-fn based(classes: &[u8; 256], s: &[u8], i: usize, kind: u32, most: u8) -> Step
-    requires class_table { ClassTable classes.now }
-    requires based { Based s.now i kind most }
+fn based(classes: &Classes, s: &[u8], i: usize, kind: u32, most: u8) -> Step
+    requires { Based s.now i kind most }
     ensures { result ≡ lexeme_at s.now i }
 {
-    let c = byte_class(classes, peek(s, i + 2));
+    let c = classes.of(peek(s, i + 2));
     if c == byte::UNDERSCORE {
         return decimal(classes, s, i);
     }
@@ -151,14 +147,13 @@ fn based(classes: &[u8; 256], s: &[u8], i: usize, kind: u32, most: u8) -> Step
     }
     Step::Token {
         kind,
-        end: run_end(classes, s, i + 2, byte::UNDERSCORE, most),
+        end: classes.run_end(s, i + 2, byte::UNDERSCORE, most),
     }
 }
 
 // What stands at a digit.
-fn number(classes: &[u8; 256], s: &[u8], i: usize) -> Step
-    requires class_table { ClassTable classes.now }
-    requires i_in_bounds { (i < length s.now) × (among decimal_digits (get_or s.now i 0) ≡ true) }
+fn number(classes: &Classes, s: &[u8], i: usize) -> Step
+    requires { (i < length s.now) × (among decimal_digits (get_or s.now i 0) ≡ true) }
     ensures { result ≡ lexeme_at s.now i }
 {
     let b = s[i];
@@ -180,75 +175,54 @@ fn mark(s: &[u8], i: usize, c: u8) -> Step
     requires { (i < length s.now) × (c ≡ byte_class (get_or s.now i 0)) × (byte.Minus ≤ c) × (c ≤ byte.Other) }
     ensures { result ≡ lexeme_at s.now i }
 {
-    let next = peek(s, i + 1);
+    if c == byte::COLON {
+        return one_or_two(s, i, class::COLON, b':', class::DOUBLE_COLON);
+    }
+    if c == byte::EQ {
+        return one_or_two(s, i, class::EQ, b'>', class::FAT_ARROW);
+    }
     if c == byte::MINUS {
-        if next == b'>' {
+        if peek(s, i + 1) == b'>' {
             return Step::Token {
                 kind: class::ARROW,
                 end: i + 2,
             };
         }
-        return Step::Refused {
-            number: refusal::NO_LEXEME,
+        return Step::Refused(Refused {
+            refusal: Refusal::NoLexeme,
             place: i,
-        };
-    }
-    if c == byte::COLON {
-        if next == b':' {
-            return Step::Token {
-                kind: class::DOUBLE_COLON,
-                end: i + 2,
-            };
-        }
-        return Step::Token {
-            kind: class::COLON,
-            end: i + 1,
-        };
-    }
-    if c == byte::EQ {
-        if next == b'>' {
-            return Step::Token {
-                kind: class::FAT_ARROW,
-                end: i + 2,
-            };
-        }
-        return Step::Token {
-            kind: class::EQ,
-            end: i + 1,
-        };
+        });
     }
     if c == byte::OTHER {
-        return Step::Refused {
-            number: refusal::NO_LEXEME,
+        return Step::Refused(Refused {
+            refusal: Refusal::NoLexeme,
             place: i,
-        };
+        });
     }
     Step::Token {
-        kind: c as u32,
+        kind: u32::from(c),
         end: i + 1,
     }
 }
 
 // Whitespace, or a byte over 127; c is the class of the byte at i.
-fn blank(classes: &[u8; 256], s: &[u8], i: usize, c: u8) -> Step
-    requires class_table { ClassTable classes.now }
-    requires i_in_bounds { (i < length s.now) × (c ≡ byte_class (get_or s.now i 0)) × (byte.Space ≤ c) }
+fn blank(classes: &Classes, s: &[u8], i: usize, c: u8) -> Step
+    requires { (i < length s.now) × (c ≡ byte_class (get_or s.now i 0)) × (byte.Space ≤ c) }
     ensures { result ≡ lexeme_at s.now i }
 {
     if c > byte::LINE_END {
-        return Step::Refused {
-            number: refusal::NOT_ASCII,
+        return Step::Refused(Refused {
+            refusal: Refusal::NotAscii,
             place: i,
-        };
+        });
     }
-    let e = run_end(classes, s, i, byte::SPACE, byte::LINE_END);
+    let e = classes.run_end(s, i, byte::SPACE, byte::LINE_END);
     Step::Trivia { end: e }
 }
 
 // What stands at a letter, a digit or `_`; c is its class.
-fn name_or_number(classes: &[u8; 256], s: &[u8], i: usize, c: u8) -> Step
-    requires class_table { ClassTable classes.now }
-    requires i_in_bounds { (i < length s.now) × (c ≡ byte_class (get_or s.now i 0)) × (c ≤ byte.Letter) }
+fn name_or_number(classes: &Classes, s: &[u8], i: usize, c: u8) -> Step
+    requires { (i < length s.now) × (c ≡ byte_class (get_or s.now i 0)) × (c ≤ byte.Letter) }
     ensures { result ≡ lexeme_at s.now i }
 {
     if c == byte::UNDERSCORE {
@@ -262,12 +236,11 @@ fn name_or_number(classes: &[u8; 256], s: &[u8], i: usize, c: u8) -> Step
 
 // Whatever stands at a place of the draft.
 #[inline(never)]
-fn whatever(classes: &[u8; 256], s: &[u8], i: usize) -> Step
-    requires class_table { ClassTable classes.now }
-    requires i_in_bounds { i < length s.now }
+fn whatever(classes: &Classes, s: &[u8], i: usize) -> Step
+    requires { i < length s.now }
     ensures { result ≡ lexeme_at s.now i }
 {
-    let c = byte_class(classes, s[i]);
+    let c = classes.of(s[i]);
     if c <= byte::LETTER {
         return name_or_number(classes, s, i, c);
     }
@@ -281,17 +254,15 @@ fn whatever(classes: &[u8; 256], s: &[u8], i: usize) -> Step
 }
 
 // The same, called from a function of its own: the place for the answer is made ready only where it is wanted.
-fn rare(classes: &[u8; 256], s: &[u8], i: usize) -> Step
-    requires class_table { ClassTable classes.now }
-    requires i_in_bounds { i < length s.now }
+fn rare(classes: &Classes, s: &[u8], i: usize) -> Step
+    requires { i < length s.now }
     ensures { result ≡ lexeme_at s.now i }
 {
     whatever(classes, s, i)
 }
 
 // What stands at a place of the draft.
-pub(crate) fn step_with(classes: &[u8; 256], draft: &[u8], at: usize) -> Step
-    requires { ClassTable classes.now }
+pub(crate) fn step_with(classes: &Classes, draft: &[u8], at: usize) -> Step
     ensures { result ≡ step_of draft.now at }
 {
     if at >= draft.len() {
@@ -308,6 +279,6 @@ pub fn step(draft: &[u8], at: usize) -> Step
     ensures answer { result ≡ step_of draft.now at }
     ensures numbers { numbers result ≡ numbers_at draft.now at }
 {
-    let classes = class_table();
+    let classes = Classes::new();
     step_with(&classes, draft, at)
 }

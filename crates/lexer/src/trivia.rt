@@ -2,10 +2,11 @@
 ghost use Rattle.std.specs.Prelude.{◌≡◌, ◌+◌, ◌≤◌, ◌<◌, length, get_or, drop};
 ghost use Rattle.lexer.specs.Lexemes.{closing};
 ghost use Rattle.lexer.specs.Step.{lexeme_at};
-ghost use Rattle.lexer.specs.Trivia.{plain_in_line, plain_in_block, edge_of, broken_of};
+ghost use Rattle.lexer.specs.Trivia.{plain_beside, edge_of, broken_of};
 
 use crate::Step;
-use text::{peek, refusal};
+use text::peek;
+use text::refusal::{Refusal, Refused};
 
 // What two bytes in a block comment do. No byte over 127 is one of them, so they are looked for between sequences.
 #[derive(Drop)]
@@ -15,33 +16,23 @@ pub(crate) enum Edge {
     Neither,
 }
 
-// Whether a byte in a line comment is a sequence of its own and does not end the line. Almost every byte is so, and each loop asks this first.
-fn plain_in_line(b: u8) -> bool
-    ensures { result ≡ plain_in_line b }
+// Whether a byte in a comment is a sequence of its own and none of the two that mean something there: CR and LF in a line comment, `/` and `*` in a block.
+// Almost every byte is past both, and each loop asks this first.
+fn plain<const LARGER: u8, const SMALLER: u8>(b: u8) -> bool
+    requires { (SMALLER < LARGER) × (LARGER ≤ 127) }
+    ensures { result ≡ plain_beside LARGER SMALLER b }
 {
-    if b > b'\r' {
+    if b > LARGER {
         return b <= utf8::LAST_ASCII;
     }
-    if b == b'\r' {
+    if b == LARGER {
         return false;
     }
-    b != b'\n'
+    b != SMALLER
 }
 
-// The same in a block comment, where it may be of no mark.
-fn plain_in_block(b: u8) -> bool
-    ensures { result ≡ plain_in_block b }
-{
-    if b > b'/' {
-        return b <= utf8::LAST_ASCII;
-    }
-    if b == b'/' {
-        return false;
-    }
-    b != b'*'
-}
-
-// The line comment at i: it runs to before CR, LF or the end. In line with others, its refusal was made ready at every sequence.
+// The line comment at i: it runs to before CR, LF or the end. The loops over comments step by sequences and marks of one to four bytes, so they count the
+// place themselves. Inlined, this one's refusal was made ready at every sequence.
 #[inline(never)]
 fn line(s: &[u8], i: usize) -> Step
     requires { (i + 1 < length s.now) × (get_or s.now i 0 ≡ 47) × (get_or s.now (i + 1) 0 ≡ 47) }
@@ -50,20 +41,19 @@ fn line(s: &[u8], i: usize) -> Step
     let mut j = i + 2;
     while j < s.len() {
         let b = s[j];
-        if plain_in_line(b) {
+        if plain::<b'\r', b'\n'>(b) {
             j += 1;
             continue;
         }
         if b <= utf8::LAST_ASCII {
             return Step::Trivia { end: j };
         }
-        let n = utf8::sequence(s, j);
-        if n == 0 {
-            return Step::Refused {
-                number: refusal::NOT_UTF8,
+        let Some(n) = utf8::sequence(s, j) else {
+            return Step::Refused(Refused {
+                refusal: Refusal::NotUtf8,
                 place: j,
-            };
-        }
+            });
+        };
         j += n;
     }
     Step::Trivia { end: j }
@@ -107,10 +97,10 @@ fn broken(s: &[u8], i: usize, k: usize, inner: usize) -> Step
             }
             Edge::Closes => {
                 if depth == 0 {
-                    return Step::Refused {
-                        number: refusal::NOT_UTF8,
+                    return Step::Refused(Refused {
+                        refusal: Refusal::NotUtf8,
                         place: k,
-                    };
+                    });
                 }
                 depth -= 1;
                 j += 2;
@@ -120,10 +110,10 @@ fn broken(s: &[u8], i: usize, k: usize, inner: usize) -> Step
             }
         }
     }
-    Step::Refused {
-        number: refusal::UNCLOSED,
+    Step::Refused(Refused {
+        refusal: Refusal::Unclosed,
         place: i,
-    }
+    })
 }
 
 // The block comment at i. The last byte of the draft alone closes nothing, so the loop leaves it out and always has two bytes.
@@ -136,15 +126,14 @@ fn block(s: &[u8], i: usize) -> Step
     let mut depth: usize = 0;
     while j < last {
         let b = s[j];
-        if plain_in_block(b) {
+        if plain::<b'/', b'*'>(b) {
             j += 1;
             continue;
         }
         if b > utf8::LAST_ASCII {
-            let n = utf8::sequence(s, j);
-            if n == 0 {
+            let Some(n) = utf8::sequence(s, j) else {
                 return broken(s, i, j, depth);
-            }
+            };
             j += n;
             continue;
         }
@@ -165,10 +154,10 @@ fn block(s: &[u8], i: usize) -> Step
             }
         }
     }
-    Step::Refused {
-        number: refusal::UNCLOSED,
+    Step::Refused(Refused {
+        refusal: Refusal::Unclosed,
         place: i,
-    }
+    })
 }
 
 // What stands at a `/`.
@@ -183,8 +172,8 @@ pub(crate) fn slash(s: &[u8], i: usize) -> Step
     if b == b'*' {
         return block(s, i);
     }
-    Step::Refused {
-        number: refusal::NO_LEXEME,
+    Step::Refused(Refused {
+        refusal: Refusal::NoLexeme,
         place: i,
-    }
+    })
 }

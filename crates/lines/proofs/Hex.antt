@@ -24,3 +24,7 @@ above (suc n) q r =
 -- a number is shown as what it is beyond a multiple of that many.
 pub last_digits : (n v : ℕ) → hex n (v % power n) ≡ hex n v
 last_digits n v = sym (above n (v / power n) (v % power n)) ∙ ap (hex n) (div-add-mod v (power n))
+
+-- Two digits more tell apart 256 times as many.
+pub power-more : (n : ℕ) → power n * power 2 ≡ power (suc (suc n))
+power-more n = omega arith

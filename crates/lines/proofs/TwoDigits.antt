@@ -1,17 +1,20 @@
 -- Digits written two at a time.
 -- Assumes nothing.
-use mathlib.Core.List.{List, [], ◌∷◌, ◌++◌, append_assoc}
+use mathlib.Core.List.{List, [], ◌∷◌, ◌++◌, append_assoc, append-nil}
 use mathlib.Core.Path.{◌≡◌, refl, sym, ap, ◌∙◌}
-use Prim.Native.Nat.{ℕ, suc, ◌+◌, ◌*◌, ◌/◌, ◌%◌, ◌<◌}
+use Prim.Native.Nat.{ℕ, zero, suc, ◌+◌, ◌-◌, ◌*◌, ◌/◌, ◌%◌, ◌<◌, ◌≤◌}
 use native.Mathlib.Omega.{arith}
 use native.Mathlib.Numerals.{add-one}
-use lib.ListN.{get_or, set}
-use lib.Seq.{sets}
+use borrow.Rule.Slice.PartMut.{put_mid, mid_of}
+use lib.ListN.{length, get_or, set, take, drop, replicate, length-drop}
+use lib.Seq.{sets, sets-eq, set_comm, drop-drop, length-take-le}
+use Rattle.std.proofs.Math.Nat.{div-one, div-div-eq-div-mul}
+use Rattle.std.proofs.lemmas.List.{replicate_more}
 use Rattle.text.specs.Ascii.{ascii, ascii_from}
-use Rattle.text.proofs.Sets.{sets-next}
+use Rattle.text.proofs.Sets.{sets-append}
 use Rattle.text.proofs.Table.{table_at}
 use Rattle.lines.specs.Hex.{upper_hex, hex, power}
-use Rattle.lines.proofs.Hex.{hex-length, last_digits}
+use Rattle.lines.proofs.Hex.{hex-length, last_digits, power-more}
 use Rattle.lines.specs.declared.pairs.TheConstants.{PAIRS}
 
 -- The table's rule, computed over all of its entries: two to a number, its two digits.
@@ -30,12 +33,84 @@ module _ (v : ℕ) where
       let low : get_or PAIRS (2 * b + 1) 0 ≡ get_or (hex 2 b) 1 0 = digit (2 * b + 1) b 1 (omega arith) (omega arith) (omega arith) in
       (λ i. set (set l at (high i)) (add-one at i) (low i)) ∙ ap (sets l at) (last_digits 2 v)
 
-  -- Two digits more, behind those of what stands above them.
-  pub pair-more : (n : ℕ) (o : List ℕ) {l₁ l₂ : List ℕ} (at : ℕ) {p : ℕ} → l₁ ≡ sets o at (hex n (v / power 2)) → l₂ ≡ sets l₁ p (hex 2 v) → p ≡ at + n → l₂ ≡ sets o at (hex (suc (suc n)) v)
-  unfolding hex
-  pair-more n o at {p} e f h =
-      let q : v / 16 / 16 ≡ v / power 2 = omega arith in
-      let front = hex n (v / power 2) in
-      let d = get_or upper_hex (v / 16 % 16) 0 in
-      sets-next o front (hex 2 v) at p e f (omega (arith, hex-length n (v / power 2), h))
-      ∙ ap (sets o at) (sym (append_assoc front (d ∷ []) (get_or upper_hex (v % 16) 0 ∷ [])) ∙ λ i. hex n (sym q i) ++ (d ∷ []) ++ (get_or upper_hex (v % 16) 0 ∷ []))
+-- a store of one element before a run
+sets-set : (ws l : List ℕ) (i j x : ℕ) → i < j → sets (set l i x) j ws ≡ set (sets l j ws) i x
+sets-set [] l i j x h = refl
+sets-set (w ∷ ws) l i j x h =
+    ap (λ (m : List ℕ). sets m (suc j) ws) (set_comm l i j x w (λ e. absurd (omega (arith, e))))
+    ∙ sets-set ws (set l j w) i (suc j) x (omega arith)
+
+-- Two digits before a run of digits.
+pair-before : (vs ws l : List ℕ) (i j : ℕ) → i + length vs ≤ j → sets (sets l i vs) j ws ≡ sets (sets l j ws) i vs
+pair-before [] ws l i j h = refl
+pair-before (v ∷ vs) ws l i j h = pair-before vs ws (set l i v) (suc i) j (omega arith) ∙ ap (λ (m : List ℕ). sets m (suc i) vs) (sets-set ws l i j v (omega arith))
+
+-- The digits of a number are the two above the last n, and those.
+two-above : (n v : ℕ) → hex (suc (suc n)) v ≡ hex 2 (v / power n) ++ hex n v
+unfolding hex
+two-above zero v =
+    let e : v / 1 ≡ v = div-one v in
+    sym (append-nil (hex 2 v)) ∙ ap (λ (x : ℕ). hex 2 x ++ []) (sym e)
+two-above (suc n) v =
+    let d = get_or upper_hex (v % 16) 0 in
+    let e : v / 16 / power n ≡ v / (16 * power n) = div-div-eq-div-mul v 16 (power n) in
+    ap (λ (l : List ℕ). l ++ (d ∷ [])) (two-above n (v / 16))
+    ∙ append_assoc (hex 2 (v / 16 / power n)) (hex n (v / 16)) (d ∷ [])
+    ∙ ap (λ (x : ℕ). hex 2 x ++ (hex n (v / 16) ++ (d ∷ []))) e
+
+-- What the loop over the pairs keeps of N digits at `at`: the last i pairs are written.
+pub record Paired (o : List ℕ) (at N v : ℕ) (l : List ℕ) (above i : ℕ) : Type 0 where
+  pub within : i ≤ N / 2
+  pub above_is : above ≡ v / power (2 * i)
+  pub done : l ≡ sets o (at + (N - 2 * i)) (hex (2 * i) v)
+
+pub paired-start : (o : List ℕ) (at N v : ℕ) → Paired o at N v o v 0
+unfolding hex
+paired-start o at N v = record { within = omega arith; above_is = sym (div-one v); done = refl }
+
+module _ {o : List ℕ} {at N v : ℕ} {l : List ℕ} {above i : ℕ} (x : Paired o at N v l above i) where
+  pub paired-more : {l₁ : List ℕ} → i < N / 2 → l₁ ≡ sets l (at + (N - 2 * (i + 1))) (hex 2 above) → Paired o at N v l₁ (above / power 2) (i + 1)
+  paired-more {l₁} h e =
+      let n = 2 * i in
+      let p = at + (N - 2 * (i + 1)) in
+      let s : suc (suc n) ≡ 2 * (i + 1) = omega arith in
+      let q : at + (N - n) ≡ p + 2 = omega arith in
+      let k : length (hex 2 above) ≡ 2 = hex-length 2 above in
+      let f : l ≡ sets o (p + length (hex 2 above)) (hex n v) = x.done ∙ ap (λ (j : ℕ). sets o j (hex n v)) (omega (arith, q, k)) in
+      record {
+        within = omega arith;
+        above_is = ap (λ (y : ℕ). y / power 2) x.above_is ∙ div-div-eq-div-mul v (power n) (power 2)
+            ∙ ap (λ (y : ℕ). v / y) (power-more n) ∙ ap (λ (j : ℕ). v / power j) s;
+        done = e
+            ∙ ap (λ (m : List ℕ). sets m p (hex 2 above)) f
+            ∙ sym (pair-before (hex 2 above) (hex n v) o p (p + length (hex 2 above)) (omega arith))
+            ∙ sym (sets-append (hex 2 above) (hex n v) o p)
+            ∙ ap (λ (y : ℕ). sets o p (hex 2 y ++ hex n v)) x.above_is
+            ∙ ap (sets o p) (sym (two-above n v))
+            ∙ ap (λ (j : ℕ). sets o p (hex j v)) s;
+      }
+
+  pub paired-end : N / 2 ≤ i → 2 * (N / 2) ≡ N → l ≡ sets o at (hex N v)
+  paired-end h even =
+      let w = x.within in
+      let e : 2 * i ≡ N = omega arith in
+      let a : at + (N - 2 * i) ≡ at = omega arith in
+      x.done ∙ λ j. sets o (a j) (hex (e j) v)
+
+-- Zeros are the digits of 0.
+zeros : (n : ℕ) → hex n 0 ≡ replicate n 48
+unfolding hex upper_hex ascii ascii_from
+zeros zero = refl
+zeros (suc n) = ap (λ (l : List ℕ). l ++ (48 ∷ [])) (zeros n) ∙ replicate_more n 48 ∙ ap (λ (k : ℕ). replicate k 48) (add-one n)
+
+pub zeros-written : (n : ℕ) (o : List ℕ) (at : ℕ) {v k : ℕ} {ys : List ℕ} → v ≡ 0 → k ≡ n → at + n ≤ length o → ys ≡ replicate (length (mid_of at k o)) 48
+    → put_mid at k o ys ≡ sets o at (hex n v)
+zeros-written n o at {v} {k} {ys} z e h y =
+    let d = length-drop at o in
+    let m : length (mid_of at k o) ≡ n = length-take-le k (drop at o) (omega arith) ∙ e in
+    let f : ys ≡ hex n v = y ∙ ap (λ (j : ℕ). replicate j 48) m ∙ sym (zeros n) ∙ ap (hex n) (sym z) in
+    let w : length (hex n v) ≡ k = hex-length n v ∙ sym e in
+    ap (λ (l : List ℕ). put_mid at k o l) f
+    ∙ ap (λ (l : List ℕ). take at o ++ (hex n v ++ l)) (drop-drop k at o ∙ ap (λ (j : ℕ). drop (at + j) o) (sym w))
+    ∙ sym (append_assoc (take at o) (hex n v) (drop (at + length (hex n v)) o))
+    ∙ sym (sets-eq (hex n v) o at (omega (arith, h, w, e)))

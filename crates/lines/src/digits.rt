@@ -1,7 +1,7 @@
 // Numbers as upper-case hexadecimal digits, two at a time.
-ghost use Rattle.std.specs.Prelude.{◌≡◌, ◌+◌, ◌≤◌, length};
+ghost use Rattle.std.specs.Prelude.{◌≡◌, ◌+◌, ◌*◌, ◌/◌, ◌≤◌, length};
 ghost use Rattle.std.proofs.lemmas.List.Edits.{sets};
-ghost use Rattle.lines.specs.Hex as spec;
+ghost use Rattle.lines.specs.Hex.{hex};
 
 use crate::HALF_DIGITS;
 use crate::pairs::{PAIR, PAIR_VALUES, PAIRS};
@@ -9,65 +9,32 @@ use crate::pairs::{PAIR, PAIR_VALUES, PAIRS};
 // How many numbers a pair of digits tells apart.
 const BASE: u32 = PAIR_VALUES as u32;
 
-// Writes the last two digits of v, and returns where they end.
+// Writes the last two digits of v.
 #[inline(always)]
-pub(crate) fn two(out: &mut [u8], at: usize, v: u32) -> usize
+fn pair(out: &mut [u8], at: usize, v: u32)
     requires { at + 2 ≤ length out.old }
-    ensures end { result ≡ at + 2 }
-    ensures bytes { out.new ≡ sets out.old at (spec.hex 2 v) }
+    ensures { out.new ≡ sets out.old at (hex 2 v) }
 {
     let k = PAIR * (v % BASE) as usize;
     let (high, low) = (PAIRS[k], PAIRS[k + 1]);
     out[at] = high;
     out[at + 1] = low;
-    at + PAIR
 }
 
-// Writes the last four digits of v, and returns where they end.
+// Writes the last N digits of v, an even number of them, from the last pair to the first. Most halves of a 64-bit number are 0, and zeros are one store.
 #[inline(always)]
-pub(crate) fn four(out: &mut [u8], at: usize, v: u32) -> usize
-    requires { at + 4 ≤ length out.old }
-    ensures end { result ≡ at + 4 }
-    ensures bytes { out.new ≡ sets out.old at (spec.hex 4 v) }
+pub(crate) fn digits<const N: usize>(out: &mut [u8], at: usize, v: u32)
+    requires even { 2 * (N / 2) ≡ N }
+    requires in_bounds { at + N ≤ length out.old }
+    ensures { out.new ≡ sets out.old at (hex N v) }
 {
-    let last = two(out, at, v / BASE);
-    two(out, last, v)
-}
-
-// Writes the last six digits of v, and returns where they end.
-#[inline(always)]
-pub(crate) fn six(out: &mut [u8], at: usize, v: u32) -> usize
-    requires { at + 6 ≤ length out.old }
-    ensures end { result ≡ at + 6 }
-    ensures bytes { out.new ≡ sets out.old at (spec.hex 6 v) }
-{
-    let last = four(out, at, v / BASE);
-    two(out, last, v)
-}
-
-// Writes n zeros, and returns where they end.
-#[inline(always)]
-fn zeros(out: &mut [u8], at: usize, n: usize) -> usize
-    requires { at + n ≤ length out.old }
-    ensures end { result ≡ at + n }
-    ensures bytes { out.new ≡ sets out.old at (spec.hex n 0) }
-{
-    for i in 0..n {
-        out[at + i] = b'0';
+    if N == HALF_DIGITS && v == 0 {
+        out[at..at + N].fill(b'0');
+        return;
     }
-    at + n
-}
-
-// Writes the eight digits of v, and returns where they end. Most halves of a number are 0, and zeros are one store.
-#[inline(always)]
-pub(crate) fn eight(out: &mut [u8], at: usize, v: u32) -> usize
-    requires { at + 8 ≤ length out.old }
-    ensures end { result ≡ at + 8 }
-    ensures bytes { out.new ≡ sets out.old at (spec.hex 8 v) }
-{
-    if v == 0 {
-        return zeros(out, at, HALF_DIGITS);
+    let mut above = v;
+    for i in 0..N / PAIR {
+        pair(out, at + (N - PAIR * (i + 1)), above);
+        above /= BASE;
     }
-    let last = six(out, at, v / BASE);
-    two(out, last, v)
 }

@@ -1,7 +1,7 @@
 // The lines of a listing: from the words of records to their lines in a buffer of bytes.
 #![tactic(auto)]
 
-ghost use Rattle.std.specs.Prelude.{◌≡◌, min, length};
+ghost use Rattle.std.specs.Prelude.{◌≡◌, length};
 ghost use Rattle.lines.specs.Written.{used, padded, lines_in};
 
 mod digits;
@@ -41,25 +41,18 @@ pub const SIX_BYTES: usize = LINE_BYTES - PLACE_DIGITS - 1;
 // How many places the digits of a place tell apart.
 pub const PLACES: usize = 1 << (4 * PLACE_DIGITS);
 
-// The smaller of two numbers.
-fn fewer(a: usize, b: usize) -> usize
-    ensures { result ≡ min a b }
-{
-    if a < b { a } else { b }
-}
-
 // Lists the first records of a tree buffer, or all that it holds if those are fewer: their lines, and zeros behind them; 0 and zeros alone if the
 // lines do not fit. What is behind the lines is cleared once, after them, so that no byte is written twice.
 pub fn list(tree: &[u32], records: usize, out: &mut [u8]) -> usize
     ensures used { result ≡ used (lines_in tree.now records) (length out.old) }
     ensures bytes { out.new ≡ padded (lines_in tree.now records) (length out.old) }
 {
-    let n = fewer(records, tree.len() / text::RECORD_WORDS);
+    let n = records.min(tree.len() / text::RECORD_WORDS);
     if n > out.len() / LINE_BYTES {
-        text::clear_bytes(out);
+        out.fill(0);
         return 0;
     }
     let end = write::lines(out, tree, n);
-    text::clear_bytes(&mut out[end..]);
+    out[end..].fill(0);
     end
 }

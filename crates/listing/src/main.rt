@@ -1,137 +1,97 @@
 // The listing program: a draft from standard input, and its lines to standard output. What fails is said on standard error, and after a read that
-// failed no line is written.
+// failed no line is written. A call that a signal interrupts counts as one that failed, so the loops of `read` and `write` are its own: those of std
+// would try again.
 #![tactic(auto)]
 
-ghost use Rattle.std.specs.Prelude.{◌≡◌, ◌+◌, length};
-ghost use Rattle.lexer.specs.Limits.{draft_limits};
-ghost use Rattle.reader.specs.Fits.{enough};
+ghost use Rattle.std.specs.Prelude.{length};
 ghost use Rattle.listing.specs.Within.{Within};
 
+use lexer::DRAFT_BYTES;
 use reader::entry::LISTING_BYTES;
 use std::io;
-use std::io::{Read, Write};
-
-// What came in: so many bytes at the start of the buffer, or that a read failed.
-#[derive(Drop)]
-enum Input {
-    Bytes(usize),
-    Failed,
-}
-
-// One byte more than a draft may have: more than that need not be kept, since the length alone refuses it.
-fn draft_buffer() -> [u8; lexer::DRAFT_BYTES + 1]
-    ensures { draft_limits.bytes + 1 ≡ length result }
-{
-    [0; lexer::DRAFT_BYTES + 1]
-}
-
-// Room for the lines of every draft.
-fn line_buffer() -> [u8; LISTING_BYTES]
-    ensures { enough ≡ length result }
-{
-    [0; LISTING_BYTES]
-}
+use std::io::{ErrorKind, Read, Write};
 
 // The system's text for an error, without the number that std puts behind it.
 fn without_number(text: &str) -> &str {
-    match text.split_once(" (os error ") {
-        Some((before, _)) => before,
-        None => text,
-    }
+    text.split_once(" (os error ")
+        .map_or(text, |(before, _)| before)
 }
 
 // Writes a line to standard error: what failed, a colon and the system's text for the error.
 fn fail(rt: &HostRuntime, what: &str, error: io::Error) {
     let Ok(text) = format!(in rt.alloc(); "{error}") else {
-        let _ = eprintln!(rt; "{what}: ");
+        let _ = eprintln!(rt; "listing: {what}: ");
         return;
     };
     let said = without_number(text.as_str());
-    let _ = eprintln!(rt; "{what}: {said}");
+    let _ = eprintln!(rt; "listing: {what}: {said}");
 }
 
-// Reads until the buffer is full or the input ends.
-fn fill(rt: &HostRuntime, buf: &mut [u8]) -> Input
+// Reads until the buffer is full or the input ends; the answer is how many bytes came in.
+fn fill(input: &mut impl Read, buf: &mut [u8]) -> io::Result<usize>
     ensures { Within result (length buf.old) }
 {
-    let mut input = rt.stdin();
     let mut done = 0;
     while done < buf.len() {
-        match input.read(&mut buf[done..]) {
-            Ok(0) => return Input::Bytes(done),
-            Ok(more) => done += more,
-            Err(e) => {
-                fail(rt, "listing: read", e);
-                return Input::Failed;
-            }
+        match input.read(&mut buf[done..])? {
+            0 => break,
+            more => done += more,
         }
     }
-    Input::Bytes(done)
+    Ok(done)
 }
 
-// Reads what is left, so that whoever writes a long draft can finish. A proved loop has to end, and nothing says that an input does: this one counts
-// down from a number that no run uses up.
-fn drain(rt: &HostRuntime, buf: &mut [u8]) -> bool {
-    let mut input = rt.stdin();
-    let mut turns = u64::MAX;
-    while turns > 0 {
-        match input.read(buf) {
-            Ok(0) => return true,
-            Ok(_) => turns -= 1,
-            Err(e) => {
-                fail(rt, "listing: read", e);
-                return false;
-            }
+// Reads what is left, so that whoever writes a long draft can finish. A proved loop has to end, and nothing says that an input does: this one has more
+// turns than a run takes.
+fn drain(input: &mut impl Read, buf: &mut [u8]) -> io::Result<()> {
+    for _ in 0..u64::MAX {
+        if input.read(buf)? == 0 {
+            break;
         }
     }
-    true
+    Ok(())
 }
 
-// The whole input, as far as it is kept.
-fn read_draft(rt: &HostRuntime, buf: &mut [u8]) -> Input
+// Reads the whole input, as far as the buffer keeps it.
+fn read_draft(rt: &HostRuntime, buf: &mut [u8]) -> io::Result<usize>
     ensures { Within result (length buf.old) }
 {
-    let input = fill(rt, buf);
-    let Input::Bytes(n) = input else {
-        return Input::Failed;
-    };
-    if n == buf.len() {
-        if !drain(rt, buf) {
-            return Input::Failed;
-        }
+    let mut input = rt.stdin();
+    let bytes = fill(&mut input, buf)?;
+    if bytes == buf.len() {
+        drain(&mut input, buf)?;
     }
-    Input::Bytes(n)
+    Ok(bytes)
 }
 
-// Writes bytes, and stops at the first write that takes none or fails, one that a signal interrupts too.
-fn put(rt: &HostRuntime, bytes: &[u8]) -> io::Result<()> {
-    let mut out = rt.stdout();
-    let mut done = 0;
-    while done < bytes.len() {
-        let more = out.write(&bytes[done..])?;
-        if more == 0 {
-            return Err(io::Error::from(io::ErrorKind::WriteZero));
+// Writes bytes, and stops at the first write that takes none or fails.
+fn put(out: &mut impl Write, bytes: &[u8]) -> io::Result<()> {
+    let mut rest = bytes;
+    while !rest.is_empty() {
+        match out.write(rest)? {
+            0 => return Err(io::Error::from(ErrorKind::WriteZero)),
+            done => rest = &rest[done..],
         }
-        done += more;
     }
     Ok(())
 }
 
 // Writes the lines of a draft.
-fn list(rt: &HostRuntime, draft: &[u8]) {
-    let mut lines = line_buffer();
+fn list(rt: &HostRuntime, draft: &[u8]) -> io::Result<()> {
+    let mut lines = [0; LISTING_BYTES];
     let used = reader::entry::list_draft(draft, &mut lines);
-    if let Err(e) = put(rt, &lines[..used]) {
-        fail(rt, "listing: write", e);
-    }
+    put(&mut rt.stdout(), &lines[..used])
 }
 
-// A read that failed has been said where it failed.
+// One byte more than a draft may have is kept: more need not be, since the length alone refuses it.
 fn main(rt: HostRuntime) {
-    let mut draft = draft_buffer();
-    let input = read_draft(&rt, &mut draft);
-    match input {
-        Input::Bytes(n) => list(&rt, &draft[..n]),
-        Input::Failed => {}
+    let mut draft = [0; DRAFT_BYTES + 1];
+    match read_draft(&rt, &mut draft) {
+        Ok(bytes) => {
+            if let Err(error) = list(&rt, &draft[..bytes]) {
+                fail(&rt, "write", error);
+            }
+        }
+        Err(error) => fail(&rt, "read", error),
     }
 }

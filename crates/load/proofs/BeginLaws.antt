@@ -14,9 +14,10 @@ use Rattle.text.specs.Lists.{has, all, some, count, span}
 use Rattle.text.proofs.ListLaws.{all-count}
 use Rattle.text.proofs.Table.{or_cases}
 use Rattle.num.specs.Bound.{is_bound, bound_ok}
-use Rattle.num.specs.declared.Value.TheVariants.{Number}
+use Rattle.std.specs.Prelude.{Some}
 use Rattle.own.specs.Kinds as kind
 use Rattle.kinds.specs.Shape.{number}
+use Rattle.load.specs.declared.table.TheConstants.{HEADS}
 use Rattle.load.specs.Children.Table.{state_count, head_count, heads}
 use Rattle.load.specs.Children.Cues.{kinds_end}
 use Rattle.load.proofs.Children.Cues.{beq_same, has-none}
@@ -53,7 +54,7 @@ pub bits-over : (low : ℕ) → most < low → false ≡ has begin.bits low
 unfolding begin.bits all span count
 bits-over low h = sym (has-none begin.bits (suc most) low tt h)
 
-pub bits-bound : (low : ℕ) → (low ≡ 1 → ⊥) → low ≤ most → {b : Bool} → b ≡ bound_ok (Number low) → b ≡ has begin.bits low
+pub bits-bound : (low : ℕ) → (low ≡ 1 → ⊥) → low ≤ most → {b : Bool} → b ≡ bound_ok (Some low) → b ≡ has begin.bits low
 unfolding bound_ok
 bits-bound low n h is = is ∙ go (or_cases (eqb low 1) (beq (is_bound low) (has begin.bits low)) (all-count (λ m. eqb m 1 || beq (is_bound m) (has begin.bits m)) (suc most) 0 low bits-tested (omega arith) (omega arith)))
   where
@@ -68,7 +69,7 @@ module _ (a low high : ℕ) where
   besides-high (inl e) = ap (λ (x : ℕ). besides x low high) (sym e)
   besides-high (inr e) = ap (λ (x : ℕ). besides x low high) (sym e)
 
-  pub besides-bound : a ≡ begin.Bounded → {n : ℕ} {b : Bool} → n ≡ number low high → b ≡ bound_ok (Number n) → b ≡ besides a low high
+  pub besides-bound : a ≡ begin.Bounded → {n : ℕ} {b : Bool} → n ≡ number low high → b ≡ bound_ok (Some n) → b ≡ besides a low high
   unfolding besides bound_ok
   besides-bound e q is = is ∙ ap is_bound q ∙ ap (λ (x : ℕ). besides x low high) (sym e)
 
@@ -107,18 +108,22 @@ module _ (a low high x y z : ℕ) where
   agrees-else p n q = simp (ne_eqb a begin.Parameters p, ne_eqb a begin.Names n, ne_eqb a begin.Pairs q)
 
 -- What the table has of a kind.
-module _ (ns : List ℕ) (held : ns ≡ heads) (k : ℕ) where
+heads-are : HEADS ≡ heads
+unfolding heads
+heads-are = refl
+
+module _ (k : ℕ) where
   pub asked-past : kind.Last < k → 0 ≡ asked_of k
   unfolding asked_of
   asked-past h = simp (le-ltb k kinds_end h)
 
-  pub asked_is : k ≤ kind.Last → get_or ns (begin.columns * k) 0 ≡ asked_of k
+  pub asked_is : k ≤ kind.Last → get_or HEADS (begin.columns * k) 0 ≡ asked_of k
   unfolding asked_of
-  asked_is h = ap (λ (l : List ℕ). get_or l (begin.columns * k) 0) held ∙ simp (lt-ltb k kinds_end (omega arith))
+  asked_is h = ap (λ (l : List ℕ). get_or l (begin.columns * k) 0) heads-are ∙ simp (lt-ltb k kinds_end (omega arith))
 
-  pub lows-are : k ≤ kind.Last → get_or ns (begin.columns * k + 2) 0 ≡ lows_of k
+  pub lows-are : k ≤ kind.Last → get_or HEADS (begin.columns * k + 2) 0 ≡ lows_of k
   unfolding lows_of
-  lows-are h = ap (λ (l : List ℕ). get_or l (begin.columns * k + 2) 0) held ∙ simp (lt-ltb k kinds_end (omega arith))
+  lows-are h = ap (λ (l : List ℕ). get_or l (begin.columns * k + 2) 0) heads-are ∙ simp (lt-ltb k kinds_end (omega arith))
 
 -- the states of a kind stand in the table
 states-stand : T (all (λ k. leb (first_of k + lows_of k) (length heads)) (count kinds_end 0))
@@ -166,18 +171,18 @@ module _ (k low high : ℕ) where
         started 0 k low high (sym (ap (λ (x : Bool). cond (ltb (which (asked_of k) low) (lows_of k) && x) (state_of k (which (asked_of k) low)) 0) g
         ∙ ap (λ (x : Bool). cond x (state_of k (which (asked_of k) low)) 0) (and-false (ltb (which (asked_of k) low) (lows_of k)))))
 
-    pub start_is : (ns : List ℕ) → ns ≡ heads → {n f r : ℕ} {b : Bool} → n ≡ lows_of k → i < n → b ≡ besides a low high → b ≡ true
-        → f ≡ first_of k → r ≡ get_or ns (f + i) 0 → Started r k low high
+    pub start_is : {n f r : ℕ} {b : Bool} → n ≡ lows_of k → i < n → b ≡ besides a low high → b ≡ true
+        → f ≡ first_of k → r ≡ get_or HEADS (f + i) 0 → Started r k low high
     unfolding start state_of
-    start_is ns held {n} {f} {r} {b} e h g t first is =
+    start_is {n} {f} {r} {b} e h g t first is =
         started r k low high
-        (is ∙ ap (λ (l : List ℕ). get_or l (f + i) 0) held ∙ (λ j. get_or heads (first j + there j) 0)
+        (is ∙ ap (λ (l : List ℕ). get_or l (f + i) 0) heads-are ∙ (λ j. get_or heads (first j + there j) 0)
         ∙ sym (simp (lt-ltb (which (asked_of k) low) (lows_of k) (omega (arith, there, e)), ap (λ (x : ℕ). besides x low high) (sym its) ∙ sym g ∙ t)))
 
 -- the first of a kind's states in the table
-pub first-is : (ns : List ℕ) → ns ≡ heads → (k : ℕ) → get_or ns (begin.columns * k + 1) 0 ≡ first_of k
+pub first-is : (k : ℕ) → get_or HEADS (begin.columns * k + 1) 0 ≡ first_of k
 unfolding first_of
-first-is ns held k = ap (λ (l : List ℕ). get_or l (begin.columns * k + 1) 0) held
+first-is k = ap (λ (l : List ℕ). get_or l (begin.columns * k + 1) 0) heads-are
 
 -- The numbers of children agree with what the kind asks.
 pub agreed-is : {r : Bool} {a : ℕ} (k low high x y z : ℕ) → a ≡ asked_of k → r ≡ agrees a low high x y z → r ≡ agrees (asked_of k) low high x y z

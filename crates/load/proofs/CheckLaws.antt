@@ -1,18 +1,18 @@
 -- What the code finds of each record, against the test of the definition.
 -- Assumes nothing.
+use Rattle.std.specs.Prelude.{Option, Some}
 use mathlib.Core.Bool.{Bool, true, false, ◌&&◌}
 use mathlib.Core.List.{List, [], ◌∷◌}
 use mathlib.Core.Path.{◌≡◌, sym, ap, ◌∙◌, subst}
 use Prim.Native.Nat.{ℕ, ◌+◌, ◌-◌, ◌<◌, ◌≤◌}
 use native.Mathlib.Omega.{arith}
 use native.Mathlib.Decide.{dec_lt}
-use borrow.Author.Tests.{eq-eqb, ne_eqb, lt-ltb}
+use borrow.Author.Tests.{lt-ltb}
 use lib.Dec.{T, ltb}
 use lib.ListN.{length, get_or}
 use Rattle.text.proofs.Table.{is_true, is_false, pair}
 use Rattle.own.specs.Tree.{Rec}
 use Rattle.own.specs.Flat.{blank, children}
-use Rattle.own.specs.Kinds as kind
 use Rattle.kinds.specs.Shape.{half_range}
 use Rattle.kinds.specs.Fields.{halves}
 use Rattle.load.specs.Function.{Right, is_top, Whole}
@@ -25,8 +25,6 @@ use Rattle.load.proofs.Checks.Stands.{stands-exactly, stands-each}
 use Rattle.load.specs.Checks.Judge.{judge, before, verdict}
 use Rattle.load.proofs.Checks.Verdict.{right-found, found_right}
 use Rattle.load.specs.declared.walk.Seen.{Seen}
-use Rattle.load.specs.declared.walk.Walked.{Walked}
-use Rattle.load.specs.declared.walk.Walked.TheVariants.{Done}
 
 -- Two tests that pass alike are equal.
 pub alike : (a b : Bool) → (T a → T b) → (T b → T a) → a ≡ b
@@ -34,7 +32,7 @@ alike true b f g = sym (is_true b (f tt))
 alike false b f g = sym (is_false b g)
 
 -- The verdict on what has been seen.
-module _ (r : Rec) (s : Seen) {w : Walked} (done : w ≡ Done s) {e : Bool} (its : e ≡ ended s.state) where
+module _ (r : Rec) (s : Seen) {w : Option Seen} (done : w ≡ Some s) {e : Bool} (its : e ≡ ended s.state) where
   told : Bool
   told = agrees (asked_of r.kind) r.low r.high s.names s.parameters s.patterns
 
@@ -48,16 +46,6 @@ module _ (r : Rec) (s : Seen) {w : Walked} (done : w ≡ Done s) {e : Bool} (its
 
   pub verdict-not : e ≡ false → false ≡ verdict r w
   verdict-not p = so false p
-
--- Which records may be tops, and whether a record is placed.
-module _ (r : Rec) where
-  pub placed-program : r.kind ≡ kind.Program → true ≡ placed r
-  unfolding placed
-  placed-program e = simp (eq-eqb r.kind kind.Program e)
-
-  pub placed-other : (r.kind ≡ kind.Program → ⊥) → ltb r.start r.stop ≡ placed r
-  unfolding placed
-  placed-other n = simp (ne_eqb r.kind kind.Program n)
 
 -- Whether a record stands in the list with all that it counts, and is right.
 module _ (rs : List Rec) (j : ℕ) (r : Rec) (its : r ≡ get_or rs j blank) where
@@ -83,7 +71,7 @@ module _ (rs : List Rec) (j : ℕ) (r : Rec) (its : r ≡ get_or rs j blank) whe
   small a b = pair (ltb r.low half_range) (ltb r.high half_range) (subst T (sym (lt-ltb r.low half_range a)) tt) (subst T (sym (lt-ltb r.high half_range b)) tt)
 
   pub stands-is : r.low < half_range → r.high < half_range → 0 < r.size → j + r.size ≤ length rs → T (placed r) → {q : ℕ} → q ≡ start r.kind r.low r.high
-      → {w : Walked} → w ≡ judge r (before r q) (children rs j) → {b : Bool} → b ≡ verdict r w → b ≡ stands rs j
+      → {w : Option Seen} → w ≡ judge r (before r q) (children rs j) → {b : Bool} → b ≡ verdict r w → b ≡ stands rs j
   stands-is lo hi some room place {q} qs {w} ws {b} bs =
       let v = bs ∙ ap (verdict r) (ws ∙ ap (λ (x : ℕ). judge r (before r x) (children rs j)) qs) in
       v

@@ -12,7 +12,7 @@ use Rattle.text.specs.Lists.{has, all, some, count, span}
 use Rattle.text.proofs.ListLaws.{all-count}
 use Rattle.text.proofs.Table.{first-of, second-of, not-true, or_cases}
 use Rattle.num.specs.Bound.{is_bound, bound_ok}
-use Rattle.num.specs.declared.Value.TheVariants.{Number}
+use Rattle.std.specs.Prelude.{Some}
 use Rattle.own.specs.Arms as arm
 use Rattle.kinds.specs.Groups.{category_set}
 use Rattle.kinds.specs.Shape.{number}
@@ -33,7 +33,7 @@ unfolding arm_cue
 arm_named low z h = simp (lt-ltb 0 low (omega arith), le-leb low arm.True h)
 
 -- numbers
-module _ (n : ℕ) {b : Bool} (is : b ≡ bound_ok (Number n)) where
+module _ (n : ℕ) {b : Bool} (is : b ≡ bound_ok (Some n)) where
   pub number_bound : b ≡ true → cue.Bound ≡ number_cue n
   unfolding number_cue bound_ok
   number_bound e = ap (λ (x : Bool). cond x cue.Bound (cond (ltb 0 n) cue.Size cue.Zero)) (sym e ∙ is)

@@ -1,5 +1,6 @@
 -- What the loops keep that read digits, fields and lines.
 -- Assumes nothing.
+use Rattle.std.specs.Prelude.{Some, None}
 use mathlib.Core.Bool.{Bool, true, false, ◌&&◌}
 use mathlib.Core.List.{List, ◌∷◌}
 use mathlib.Core.Path.{◌≡◌, refl, sym, ap, ap₂, ◌∙◌, subst}
@@ -15,7 +16,7 @@ use Rattle.text.proofs.Table.{is_false}
 use Rattle.lines.specs.Hex.{power}
 use Rattle.lines.specs.Form.{after, wide}
 use Rattle.lines.specs.Lines.{half_digits}
-use Rattle.load.specs.Listing.Read.{digit_of, are_digits, number_of, in_form, bad_from, bad_line}
+use Rattle.load.specs.Listing.Read.{digit_of, are_digits, number_of, in_form, bad_from, bad_line, first_bad}
 use Rattle.load.proofs.Listing.DigitLaws.{number-below}
 use Rattle.load.proofs.Listing.LineLaws.{form-long}
 use Rattle.load.proofs.Listing.ListingLaws.{bad-none, bad-past, bad-here}
@@ -92,9 +93,6 @@ module _ {text : List ℕ} {at n i : ℕ} (x : Digits text at n i) {d : ℕ} (e 
             ∙ ap₂ (λ (a b : Bool). a && b) x.so_far (lt-ltb (digit_of (get_or (drop at text) i 0)) 16 (omega (arith, its-digit)));
       }
 
-pub digits-end : {text : List ℕ} {at n i : ℕ} → Digits text at n i → n ≤ i → true ≡ are_digits n (drop at text)
-digits-end {text} {at} {n} {i} x h = let w = x.within in let e : i ≡ n = omega arith in sym x.so_far ∙ ap (λ (k : ℕ). are_digits k (drop at text)) e
-
 -- The width of the next field, and those behind it.
 pub next-width : (ws : List ℕ) (k : ℕ) → k < length ws → drop k ws ≡ get_or ws k 0 ∷ drop (k + 1) ws
 next-width ws k h = drop-cons ws k 0 h ∙ ap (λ (m : ℕ). get_or ws k 0 ∷ drop m ws) (sym (add-one k))
@@ -144,6 +142,13 @@ module _ {text : List ℕ} {at : ℕ} {ws : List ℕ} {p k : ℕ} (x : Forming t
 pub forming-end : {text : List ℕ} {at : ℕ} {ws : List ℕ} {p k : ℕ} → Forming text at ws p k → length ws ≤ k → true ≡ in_form ws (drop at text)
 unfolding in_form
 forming-end {text} {ws = ws} {p = p} x h = ap (λ (l : List ℕ). in_form l (drop p text)) (sym (drop_of_length-le ws h)) ∙ x.same
+
+-- The number of a line that is bad, as the code says it.
+pub some-bad : (i : ℕ) {n : ℕ} → i + 1 ≡ n → Some (i + 1) ≡ first_bad n
+some-bad i e = ap Some (add-one i) ∙ ap first_bad (sym (add-one i) ∙ e)
+
+pub none-bad : {n : ℕ} → 0 ≡ n → None ≡ first_bad n
+none-bad e = ap first_bad e
 
 -- What the loop of `bad_line` keeps: i lines have passed, and the rest decides.
 pub record Passing (ws text : List ℕ) (i p : ℕ) : Type 0 where

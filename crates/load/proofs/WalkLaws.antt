@@ -5,20 +5,20 @@ use mathlib.Core.List.{List}
 use mathlib.Core.Path.{◌≡◌, refl, ap, ◌∙◌}
 use Prim.Native.Nat.{ℕ, ◌+◌, ◌-◌, ◌*◌, ◌<◌, ◌≤◌}
 use native.Mathlib.Omega.{arith}
-use borrow.Author.Tests.{eq-eqb, ne_eqb, lt-ltb, le-ltb, le-leb, lt-leb}
-use lib.Dec.{T, eqb, ltb, leb, ltb→lt}
+use mir.Val.{bool_byte}
+use lib.Dec.{T, eqb, ltb, ltb→lt}
 use lib.ListN.{length, get_or}
 use Rattle.text.specs.Table.{every}
 use Rattle.text.proofs.Table.{at}
 use Rattle.own.specs.Tree.{Rec}
-use Rattle.kinds.specs.Shape.{half_range}
+use Rattle.load.specs.declared.table.TheConstants.{STEPS}
 use Rattle.load.specs.Children.Table.{state_count, steps}
 use Rattle.load.specs.Children.Cue as cue
 use Rattle.load.specs.Children.Cue.{cues, cue}
 use Rattle.load.specs.Children.Automaton.{columns, entry}
 use Rattle.load.specs.Children.Run.{next}
 use Rattle.load.proofs.Children.Run.{cue-below}
-use Rattle.load.specs.Checks.Judge.{sits, one, past}
+use Rattle.load.specs.Checks.Judge.{one, past}
 use Rattle.load.specs.declared.walk.Seen.{Seen}
 
 -- every entry of the table is a state, or says whether a record may end
@@ -39,22 +39,26 @@ entry-below q c h k =
     let i = in-steps q c h (omega arith) in
     ltb→lt (get_or steps (columns * q + c) 0) state_count (at (λ i x. ltb x state_count) steps 0 entries_below (columns * q + c) (omega (arith, steps-long)))
 
-pub entry-is : (ss : List ℕ) (q c : ℕ) {r : ℕ} → ss ≡ steps → q < state_count → c ≤ cues → r ≡ get_or ss (columns * q + c) 0 → (r ≡ entry q c) × (r < state_count)
+steps-are : STEPS ≡ steps
+unfolding steps
+steps-are = refl
+
+pub entry-is : (q c : ℕ) {r : ℕ} → q < state_count → c ≤ cues → r ≡ get_or STEPS (columns * q + c) 0 → (r ≡ entry q c) × (r < state_count)
 unfolding entry
-entry-is ss q c {r} held h k e =
-    let p : r ≡ get_or steps (columns * q + c) 0 = e ∙ ap (λ (l : List ℕ). get_or l (columns * q + c) 0) held in
+entry-is q c {r} h k e =
+    let p : r ≡ get_or steps (columns * q + c) 0 = e ∙ ap (λ (l : List ℕ). get_or l (columns * q + c) 0) steps-are in
     let i = in-steps q c h k in
     let b = ltb→lt (get_or steps (columns * q + c) 0) state_count (at (λ i x. ltb x state_count) steps 0 entries_below (columns * q + c) (omega (arith, steps-long))) in
     (p, omega arith)
 
 -- One, where the cue is this one.
-pub one-is : (c this : ℕ) → c ≡ this → 1 ≡ one c this
+pub as-one : (c this : ℕ) {n : ℕ} → n ≡ bool_byte (eqb c this) → n ≡ one c this
 unfolding one
-one-is c this e = simp (eq-eqb c this e)
-
-pub one-not : (c this : ℕ) → (c ≡ this → ⊥) → 0 ≡ one c this
-unfolding one
-one-not c this n = simp (ne_eqb c this n)
+as-one c this e = e ∙ go (eqb c this)
+  where
+    go : (b : Bool) → bool_byte b ≡ cond b 1 0
+    go true = refl
+    go false = refl
 
 pub one-small : (c this : ℕ) → one c this ≤ 1
 unfolding one
@@ -63,24 +67,6 @@ one-small c this = go (eqb c this)
     go : (b : Bool) → cond b 1 0 ≤ 1
     go true = omega arith
     go false = omega arith
-
--- Whether a child sits, test by test.
-module _ (left : ℕ) (r c : Rec) where
-  pub sits-none : c.size ≡ 0 → false ≡ sits left r c
-  unfolding sits
-  sits-none e = simp (le-ltb 0 c.size (omega arith))
-
-  pub sits-over : (c.size ≡ 0 → ⊥) → left < c.size → false ≡ sits left r c
-  unfolding sits
-  sits-over n h = simp (lt-ltb 0 c.size (omega arith), lt-leb c.size left h)
-
-  pub sits-before : (c.size ≡ 0 → ⊥) → c.size ≤ left → c.start < r.start → false ≡ sits left r c
-  unfolding sits
-  sits-before n h k = simp (lt-ltb 0 c.size (omega arith), le-leb c.size left h, lt-leb r.start c.start k)
-
-  pub sits-end : (c.size ≡ 0 → ⊥) → c.size ≤ left → r.start ≤ c.start → leb c.stop r.stop ≡ sits left r c
-  unfolding sits
-  sits-end n h k = simp (lt-ltb 0 c.size (omega arith), le-leb c.size left h, le-leb r.start c.start k)
 
 -- a cue is one of the table's
 pub cue-within : (k low high : ℕ) {c : ℕ} → c ≡ cue k low high → c ≤ cues
@@ -98,7 +84,3 @@ past_is s c e a n p q i =
       parameters = s.parameters + (p ∙ ap (λ x. one x cue.Parameter) e) i;
       patterns = s.patterns + (q ∙ ap (λ x. one x cue.Pattern) e) i;
     }
-
--- One more of a sort stays small where a record is left.
-pub sum-small : (a left : ℕ) {size n : ℕ} (c this : ℕ) → a + left < half_range → 0 < size → size ≤ left → n ≡ one c this → a + n < half_range
-sum-small a left c this h p q e = let k = one-small c this in omega arith

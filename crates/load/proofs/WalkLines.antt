@@ -1,18 +1,25 @@
 -- The walk over a record's children, from line to line: that a line is read where the next child stands.
 -- Assumes nothing.
+use Rattle.std.specs.Prelude.{Option}
 use mathlib.Core.List.{List}
 use mathlib.Core.Path.{◌≡◌, sym, ap, ◌∙◌, subst}
 use Prim.Native.Nat.{ℕ, suc, ◌+◌, ◌*◌, ◌/◌, ◌<◌, ◌≤◌}
 use native.Mathlib.Omega.{arith}
-use native.Mathlib.Nat.{mul-zero, mul-suc, div-add-mod, div-le_self, mul-le-mul_left}
+use native.Mathlib.Nat.{mul-suc, div-add-mod, div-le_self, mul-le-mul_left}
 use lib.Dec.{T}
 use lib.ListN.{length, get_or, drop}
+use Rattle.std.proofs.lemmas.List.Edits.{sets}
 use Rattle.lines.specs.Form.{wide}
+use Rattle.lines.specs.Lines.{six_widths}
+use Rattle.load.specs.Form.{Form, widths_of}
+use Rattle.load.proofs.Listing.LineForm.{held-form, first-six}
+use Rattle.load.proofs.Listing.LineLaws.{wide-front}
+use Rattle.load.proofs.RecordLaws.{listing-read}
 use Rattle.own.specs.Tree.{Rec}
 use Rattle.own.specs.Flat.{blank}
 use Rattle.kinds.specs.Shape.{half_range}
 use Rattle.load.specs.Listing.Read.{values_of, records_in, rec_of}
-use Rattle.load.specs.Listing.LineForm.{LineForm, Listed}
+use Rattle.load.specs.Listing.LineForm.{six_fields, LineForm}
 use Rattle.load.proofs.Listing.RecordLaws.{records-long, record-at}
 use Rattle.load.specs.Children.Table.{state_count}
 use Rattle.load.specs.Children.Cue.{cue}
@@ -22,7 +29,6 @@ use Rattle.load.specs.Checks.Judge.{as_rec, sits, past}
 use Rattle.load.proofs.Checks.Small.{sat}
 use Rattle.load.specs.declared.record.Record.{Record}
 use Rattle.load.specs.declared.walk.Seen.{Seen}
-use Rattle.load.specs.declared.walk.Walked.{Walked}
 use Rattle.load.proofs.WalkLaws.{entry-below}
 use Rattle.load.proofs.Walking.{Walking, walking-more}
 
@@ -46,33 +52,22 @@ module _ (ws text : List ℕ) {step : ℕ} (f : LineForm ws step) where
       let n = records-long ws text in
       e ∙ ap (λ (k : ℕ). rec_of (values_of ws (drop k text))) (ap (λ (k : ℕ). k * i) f.bytes) ∙ sym (record-at ws text i (omega arith))
 
-  -- there are no more records than bytes
-  pub in-listing : (j n : ℕ) → j + n ≤ length (records_in ws text) → j + n ≤ length text
-  in-listing j n h =
-      omega (arith, records-long ws text, div-le_self (length text) (wide ws))
+-- There are no more records than bytes.
+pub in-listing : (ws text : List ℕ) (j n : ℕ) → j + n ≤ length (records_in ws text) → j + n ≤ length text
+in-listing ws text j n h = omega (arith, records-long ws text, div-le_self (length text) (wide ws))
 
-module _ (ws text : List ℕ) {step : ℕ} (f : LineForm ws step) {r : Rec} {whole : Walked} {i : ℕ} {s : Seen} (w : Walking (records_in ws text) r whole i s) where
-  -- the next child stands in a line of the listing,
-  pub line_at : 0 < s.left → step * i + wide ws ≤ length text
-  line_at h = let m = w.room in line-in ws text f i (omega arith)
-
-  -- and is the record that is read from it;
-  pub child-is : 0 < s.left → {c : Record} → as_rec c ≡ rec_of (values_of ws (drop (step * i) text)) → as_rec c ≡ get_or (records_in ws text) i blank
-  child-is h e = let m = w.room in read_is ws text f i (omega arith) e
-
-  -- what has been seen, one child more
-  pub walking_on : 0 < s.left → (c : Rec) → c ≡ get_or (records_in ws text) i blank → T (sits s.left r c) → {x : Seen} → x ≡ past s c → x.state < state_count
-      → Walking (records_in ws text) r whole (i + c.size) x
-  walking_on h c its t {x} e q =
-      subst (Walking (records_in ws text) r whole (i + c.size)) (sym e)
-      (walking-more w h c its t (subst (λ (y : Seen). y.state < state_count) e q))
+-- What has been seen, one child more.
+pub walking_on : {rs : List Rec} {r : Rec} {whole : Option Seen} {i : ℕ} {s : Seen} → Walking rs r whole i s → 0 < s.left → (c : Rec) → c ≡ get_or rs i blank → T (sits s.left r c)
+    → {x : Seen} → x ≡ past s c → x.state < state_count → Walking rs r whole (i + c.size) x
+walking_on {rs} {r} {whole} {i} w h c its t {x} e q =
+    subst (Walking rs r whole (i + c.size)) (sym e) (walking-more w h c its t (subst (λ (y : Seen). y.state < state_count) e q))
 
 -- A child that sits counts itself, and no more than is left.
 pub child-small : (left : ℕ) (r c : Rec) → T (sits left r c) → (0 < c.size) × (c.size ≤ left)
 child-small left r c t = let x = sat left r c t in (x.some, x.fit)
 
 -- The line behind it has a number.
-pub child-room : {rs : List Rec} {r : Rec} {whole : Walked} {i : ℕ} {s : Seen} → Walking rs r whole i s → (c : Rec) → T (sits s.left r c) → i + c.size < half_range * half_range
+pub child-room : {rs : List Rec} {r : Rec} {whole : Option Seen} {i : ℕ} {s : Seen} → Walking rs r whole i s → (c : Rec) → T (sits s.left r c) → i + c.size < half_range * half_range
 child-room {r = r} {s = s} w c t = let x = sat s.left r c t in omega (arith, x.fit, w.fits)
 
 -- Past it less is left.
@@ -91,21 +86,13 @@ past-state s c h e =
     let b = entry-below s.state (cue c.kind c.low c.high) h (cue-below c.kind c.low c.high) in
     omega (arith, l, b)
 
--- The same of a listing with so many records.
-module _ {ws text : List ℕ} {step n : ℕ} (l : Listed ws step text n) (j : ℕ) (h : j < n) where
-  among : j < length (records_in ws text)
-  among = let e = l.many in omega arith
+-- The line of a record is one of the listing, and the record that is read from its first six fields is that of the list.
+module _ (f : Form) (text : List ℕ) {step : ℕ} (b : step ≡ wide (widths_of f)) (i : ℕ) (h : i < length (records_in (widths_of f) text)) where
+  pub its-line : step * i + wide six_widths ≤ length text
+  its-line =
+      let k = ap wide (first-six f) in
+      omega (arith, line-in (widths_of f) text (held-form f b) i h, wide-front six_fields (widths_of f), k)
 
-  pub its-line : step * j + wide ws ≤ length text
-  its-line = line-in ws text l.form j among
-
-  pub its-record : {c : Record} → as_rec c ≡ rec_of (values_of ws (drop (step * j) text)) → as_rec c ≡ get_or (records_in ws text) j blank
-  its-record e = read_is ws text l.form j among e
-
--- The first line.
-module _ {ws text : List ℕ} {step n : ℕ} (l : Listed ws step text n) (h : (n ≡ 0 → ⊥)) where
-  pub first-line : 0 + wide ws ≤ length text
-  first-line = let t = its-line l 0 (omega arith) in omega (arith, t, mul-zero step)
-
-  pub first-record : {c : Record} → as_rec c ≡ rec_of (values_of ws (drop 0 text)) → as_rec c ≡ get_or (records_in ws text) 0 blank
-  first-record e = its-record l 0 (omega arith) (e ∙ ap (λ (k : ℕ). rec_of (values_of ws (drop k text))) (sym (mul-zero step)))
+  pub its-record : (o : List ℕ) {words : List ℕ} → length o ≡ six_fields → words ≡ sets o 0 (values_of six_widths (drop (step * i) text)) → {c : Record} → as_rec c ≡ rec_of words
+      → as_rec c ≡ get_or (records_in (widths_of f) text) i blank
+  its-record o room e t = read_is (widths_of f) text (held-form f b) i h (t ∙ listing-read f (drop (step * i) text) o room e)

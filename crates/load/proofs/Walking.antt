@@ -1,5 +1,6 @@
 -- What the walk over a record's children keeps: what is left to see would complete what the whole walk finds.
 -- Assumes nothing.
+use Rattle.std.specs.Prelude.{Option, Some, None}
 use mathlib.Core.Bool.{Bool, false, cond}
 use mathlib.Core.List.{List, ◌∷◌}
 use mathlib.Core.Path.{◌≡◌, refl, sym, ap, ◌∙◌, subst}
@@ -22,10 +23,8 @@ use Rattle.load.proofs.Checks.Small.{sat}
 use Rattle.load.specs.Checks.Parts.{left, left-next, all_left}
 use Rattle.load.specs.declared.walk.Seen.{Seen}
 use Rattle.load.proofs.WalkLaws.{one-small}
-use Rattle.load.specs.declared.walk.Walked.{Walked}
-use Rattle.load.specs.declared.walk.Walked.TheVariants.{Bad, Done}
 
-pub record Walking (rs : List Rec) (r : Rec) (whole : Walked) (i : ℕ) (s : Seen) : Type 0 where
+pub record Walking (rs : List Rec) (r : Rec) (whole : Option Seen) (i : ℕ) (s : Seen) : Type 0 where
   pub small : Small s
   pub room : i + s.left ≤ length rs
   pub fits : i + s.left < half_range * half_range
@@ -43,7 +42,7 @@ walking_start rs r j q h e s m k b =
       rest = ap (judge r (before r q)) (sym (all_left rs j (omega arith) at in-it ∙ ap (λ (x : Rec). left rs (j + 1) (x.size - 1)) (sym e)));
     }
 
-module _ {rs : List Rec} {r : Rec} {whole : Walked} {i : ℕ} {s : Seen} (w : Walking rs r whole i s) where
+module _ {rs : List Rec} {r : Rec} {whole : Option Seen} {i : ℕ} {s : Seen} (w : Walking rs r whole i s) where
   module _ (some : 0 < s.left) (c : Rec) (its : c ≡ get_or rs i blank) where
     seen_next : T (sits s.left r c) → judge r s (left rs i s.left) ≡ judge r (past s c) (left rs (i + c.size) (s.left - c.size))
     unfolding judge
@@ -52,7 +51,7 @@ module _ {rs : List Rec} {r : Rec} {whole : Walked} {i : ℕ} {s : Seen} (w : Wa
         let a : 0 < (get_or rs i blank).size = subst (λ (y : Rec). 0 < y.size) its x.some in
         let b : (get_or rs i blank).size ≤ s.left = subst (λ (y : Rec). y.size ≤ s.left) its x.fit in
         ap (judge r s) (left-next rs i s.left some w.room a b ∙ ap (λ (y : Rec). y ∷ left rs (i + y.size) (s.left - y.size)) (sym its))
-        ∙ ap (λ (b : Bool). cond b (judge r (past s c) (left rs (i + c.size) (s.left - c.size))) Bad) (is_true (sits s.left r c) t)
+        ∙ ap (λ (b : Bool). cond b (judge r (past s c) (left rs (i + c.size) (s.left - c.size))) None) (is_true (sits s.left r c) t)
 
     pub walking-more : T (sits s.left r c) → (past s c).state < state_count → Walking rs r whole (i + c.size) (past s c)
     unfolding past
@@ -74,21 +73,21 @@ module _ {rs : List Rec} {r : Rec} {whole : Walked} {i : ℕ} {s : Seen} (w : Wa
         }
 
     -- a child that has not its place
-    pub walking-bad : sits s.left r c ≡ false → Bad ≡ whole
+    pub walking-bad : sits s.left r c ≡ false → None ≡ whole
     unfolding judge
     walking-bad f = sym (sym w.rest ∙ first-bad s.left refl)
       where
-        first-bad : (n : ℕ) → n ≡ s.left → judge r s (left rs i n) ≡ Bad
+        first-bad : (n : ℕ) → n ≡ s.left → judge r s (left rs i n) ≡ None
         first-bad zero e = absurd (omega arith)
         first-bad (suc n) e =
             let room = w.room in
             ap (λ (l : List Rec). judge r s (row (suc n) (take (suc n) l))) (drop-cons rs i blank (omega arith))
-            ∙ ap (λ (b : Bool). cond b (judge r (past s (get_or rs i blank)) (row n (drop ((get_or rs i blank).size - 1) (take n (drop (suc i) rs))))) Bad) (ap (sits s.left r) (sym its) ∙ f)
+            ∙ ap (λ (b : Bool). cond b (judge r (past s (get_or rs i blank)) (row n (drop ((get_or rs i blank).size - 1) (take n (drop (suc i) rs))))) None) (ap (sits s.left r) (sym its) ∙ f)
 
-  pub walking-end : s.left ≤ 0 → Done s ≡ whole
+  pub walking-end : s.left ≤ 0 → Some s ≡ whole
   unfolding judge
   walking-end h = sym (sym w.rest ∙ go s.left refl)
     where
-      go : (n : ℕ) → n ≡ s.left → judge r s (left rs i n) ≡ Done s
-      go zero e = ap (λ (b : Bool). cond b (Done s) Bad) (eq-eqb s.left 0 (sym e))
+      go : (n : ℕ) → n ≡ s.left → judge r s (left rs i n) ≡ Some s
+      go zero e = ap (λ (b : Bool). cond b (Some s) None) (eq-eqb s.left 0 (sym e))
       go (suc n) e = absurd (omega arith)

@@ -1,8 +1,8 @@
 -- What the loops keep that write the numbers of a line, and of lines.
 -- Assumes nothing.
-use Rattle.std.specs.Prelude.{List, [], ◌∷◌, ◌++◌, map, ◌≡◌, refl, ℕ, zero, suc, ◌+◌, ◌*◌, ◌<◌, ◌≤◌, length, get_or, set, take, drop}
+use Rattle.std.specs.Prelude.{List, [], ◌∷◌, ◌++◌, map, ◌≡◌, refl, ℕ, zero, suc, ◌+◌, ◌*◌, ◌/◌, ◌<◌, ◌≤◌, length, get_or, set, take, drop}
 use Rattle.std.proofs.Common.{sym, ap, ◌∙◌, subst, arith, append-nil, append_assoc, mul-zero, mul-suc, length-set, length-take-le, take-append-drop, drop_of_length-le, drop-drop}
-use Rattle.std.proofs.Math.Nat.{mul-le-mul_left}
+use Rattle.std.proofs.Math.Nat.{mul-le-mul_left, mul-div-le}
 use Rattle.std.proofs.lemmas.List.{map-append}
 use Rattle.std.proofs.Math.Seq.{length-sets}
 use Rattle.std.proofs.lemmas.List.Edits.{sets, sets-eq}
@@ -10,10 +10,13 @@ use Rattle.text.specs.Widths.{rec_wide}
 use Rattle.own.specs.Tree.{Rec}
 use Rattle.own.specs.Words.{recs}
 use Rattle.lines.specs.Form.{wide}
+use Rattle.lines.specs.Lines.{six_widths}
+use Rattle.load.specs.Form.{Form, widths_of}
+use Rattle.load.proofs.Listing.LineForm.{first-six}
 use Rattle.load.specs.Listing.LineForm.{six_fields, LineForm}
-use Rattle.load.specs.Listing.Read.{number_of, values_of, rows_from, rec_of}
+use Rattle.load.specs.Listing.Read.{number_of, values_of, rows_from, lines_read, rec_of}
 use Rattle.load.proofs.Listing.LineLaws.{wide-front}
-use Rattle.load.proofs.Listing.RecordLaws.{record-by-six, six-long}
+use Rattle.load.proofs.Listing.RecordLaws.{record-by-six, six-long, lines-long}
 use Rattle.load.proofs.LineLaws.{next-width}
 
 -- What the loop of `values` keeps: the fields that are left, from p on, would complete the numbers of the line.
@@ -78,7 +81,7 @@ rows-last ws (suc i) bs =
     (rows-last ws i (drop (wide ws) bs)
     ∙ ap (λ (l : List ℕ). rows_from ws i (drop (wide ws) bs) ++ (values_of ws l ∷ [])) (drop-drop (wide ws * i) (wide ws) bs ∙ ap (λ (k : ℕ). drop k bs) e))
 
--- What the loop of `records` keeps: the first i records are those of the first i lines.
+-- What the loop of `write` keeps: the first i records are those of the first i lines.
 pub record Writing (ws text : List ℕ) (n : ℕ) (o l : List ℕ) (i : ℕ) : Type 0 where
   pub within : i ≤ n
   pub long : length l ≡ length o
@@ -92,18 +95,27 @@ writing-start ws text n o = record { within = omega arith; long = refl; so_far =
 pub fits-in : (a i n r : ℕ) → i < n → a * n ≤ r → a * i + a ≤ r
 fits-in a i n r h k = let m : a * suc i ≤ a * n = mul-le-mul_left a (omega arith) in omega (arith, mul-suc a i)
 
-module _ {ws text : List ℕ} {n : ℕ} {o l : List ℕ} {i : ℕ} (x : Writing ws text n o l i) where
-  pub line-fits : {step : ℕ} → LineForm ws step → i < n → step * n ≤ length text → step * i + wide (take six_fields ws) ≤ length text
-  line-fits {step} f h k =
-      let b = f.bytes in
-      omega (arith, fits-in step i n (length text) h k, wide-front six_fields ws)
+-- As many lines as the text has.
+pub lines-in : (f : Form) (text : List ℕ) {step n : ℕ} → step ≡ wide (widths_of f) → n ≤ length (lines_read (widths_of f) text) → step * n ≤ length text
+lines-in f text {step} {n} b h =
+    let m : wide (widths_of f) * n ≤ wide (widths_of f) * (length text / wide (widths_of f)) = mul-le-mul_left (wide (widths_of f)) (omega (arith, h, lines-long (widths_of f) text)) in
+    let e : step * n ≡ wide (widths_of f) * n = ap (λ (k : ℕ). k * n) b in
+    omega (arith, m, e, mul-div-le (length text) (wide (widths_of f)))
 
+-- the line of the next record
+pub line-fits : (f : Form) (text : List ℕ) {step n i : ℕ} → step ≡ wide (widths_of f) → n ≤ length (lines_read (widths_of f) text) → i < n → step * i + wide six_widths ≤ length text
+line-fits f text {step} {n} {i} b k h =
+    let s = ap wide (first-six f) in
+    omega (arith, fits-in step i n (length text) h (lines-in f text b k), wide-front six_fields (widths_of f), s)
+
+module _ {ws text : List ℕ} {n : ℕ} {o l : List ℕ} {i : ℕ} (x : Writing ws text n o l i) where
   pub record_fits : i < n → rec_wide * n ≤ length o → rec_wide * i + rec_wide ≤ length l
   record_fits h k = omega (arith, x.long)
 
-  pub writing-more : {l₁ : List ℕ} {step : ℕ} → LineForm ws step → i < n → rec_wide * n ≤ length o
-      → l₁ ≡ sets l (rec_wide * i) (values_of (take six_fields ws) (drop (step * i) text)) → Writing ws text n o l₁ (i + 1)
-  writing-more {l₁} {step} f h k d =
+  pub writing-more : {l₁ : List ℕ} {step : ℕ} → LineForm ws step → six_widths ≡ take six_fields ws → i < n → rec_wide * n ≤ length o
+      → l₁ ≡ sets l (rec_wide * i) (values_of six_widths (drop (step * i) text)) → Writing ws text n o l₁ (i + 1)
+  writing-more {l₁} {step} f six h k q =
+      let d = q ∙ ap (λ (w : List ℕ). sets l (rec_wide * i) (values_of w (drop (step * i) text))) six in
       let bs = drop (step * i) text in
       let vs = values_of (take six_fields ws) bs in
       let long = six-long ws bs f.full in

@@ -2,5 +2,6 @@
 pub mod Parts
 pub mod Stands
 pub mod Judge
+pub mod Listed
 pub mod Small
 pub mod GivenWays

@@ -5,12 +5,15 @@ ghost use Rattle.load.specs.Children.Begin as spec;
 ghost use Rattle.load.specs.Children.Table as table;
 
 use crate::cue;
-use crate::table::{HEAD_ENTRIES, HEADS};
-use crate::walk::wide;
-use own::kind;
+use crate::table::HEADS;
+use own::kind::Kind;
 
-// What a kind asks of low and high: nothing, where there is no such kind; one of its lows, and high 0; one of its lows, and high the parameters; 3, which is not
-// tested, a number; a bound; low the names, and high 0; low the names, and high the pairs; low the bits of an unsigned type, and high 0.
+// The table has a row for each number up to that of the last kind; a number is looked up as it stands in its line.
+const LAST: u32 = Kind::TypeItem as u32;
+
+// What a kind asks of low and high, as bytes of the table, which are matched as they stand there: nothing, where there is no such kind; one of its lows, and
+// high 0; one of its lows, and high the parameters; a bound (any number is 3, which is not tested); low the names, and high 0; low the names, and high the
+// pairs; low the bits of an unsigned type, and high 0.
 const NOTHING: u8 = 0;
 
 const LOW: u8 = 1;
@@ -38,13 +41,6 @@ const FIRST: usize = 1;
 
 const LOWS: usize = 2;
 
-// The table by value: a caller holds it once and lends it to every function.
-pub(crate) fn heads() -> [u8; HEAD_ENTRIES]
-    ensures { result ≡ table.heads }
-{
-    HEADS
-}
-
 // Which of the lows it is.
 fn which(asked: u8, low: u32) -> usize
     ensures { result ≡ spec.which asked low }
@@ -65,7 +61,7 @@ fn is_bits(low: u32) -> bool
     if low > MOST_BITS {
         return false;
     }
-    num::is_bound(num::Value::Number(low as u64))
+    num::is_bound(Some(low as u64))
 }
 
 // What is asked besides, before the children are seen.
@@ -74,7 +70,7 @@ fn besides(asked: u8, low: u32, high: u32) -> bool
 {
     match asked {
         LOW | NAMES => high == 0,
-        BOUNDED => num::is_bound(num::Value::Number(cue::number(low, high))),
+        BOUNDED => num::is_bound(Some(cue::number(low, high))),
         BITS => is_bits(low) && high == 0,
         _ => true,
     }
@@ -93,40 +89,37 @@ fn agrees(asked: u8, low: u32, high: u32, names: usize, parameters: usize, patte
 }
 
 // What a kind asks; nothing, where there is no such kind.
-fn asked(heads: &[u8; HEAD_ENTRIES], kind: u32) -> u8
-    requires { heads.now ≡ table.heads }
+fn asked(kind: u32) -> u8
     ensures { result ≡ spec.asked_of kind }
 {
-    if kind > kind::LAST {
+    if kind > LAST {
         return NOTHING;
     }
-    heads[HEAD_COLUMNS * (kind as usize)]
+    HEADS[HEAD_COLUMNS * (kind as usize)]
 }
 
 // The state that the children of a record begin in; the dead one if no form has its low and high.
-pub(crate) fn start(heads: &[u8; HEAD_ENTRIES], kind: u32, low: u32, high: u32) -> usize
-    requires { heads.now ≡ table.heads }
+pub(crate) fn start(kind: u32, low: u32, high: u32) -> usize
     ensures is { result ≡ spec.start kind low high }
     ensures below { result < table.state_count }
 {
-    if kind > kind::LAST {
+    if kind > LAST {
         return DEAD;
     }
     let row = HEAD_COLUMNS * (kind as usize);
-    let asked = heads[row];
+    let asked = HEADS[row];
     let i = which(asked, low);
-    if i >= wide(heads[row + LOWS]) {
+    if i >= usize::from(HEADS[row + LOWS]) {
         return DEAD;
     }
     if besides(asked, low, high) {
-        return wide(heads[wide(heads[row + FIRST]) + i]);
+        return usize::from(HEADS[usize::from(HEADS[row + FIRST]) + i]);
     }
     DEAD
 }
 
 // Whether the numbers of children are what the kind, low and high of their record say.
 pub(crate) fn agreed(
-    heads: &[u8; HEAD_ENTRIES],
     kind: u32,
     low: u32,
     high: u32,
@@ -134,8 +127,7 @@ pub(crate) fn agreed(
     parameters: usize,
     patterns: usize,
 ) -> bool
-    requires { heads.now ≡ table.heads }
     ensures { result ≡ spec.agrees (spec.asked_of kind) low high names parameters patterns }
 {
-    agrees(asked(heads, kind), low, high, names, parameters, patterns)
+    agrees(asked(kind), low, high, names, parameters, patterns)
 }

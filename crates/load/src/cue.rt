@@ -4,9 +4,10 @@ ghost use Rattle.kinds.specs.Shape.{number};
 ghost use Rattle.load.specs.Children.Cue as spec;
 
 use kinds::part;
-use own::arm;
+use own::arm::MatchPattern;
 
-// A kind that is no child's; one of each category, in their order; an arm of a low that no rule names is ARM, the number 0 is ZERO.
+// A cue is a column of the table, and those of the arms are worked out from their lows, so it is a number. A kind that is no child's; one of each category, in
+// their order; an arm of a low that no rule names is ARM, the number 0 is ZERO.
 const OTHER: usize = 0;
 
 pub(crate) const NAME: usize = 1;
@@ -36,6 +37,8 @@ const TYPE_ITEM: usize = 12;
 // The arms that rules name have the cues behind this one, by their low; then a number that is a bound, and any other number but 0.
 const ARMS: usize = TYPE_ITEM;
 
+const LAST_ARM: u32 = MatchPattern::True as u32;
+
 const BOUND: usize = 19;
 
 const SIZE: usize = 20;
@@ -50,7 +53,7 @@ const HALF_BITS: u64 = 32;
 pub(crate) fn number(low: u32, high: u32) -> u64
     ensures { result ≡ number low high }
 {
-    low as u64 + ((high as u64) << HALF_BITS)
+    u64::from(low) + (u64::from(high) << HALF_BITS)
 }
 
 // The cue of a built-in arm.
@@ -60,7 +63,7 @@ fn arm_cue(low: u32) -> usize
     if low == 0 {
         return ARM;
     }
-    if low > arm::TRUE {
+    if low > LAST_ARM {
         return ARM;
     }
     ARMS + low as usize
@@ -70,7 +73,7 @@ fn arm_cue(low: u32) -> usize
 fn number_cue(n: u64) -> usize
     ensures { result ≡ spec.number_cue n }
 {
-    if num::is_bound(num::Value::Number(n)) {
+    if num::is_bound(Some(n)) {
         return BOUND;
     }
     if n == 0 {

@@ -1,20 +1,18 @@
 // The reader of listings: from the lines to the records of one function or one program, or one refusal.
 #![tactic(auto)]
 
-ghost use Rattle.std.specs.Prelude.{◌≡◌, ◌/◌, length};
+ghost use Rattle.std.specs.Prelude.{◌≡◌, length};
 ghost use Rattle.text.specs.Answers.{values};
-ghost use Rattle.lines.specs.Form.{wide};
-ghost use Rattle.lines.specs.Lines as lines_spec;
-ghost use Rattle.load.specs.Form.{widths_of};
+ghost use Rattle.text.specs.Refusals.{refused_by};
+ghost use Rattle.load.specs.Checks.Listed.{its_lines};
 ghost use Rattle.load.specs.Load.{is_right, load_as, load_of, words_of};
-ghost use Rattle.load.specs.Meant.{meant, returned, as_form};
+ghost use Rattle.load.specs.Meant.{meant, returned, not_loaded, as_form};
 ghost use Rattle.load.specs.Promised.{Loads};
-ghost use Rattle.load.specs.Listing.DigitLaws.{DigitTable};
-ghost use Rattle.load.specs.Listing.Read.{lines_read};
 
-use crate::digits::BYTE_VALUES;
 use crate::form::Form;
-use text::refusal;
+use crate::record::Listing;
+use text::RECORD_WORDS;
+use text::refusal::{Refusal, Refused};
 
 mod begin;
 mod check;
@@ -26,91 +24,85 @@ mod record;
 mod table;
 mod walk;
 mod ways;
-mod write;
 
-// What is handed over: the number of records, or the refusal by its number, with the first bad line from 1, or 0.
-#[derive(Drop)]
-pub enum Loaded {
-    Records(usize),
-    Refused { number: u32, line: usize },
+// Why a listing is not loaded: a line is in no form, the first of them counted from 1; the lines form no whole; the records have no room.
+#[derive(Clone, Copy, PartialEq, Eq, Debug)]
+pub enum NotLoaded {
+    BadLine(usize),
+    NotWhole,
+    NoRoom,
+}
+
+impl From<NotLoaded> for Refused {
+    ghost from_gives = { λ e r. refused_by r ≡ not_loaded e };
+
+    fn from(e: NotLoaded) -> Refused {
+        match e {
+            NotLoaded::BadLine(line) => Refused {
+                refusal: Refusal::BadLine,
+                place: line,
+            },
+            NotLoaded::NotWhole => Refused {
+                refusal: Refusal::NotWhole,
+                place: 0,
+            },
+            NotLoaded::NoRoom => Refused {
+                refusal: Refusal::NoLoadRoom,
+                place: 0,
+            },
+        }
+    }
 }
 
 // Whether the lines of a listing are those of a whole function or program, each with its way up where the form has that.
-fn is_right(
-    digits: &[u8; BYTE_VALUES],
-    form: Form,
-    widths: &[usize],
-    listing: &[u8],
-    n: usize,
-) -> bool
-    requires digit_table { DigitTable digits.now }
-    requires widths_value { widths.now ≡ widths_of (as_form form) }
-    requires n_value { n ≡ length listing.now / wide widths.now }
-    ensures { result ≡ is_right (as_form form) (lines_read widths.now listing.now) }
+fn is_right(listing: &Listing) -> bool
+    ensures { result ≡ is_right (as_form listing.now.form) (its_lines listing.now) }
 {
-    if !check::is_whole(digits, widths, form::bytes(form), listing, n) {
+    if !check::is_whole(listing) {
         return false;
     }
-    match form {
+    match listing.form {
         Form::Older => true,
-        Form::Newer => ways::right(digits, listing, n),
+        Form::Newer => ways::right(listing.text, listing.count()),
     }
 }
 
-// The answer to a listing of this form with a buffer of so many words. It is known before a word is written.
-fn answer(
-    digits: &[u8; BYTE_VALUES],
-    form: Form,
-    widths: &[usize],
-    listing: &[u8],
-    room: usize,
-) -> Loaded
-    requires digit_table { DigitTable digits.now }
-    requires widths_value { widths.now ≡ lines_spec.widths }
-    ensures { meant result ≡ load_as (as_form form) listing.now room }
+// The answer to a listing with a buffer of so many words. It is known before a word is written.
+fn answer(listing: &Listing, room: usize) -> Result<usize, NotLoaded>
+    ensures { meant result ≡ load_as (as_form listing.now.form) listing.now.text.now room }
 {
-    let bad = form::bad_line(digits, form, widths, listing);
-    if bad > 0 {
-        return Loaded::Refused {
-            number: refusal::BAD_LINE,
-            line: bad,
-        };
+    if let Some(line) = listing.form.bad_line(listing.text) {
+        return Err(NotLoaded::BadLine(line));
     }
-    let n = listing.len() / form::bytes(form);
-    if !is_right(digits, form, form::fields(form, widths), listing, n) {
-        return Loaded::Refused {
-            number: refusal::NOT_WHOLE,
-            line: 0,
-        };
+    if !is_right(listing) {
+        return Err(NotLoaded::NotWhole);
     }
-    if n > room / text::RECORD_WORDS {
-        return Loaded::Refused {
-            number: refusal::NO_LOAD_ROOM,
-            line: 0,
-        };
+    let n = listing.count();
+    if n > room / RECORD_WORDS {
+        return Err(NotLoaded::NoRoom);
     }
-    Loaded::Records(n)
+    Ok(n)
 }
 
 // Loads a listing: `RECORD_WORDS` words a record, zeros behind them; on a refusal every word is 0. No word is written twice, and the way up is worked
 // out, also where the lines give it.
-pub fn load(listing: &[u8], tree: &mut [u32]) -> Loaded
-    ensures answer { meant result ≡ load_of listing.now (length tree.old) }
-    ensures values { returned result ≡ values (load_of listing.now (length tree.old)) }
-    ensures words { tree.new ≡ words_of listing.now (length tree.old) }
-    ensures laws { Loads listing.now (length tree.old) (meant result) tree.new }
+pub fn load(text: &[u8], tree: &mut [u32]) -> Result<usize, NotLoaded>
+    ensures answer { meant result ≡ load_of text.now (length tree.old) }
+    ensures values { returned result ≡ values (load_of text.now (length tree.old)) }
+    ensures words { tree.new ≡ words_of text.now (length tree.old) }
+    ensures laws { Loads text.now (length tree.old) (meant result) tree.new }
 {
-    let digits = line::digit_table();
-    let widths = lines::WIDTHS;
-    let form = form::form_of(&digits, &widths, listing);
-    let loaded = answer(&digits, form, &widths, listing, tree.len());
-    let Loaded::Records(n) = loaded else {
-        text::clear(tree);
+    let listing = Listing {
+        form: Form::of(text),
+        text,
+    };
+    let loaded = answer(&listing, tree.len());
+    let Ok(n) = loaded else {
+        tree.fill(0);
         return loaded;
     };
-    let fields = form::fields(form, &widths);
-    write::records(&digits, fields, form::bytes(form), listing, n, tree);
+    listing.write(n, tree);
     up::way_up(tree, n);
-    text::clear(&mut tree[text::RECORD_WORDS * n..]);
+    tree[RECORD_WORDS * n..].fill(0);
     loaded
 }

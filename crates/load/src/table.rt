@@ -1,11 +1,11 @@
 // The automaton of a record's children, and the states that it begins in, by kind. Made by tools/children.py from the kinds table; the proofs
-// compute that both are right (proofs/Children). They are held once and lent on.
+// compute that both are right (proofs/Children).
 // How many states there are, and how many entries each has: the next state by cue, and then 1 where a record may end.
 pub(crate) const STATES: usize = 42;
 
 pub(crate) const COLUMNS: usize = 22;
 
-pub(crate) const STEPS: [u8; STATES * COLUMNS] = *b"\
+pub(crate) static STEPS: [u8; STATES * COLUMNS] = *b"\
     \x00\x00\x00\x00\x00\x00\x00\x00\x00\x00\x00\x00\x00\x00\x00\x00\x00\x00\x00\x00\x00\x00\
     \x00\x00\x00\x00\x00\x00\x00\x00\x00\x00\x00\x01\x01\x00\x00\x00\x00\x00\x00\x00\x00\x01\
     \x00\x17\x00\x00\x00\x00\x00\x00\x00\x00\x00\x00\x00\x00\x00\x00\x00\x00\x00\x00\x00\x00\
@@ -52,7 +52,7 @@ pub(crate) const STEPS: [u8; STATES * COLUMNS] = *b"\
 // Three entries a kind: what is asked of low and high, where its states stand, how many lows are looked up; then the states.
 pub(crate) const HEAD_ENTRIES: usize = 219;
 
-pub(crate) const HEADS: [u8; HEAD_ENTRIES] = *b"\
+pub(crate) static HEADS: [u8; HEAD_ENTRIES] = *b"\
     \x00\x00\x00\x02\x81\x04\x01\x85\x01\x01\x86\x01\x01\x87\x01\x01\x88\x18\x01\xa0\x01\x07\xa1\x01\
     \x01\xa2\x01\x01\xa3\x01\x01\xa4\x01\x03\xa5\x01\x04\xa6\x01\x01\xa7\x01\x01\xa8\x01\x01\xa9\x01\
     \x01\xaa\x01\x01\xab\x01\x01\xac\x02\x01\xae\x01\x01\xaf\x01\x01\xb0\x01\x01\xb1\x01\x01\xb2\x02\

@@ -4,11 +4,9 @@ ghost use Rattle.up.specs.Ways.{way_up};
 ghost use Rattle.lines.specs.Lines.{widths, line_bytes};
 ghost use Rattle.load.specs.Form.{newer};
 ghost use Rattle.load.specs.Load.{ways_right};
-ghost use Rattle.load.specs.Listing.DigitLaws.{DigitTable};
 ghost use Rattle.load.specs.Listing.Read.{lines_read};
 ghost use Rattle.load.specs.Checks.GivenWays.{sizes_in, ups_in};
 
-use crate::digits::BYTE_VALUES;
 use crate::line;
 use lines::{LINE_BYTES, PLACE_DIGITS, SIX_BYTES};
 
@@ -18,27 +16,24 @@ const UP_AT: usize = SIX_BYTES;
 const SIZE_AT: usize = UP_AT - 1 - PLACE_DIGITS;
 
 // The size of the record of line p.
-fn size(digits: &[u8; BYTE_VALUES], text: &[u8], p: usize) -> usize
-    requires digit_table { DigitTable digits.now }
+fn size(text: &[u8], p: usize) -> usize
     requires p_in_bounds { p < length text.now / line_bytes }
     ensures { result ≡ sizes_in widths text.now p }
 {
-    line::number(digits, text, LINE_BYTES * p + SIZE_AT, PLACE_DIGITS) as usize
+    line::number(text, LINE_BYTES * p + SIZE_AT, PLACE_DIGITS) as usize
 }
 
 // The way up that line p gives.
-fn given(digits: &[u8; BYTE_VALUES], text: &[u8], p: usize) -> usize
-    requires digit_table { DigitTable digits.now }
+fn given(text: &[u8], p: usize) -> usize
     requires p_in_bounds { p < length text.now / line_bytes }
     ensures { result ≡ get_or (ups_in widths text.now) p 0 }
 {
-    line::number(digits, text, LINE_BYTES * p + UP_AT, PLACE_DIGITS) as usize
+    line::number(text, LINE_BYTES * p + UP_AT, PLACE_DIGITS) as usize
 }
 
 // The record that holds that of line i, where the lines before give their ways up rightly; i itself if none does. `before` is what holds the record before it,
 // or that record itself. As `above` of crate `up`, in lines.
-fn above(digits: &[u8; BYTE_VALUES], text: &[u8], before: usize, i: usize) -> usize
-    requires digit_table { DigitTable digits.now }
+fn above(text: &[u8], before: usize, i: usize) -> usize
     requires i_in_bounds { i < length text.now / line_bytes }
     requires before_value { before ≡ i - 1 - way_up (sizes_in widths text.now) (i - 1) }
     requires raised { (q : ℕ) → q < i → get_or (ups_in widths text.now) q 0 ≡ way_up (sizes_in widths text.now) q }
@@ -47,12 +42,12 @@ fn above(digits: &[u8; BYTE_VALUES], text: &[u8], before: usize, i: usize) -> us
     if i == 0 {
         return 0;
     }
-    if size(digits, text, i - 1) > 1 {
+    if size(text, i - 1) > 1 {
         return i - 1;
     }
     let mut p = before;
-    while i - p >= size(digits, text, p) {
-        let up = given(digits, text, p);
+    while i - p >= size(text, p) {
+        let up = given(text, p);
         if up == 0 {
             return i;
         }
@@ -62,19 +57,16 @@ fn above(digits: &[u8; BYTE_VALUES], text: &[u8], before: usize, i: usize) -> us
 }
 
 // Whether each of n lines ends with the way up of its record.
-pub(crate) fn right(digits: &[u8; BYTE_VALUES], text: &[u8], n: usize) -> bool
-    requires digit_table { DigitTable digits.now }
+pub(crate) fn right(text: &[u8], n: usize) -> bool
     requires n_value { n ≡ length text.now / line_bytes }
     ensures { result ≡ ways_right newer (lines_read widths text.now) }
 {
     let mut p = 0;
-    let mut i = 0;
-    while i < n {
-        p = above(digits, text, p, i);
-        if given(digits, text, i) != i - p {
+    for i in 0..n {
+        p = above(text, p, i);
+        if given(text, i) != i - p {
             return false;
         }
-        i += 1;
     }
     true
 }

@@ -1,234 +1,121 @@
 // Loads the listings that its input gives, with buffers of the lengths that each case asks.
-// A case: a line with the words of the buffer and the bytes of the listing, one space between; then the listing and a line end. Written
-// are the answer, whether all words are zero that must be, whether the records written again are the listing, or where its lines are of
-// 36 bytes those lines with a way up behind each, and the records, a line each.
+// A case's numbers: the words of the buffer and the bytes of the listing. Written are the answer, whether all words are zero that must be, whether the
+// records written again are the listing, or where its lines are of 36 bytes those lines with a way up behind each, and the records, a line each.
 #![tactic(auto)]
 
-ghost use Rattle.std.specs.Prelude.{◌≡◌, ◌+◌, ◌*◌, ◌≤◌, ◌<◌, length};
-ghost use Rattle.lines.specs.Lines.{six_bytes, line_bytes};
-
+use cases::{BadCase, Case, Cases};
 use lines::{LINE_BYTES, SIX_BYTES};
-use load::Loaded;
+use std::alloc::Global;
+use std::io;
+use std::io::{BufWriter, Read, Write};
 use text::RECORD_WORDS;
+use text::refusal::Refused;
 
-mod cases;
+// The words of the longest buffer that a case may ask.
+const MOST_WORDS: usize = 16384;
 
-// Standard input and standard output.
-const STDIN: i32 = 0;
+// What a word holds before, so that one that is not written shows.
+const UNWRITTEN: u32 = 7;
 
-const STDOUT: i32 = 1;
-
-// The whole input.
-fn input_buffer() -> [u8; 1048576]
-    ensures { 1048576 ≡ length result }
-{
-    [0; 1048576]
-}
-
-// The buffers, of which a case lends the first words, and as many bytes as the lines of its records have.
-fn tree_buffer() -> [u32; 16384]
-    ensures { 16384 ≡ length result }
-{
-    [0; 16384]
-}
-
-fn byte_buffer() -> [u8; 96000]
-    ensures { 96000 ≡ length result }
-{
-    [0; 96000]
-}
-
-// Sets every word to 7, so that a word that is not written shows.
-fn fill(out: &mut [u32]) {
-    let mut i = 0;
-    while i < out.len() {
-        out[i] = 7;
-        i += 1;
-    }
-}
-
-// Whether every word from a place on is 0.
-fn zeros(out: &[u32], from: usize) -> bool {
-    let mut i = from;
-    while i < out.len() {
-        if out[i] != 0 {
-            return false;
-        }
-        i += 1;
-    }
-    true
-}
-
-// Whether two lists of bytes are the same.
-fn same(one: &[u8], other: &[u8]) -> bool {
-    if one.len() != other.len() {
-        return false;
-    }
-    let mut i = 0;
-    while i < one.len() {
-        if one[i] != other[i] {
-            return false;
-        }
-        i += 1;
-    }
-    true
-}
-
-fn write_number(n: usize) {
-    io::write_all(STDOUT, b" ");
-    io::print_decimal(STDOUT, n as u64);
-}
-
-fn write_zeros(all: bool) {
-    if all {
-        io::write_all(STDOUT, b" zeros");
+// Whether all words are 0 that must be.
+fn zeros(words: &[u32]) -> &'static str {
+    if words.iter().all(|word| *word == 0) {
+        "zeros"
     } else {
-        io::write_all(STDOUT, b" NOT ZERO");
+        "NOT ZERO"
     }
 }
 
-// Whether n lines of 36 bytes are those of 41 without the way up and the space before it.
-fn wider(listing: &[u8], out: &[u8], n: usize) -> bool
-    requires { (six_bytes * n ≤ length listing.now) × (line_bytes * n ≤ length out.now) }
-{
-    let mut i = 0;
-    while i < n {
-        let a = SIX_BYTES * i;
-        let b = LINE_BYTES * i;
-        let e = SIX_BYTES - 1;
-        if !same(&listing[a..a + e], &out[b..b + e]) || out[b + e] != b' ' {
-            return false;
-        }
-        i += 1;
-    }
-    true
-}
-
-fn is_wider(listing: &[u8], out: &[u8], n: usize) -> bool {
-    if listing.len() / SIX_BYTES == n && out.len() / LINE_BYTES == n {
-        return wider(listing, out, n);
-    }
-    false
+// Whether lines of 36 bytes are those of 41 without the way up and the space before it.
+fn is_wider(listing: &[u8], lines: &[u8]) -> bool {
+    let (short, left) = listing.as_chunks::<SIX_BYTES>();
+    let (long, over) = lines.as_chunks::<LINE_BYTES>();
+    let end = SIX_BYTES - 1;
+    left.is_empty()
+        && over.is_empty()
+        && short.len() == long.len()
+        && short.iter().zip(long).all(|(short, long)| short[..end] == long[..end]
+            && long[end] == b' ')
 }
 
 // What the records written again are of the listing.
-fn write_again(listing: &[u8], out: &[u8], n: usize) {
-    if same(listing, out) {
-        io::write_all(STDOUT, b" same\n");
-    } else if is_wider(listing, out, n) {
-        io::write_all(STDOUT, b" wider\n");
+fn likeness(listing: &[u8], lines: &[u8]) -> &'static str {
+    if listing == lines {
+        "same"
+    } else if is_wider(listing, lines) {
+        "wider"
     } else {
-        io::write_all(STDOUT, b" NOT THE SAME\n");
+        "NOT THE SAME"
     }
 }
 
-// A word of a record, with its number among the words: a record's last word ends the line.
-fn write_word(word: u32, i: usize) {
-    io::print_decimal(STDOUT, word as u64);
-    if i % RECORD_WORDS == RECORD_WORDS - 1 {
-        io::write_all(STDOUT, b"\n");
-    } else {
-        io::write_all(STDOUT, b" ");
-    }
-}
-
-// The words of records, one record a line.
-fn write_words(words: &[u32]) {
-    let mut i = 0;
-    while i < words.len() {
-        write_word(words[i], i);
-        i += 1;
-    }
+// The lines of the first records of a tree.
+fn list(alloc: Global, tree: &[u32], count: usize) -> io::Result<Vec<u8>> {
+    let mut lines = vec![in alloc; 0; count.saturating_mul(LINE_BYTES)]?;
+    let used = lines::list(tree, count, &mut lines);
+    lines.truncate(used);
+    Ok(lines)
 }
 
 // What is found of a listing that is taken; a number that the buffer cannot hold is wrong at once.
-fn write_records(listing: &[u8], tree: &[u32], n: usize, out: &mut [u8])
-    requires { (length tree.now ≤ 16384) × (96000 ≡ length out.old) }
-{
-    if n <= tree.len() / RECORD_WORDS {
-        let e = RECORD_WORDS * n;
-        write_zeros(zeros(tree, e));
-        let again = &mut out[..LINE_BYTES * n];
-        let used = lines::list(tree, n, again);
-        write_again(listing, &again[..used], n);
-        write_words(&tree[..e]);
-        return;
+fn write_records(
+    out: &mut impl Write,
+    alloc: Global,
+    listing: &[u8],
+    tree: &[u32],
+    count: usize,
+) -> io::Result<()> {
+    let Some((records, behind)) = tree.split_at_checked(count.saturating_mul(RECORD_WORDS)) else {
+        return writeln!(out, " NOT ZERO NOT THE SAME");
+    };
+    let lines = list(alloc, tree, count)?;
+    writeln!(out, " {} {}", zeros(behind), likeness(listing, &lines))?;
+    let (records, _) = records.as_chunks::<RECORD_WORDS>();
+    for [kind, start, end, low, high, size, up] in records {
+        writeln!(out, "{kind} {start} {end} {low} {high} {size} {up}")?;
     }
-    write_zeros(false);
-    io::write_all(STDOUT, b" NOT THE SAME\n");
+    Ok(())
 }
 
 // The answer, and what is found of it.
-fn write_answer(listing: &[u8], tree: &mut [u32], out: &mut [u8])
-    requires { (length tree.old ≤ 16384) × (96000 ≡ length out.old) }
-{
-    fill(tree);
-    let loaded = load::load(listing, tree);
-    match loaded {
-        Loaded::Records(n) => {
-            io::write_all(STDOUT, b"records");
-            write_number(n);
-            write_records(listing, tree, n, out);
+fn write_case(out: &mut impl Write, alloc: Global, listing: &[u8], words: usize) -> io::Result<()> {
+    let mut tree = vec![in alloc; UNWRITTEN; words]?;
+    match load::load(listing, &mut tree) {
+        Ok(count) => {
+            write!(out, "records {count}")?;
+            write_records(out, alloc, listing, &tree, count)
         }
-        Loaded::Refused { number, line } => {
-            io::write_all(STDOUT, b"refused");
-            write_number(number as usize);
-            write_number(line);
-            write_zeros(zeros(tree, 0));
-            io::write_all(STDOUT, b"\n");
+        Err(not_loaded) => {
+            let refused = Refused::from(not_loaded);
+            let number = u32::from(refused.refusal);
+            writeln!(out, "refused {number} {} {}", refused.place, zeros(&tree))
         }
     }
 }
 
-// One case, with so many words of the buffer.
-fn write_case(listing: &[u8], words: usize)
-    requires { words ≤ 16384 }
-{
-    let mut tree = tree_buffer();
-    let mut out = byte_buffer();
-    write_answer(listing, &mut tree[..words], &mut out);
-}
-
-// A stream that is wrong: no case is run after it.
-fn bad_case(s: &[u8]) -> usize
-    ensures { result ≡ length s.now }
-{
-    io::write_all(STDOUT, b"BAD CASE\n");
-    s.len()
-}
-
-// Runs the case at i, and answers where the next one starts: the end if this one is wrong.
-fn run_case(s: &[u8], i: usize) -> usize
-    requires { i < length s.now }
-    ensures { (i < result) × (result ≤ length s.now) }
-{
-    let words = cases::field(s, i, b' ');
-    let size = cases::field(s, words.next, b'\n');
-    let start = size.next;
-    let n = size.value;
-    if n >= s.len() - start {
-        return bad_case(s);
-    }
-    let end = start + n;
-    if s[end] != b'\n' {
-        return bad_case(s);
-    }
-    if words.value > 16384 {
-        return bad_case(s);
-    }
-    write_case(&s[start..end], words.value);
-    end + 1
-}
-
-fn run_cases(s: &[u8]) {
-    let mut i = 0;
-    while i < s.len() {
-        i = run_case(s, i);
+// A case, where the buffer that it asks is not too long.
+fn fitting(case: Case<'_, 2>) -> Result<Case<'_, 2>, BadCase> {
+    if case.numbers[0] <= MOST_WORDS {
+        Ok(case)
+    } else {
+        Err(BadCase)
     }
 }
 
-fn main() {
-    let mut buf = input_buffer();
-    let n = io::read_full(STDIN, &mut buf);
-    run_cases(&buf[..n]);
+// No case is run after one that is wrong.
+fn main(rt: HostRuntime) -> io::Result<()> {
+    let alloc = rt.alloc();
+    let mut stream = Vec::new(alloc);
+    rt.stdin().read_to_end(&mut stream)?;
+    let mut out = BufWriter::new(alloc, io::writer(&rt))?;
+    for case in Cases::<2>::new(&stream) {
+        match case.and_then(fitting) {
+            Ok(case) => write_case(&mut out, alloc, case.text, case.numbers[0])?,
+            Err(bad) => {
+                writeln!(out, "{bad}")?;
+                break;
+            }
+        }
+    }
+    out.flush()
 }

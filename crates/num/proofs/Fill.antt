@@ -1,5 +1,6 @@
 -- The loop that writes a run's digits into a cleared buffer, one law a kind of turn.
 -- Assumes nothing.
+use Rattle.std.specs.Prelude.{None, Some}
 use mathlib.Core.List.{List, ◌∷◌, ◌++◌, append-nil}
 use mathlib.Core.Path.{◌≡◌, refl, sym, ◌∙◌, ap}
 use Prim.Native.Nat.{ℕ, suc, ◌+◌, ◌-◌, ◌≤◌, ◌<◌}
@@ -9,7 +10,6 @@ use borrow.Author.Tests.{le-leb, lt-leb}
 use lib.ListN.{length, get_or, set, take, drop, replicate, length-append, length-set, length-replicate, take-append-drop}
 use lib.Seq.{length-take-le, take-suc-set, drop-set-lt, drop-drop, append_snoc}
 use Rattle.num.specs.Digits.{plain, answer_of, buffer_of}
-use Rattle.num.specs.declared.DigitText.TheVariants.{Written, Short}
 use Rattle.num.proofs.Runs.{passed, kept, over}
 
 -- The run is read up to i, and its first n digits stand in the buffer of m bytes, with zeros after them.
@@ -30,7 +30,7 @@ module _ (run : List ℕ) where
     count : length (take n out) ≡ n
     count = length-take-le n out (omega (arith, a.long))
 
-    pub ends : length run ≤ i → (Written n ≡ answer_of (plain run) m) × (out ≡ buffer_of (plain run) m)
+    pub ends : length run ≤ i → (Some n ≡ answer_of (plain run) m) × (out ≡ buffer_of (plain run) m)
     unfolding answer_of buffer_of
     ends h =
         let f : take n out ≡ plain run = rw (over run i h, append-nil) at a.front in
@@ -59,7 +59,7 @@ module _ (run : List ℕ) where
               back = drop-set-lt (n + 1) out n (get_or run i 0) (omega arith) ∙ sym (drop-drop 1 n out) ∙ ap (drop 1) (a.back ∙ ap (λ j. replicate j 0) k);
             }
 
-        pub overflows : n ≡ m → (Short ≡ answer_of (plain run) m) × (replicate m 0 ≡ buffer_of (plain run) m)
+        pub overflows : n ≡ m → (None ≡ answer_of (plain run) m) × (replicate m 0 ≡ buffer_of (plain run) m)
         unfolding answer_of buffer_of
         overflows l =
             let k = sym (ap length next) ∙ length-append (take n out) (get_or run i 0 ∷ plain (drop (i + 1) run)) in

@@ -1,7 +1,7 @@
 -- The numbers with one bit set are the powers of two: count_ones against the test of a bound.
 -- Assumes nothing.
 use mathlib.Core.Bool.{Bool, true, false}
-use mathlib.Core.Path.{◌≡◌, refl, ◌∙◌, ap}
+use mathlib.Core.Path.{◌≡◌, refl, sym, ◌∙◌, ap}
 use Prim.Native.Nat.{ℕ, zero, suc, ◌+◌, ◌*◌, ◌/◌, ◌%◌, ◌^◌, ◌≤◌, ◌<◌}
 use native.Mathlib.Nat.{pow-suc}
 use native.Mathlib.Omega.{arith}
@@ -10,7 +10,9 @@ use lib.Count.{ones, ones_in, ones_step, ones_cat}
 use lib.Dec.{eqb}
 use lib.Pow.{pow_pos}
 use Rattle.text.proofs.Same.{differ}
-use Rattle.num.specs.Bound.{is_bound}
+use Rattle.std.specs.Prelude.{None, Some}
+use Rattle.num.specs.Value.{Value}
+use Rattle.num.specs.Bound.{is_bound, bound_ok}
 use Rattle.num.proofs.BoundLaws.{power-of, power-passes}
 
 none-set : (k n : ℕ) → n < 2 ^ k → ones n ≡ 0 → n ≡ 0
@@ -73,3 +75,22 @@ one_bit n h l =
 
 pub below_two : (n : ℕ) → n < 2 → false ≡ is_bound n
 below_two n h = alike _ _ (λ e. differ e) (λ e. let r = power-of n e in absurd (omega (arith, power-two r.0 r.1)))
+
+-- the tests that the code makes
+other_than_one : (n : ℕ) → n < 2 ^ 64 → (n ≡ 1 → ⊥) → eqb (ones n) 1 ≡ is_bound n
+unfolding ones ones_in
+other_than_one zero h l = below_two 0 (omega arith)
+other_than_one (suc zero) h l = absurd (l refl)
+other_than_one (suc (suc n)) h l = one_bit (suc (suc n)) h (omega arith)
+
+pub bit_bound : (v : Value) (n : ℕ) → v ≡ Some n → n < 2 ^ 64 → (n ≡ 1 → ⊥) → bound_ok v ≡ eqb (ones n) 1
+unfolding bound_ok
+bit_bound v n e h l = rw e (sym (other_than_one n h l))
+
+pub one_no_bound : (v : Value) → v ≡ Some 1 → bound_ok v ≡ false
+unfolding bound_ok
+one_no_bound v e = rw e (sym (below_two 1 (omega arith)))
+
+pub no_bound : (v : Value) → v ≡ None → bound_ok v ≡ false
+unfolding bound_ok
+no_bound v e = rw e refl

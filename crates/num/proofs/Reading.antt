@@ -1,5 +1,6 @@
 -- What the loop over a decimal run cites of the number's definition.
 -- Assumes nothing.
+use Rattle.std.specs.Prelude.{None, Some}
 use mathlib.Core.Bool.{Bool, true, false, cond}
 use mathlib.Core.List.{List, [], ◌∷◌}
 use mathlib.Core.Path.{◌≡◌, refl, ◌∙◌, ap}
@@ -10,32 +11,31 @@ use lib.Dec.{leb}
 use lib.ListN.{length, get_or, drop}
 use Rattle.num.specs.Digits.{plain}
 use Rattle.num.specs.Value.{decimal_from, decimal_of, largest, fitted, number_of}
-use Rattle.num.specs.declared.Value.TheVariants.{Number, TooLarge}
 use Rattle.num.proofs.Runs.{passed, kept, over}
 
 -- the test of `fitted`, both ways
-pub fits : (n : ℕ) → n ≤ largest → Number n ≡ fitted n
+pub fits : (n : ℕ) → n ≤ largest → Some n ≡ fitted n
 unfolding fitted
 fits n h = rw (le-leb _ _ h) refl
 
-pub too_large : (n : ℕ) → largest < n → TooLarge ≡ fitted n
+pub too_large : (n : ℕ) → largest < n → None ≡ fitted n
 unfolding fitted
 too_large n h = rw (lt-leb _ _ h) refl
 
 module _ (n : ℕ) where
-  pub fitted-number : (m : ℕ) → fitted n ≡ Number m → (m ≡ n) × (n ≤ largest)
+  pub fitted-number : (m : ℕ) → fitted n ≡ Some m → (m ≡ n) × (n ≤ largest)
   unfolding fitted
   fitted-number m e = go (leb n largest) refl e
     where
-      go : (b : Bool) → leb n largest ≡ b → cond b (Number n) TooLarge ≡ Number m → (m ≡ n) × (n ≤ largest)
+      go : (b : Bool) → leb n largest ≡ b → cond b (Some n) None ≡ Some m → (m ≡ n) × (n ≤ largest)
       go true q e = (cc, leb-true _ _ q)
       go false q e = let z : ◌≡◌ {A = ℕ} 0 1 = cc in absurd (omega arith)
 
-  pub fitted-too-large : fitted n ≡ TooLarge → largest < n
+  pub fitted-too-large : fitted n ≡ None → largest < n
   unfolding fitted
   fitted-too-large e = go (leb n largest) refl e
     where
-      go : (b : Bool) → leb n largest ≡ b → cond b (Number n) TooLarge ≡ TooLarge → largest < n
+      go : (b : Bool) → leb n largest ≡ b → cond b (Some n) None ≡ None → largest < n
       go true q e = let z : ◌≡◌ {A = ℕ} 0 1 = cc in absurd (omega arith)
       go false q e = leb-false _ _ q
 
@@ -56,7 +56,7 @@ module _ (run : List ℕ) where
   starts = record { within = omega arith; held = omega arith; whole = refl }
 
   module _ (v i : ℕ) (a : Reading run v i) where
-    pub ends : length run ≤ i → Number v ≡ number_of run
+    pub ends : length run ≤ i → Some v ≡ number_of run
     unfolding number_of decimal_of decimal_from
     ends h =
         let e : v ≡ decimal_from 0 (plain run) = rw (over run i h) at a.whole in
@@ -71,12 +71,12 @@ module _ (run : List ℕ) where
         unfolding decimal_from
         step = rw q (rw (kept run i h e) at a.whole)
 
-        pub pushes : (r : ℕ) → fitted (v * 10 + d) ≡ Number r → Reading run r (i + 1)
+        pub pushes : (r : ℕ) → fitted (v * 10 + d) ≡ Some r → Reading run r (i + 1)
         pushes r f =
             let g = fitted-number (v * 10 + d) r f in
             record { within = omega arith; held = omega arith; whole = ap (λ x. decimal_from x (plain (drop (i + 1) run))) g.0 ∙ step }
 
-        pub stops : fitted (v * 10 + d) ≡ TooLarge → TooLarge ≡ number_of run
+        pub stops : fitted (v * 10 + d) ≡ None → None ≡ number_of run
         unfolding number_of decimal_of
         stops f =
             let g : largest < v * 10 + d = fitted-too-large (v * 10 + d) f in

@@ -1,10 +1,8 @@
 -- The digit text of a run: its bytes without `_`, and without the `0x` or `0b` of its base (document 01, "Lexemes": its text drops `_`).
 -- Assumes nothing.
-use Rattle.std.specs.Prelude.{Bool, cond, ◌||◌, List, [], ◌∷◌, ◌++◌, ℕ, ◌-◌, eqb, leb, length, take, drop, replicate}
+use Rattle.std.specs.Prelude.{Bool, cond, ◌||◌, List, [], ◌∷◌, ◌++◌, ℕ, ◌-◌, eqb, leb, length, take, drop, replicate, Option, None, Some}
 use Rattle.text.specs.Ascii.{ascii}
 use Rattle.text.specs.Same.{same}
-use Rattle.num.specs.declared.DigitText.{DigitText}
-use Rattle.num.specs.declared.DigitText.TheVariants.{Written, Short}
 
 -- The bytes of a run other than `_` (95).
 unfoldable pub plain : List ℕ → List ℕ
@@ -23,9 +21,9 @@ after_base p = cond (based p) (drop 2 p) p
 unfoldable pub digits_of : List ℕ → List ℕ
 digits_of p = plain (after_base p)
 
--- The answer for the digits d and a buffer of n bytes: how many there are, or that they do not fit.
-unfoldable pub answer_of : List ℕ → ℕ → DigitText
-answer_of d n = cond (leb (length d) n) (Written (length d)) Short
+-- The answer for the digits d and a buffer of n bytes: how many there are, None where they do not fit.
+unfoldable pub answer_of : List ℕ → ℕ → Option ℕ
+answer_of d n = cond (leb (length d) n) (Some (length d)) None
 
 -- The n bytes of that buffer: the digits, then zeros; all zeros if the digits do not fit.
 unfoldable pub buffer_of : List ℕ → ℕ → List ℕ

@@ -6,27 +6,7 @@ ghost use Rattle.std.specs.Prelude.{◌≡◌, length};
 ghost use Rattle.text.specs.Part.{part_of};
 ghost use Rattle.num.specs.Value.{number_of};
 ghost use Rattle.num.specs.Digits.{digits_of, answer_of, buffer_of};
-ghost use Rattle.num_speed.specs.Said as spec;
 ghost use Rattle.num_speed.specs.Said.{said_of, count_of};
-
-use num::{DigitText, Value};
-
-// 1 for true.
-fn flag(b: bool) -> u64
-    ensures { result ≡ spec.flag b }
-{
-    if b { 1 } else { 0 }
-}
-
-// The number; 0 if it is too large.
-fn number_or_zero(v: Value) -> u64
-    ensures { result ≡ spec.number_or_zero v }
-{
-    match v {
-        Value::Number(n) => n,
-        Value::TooLarge => 0,
-    }
-}
 
 // What `num` says of the decimal run from start to end: its number, or 0 if it is too large; whether it is a length, a size and a bound.
 #[unsafe(no_mangle)]
@@ -35,10 +15,10 @@ pub extern "C" fn num_speed_number(draft: &[u8], start: usize, end: usize, said:
 {
     let v = num::number(draft, start, end);
     *said = [
-        number_or_zero(v),
-        flag(num::is_length(v)),
-        flag(num::is_size(v)),
-        flag(num::is_bound(v)),
+        v.unwrap_or(0),
+        u64::from(num::is_length(v)),
+        u64::from(num::is_size(v)),
+        u64::from(num::is_bound(v)),
     ];
 }
 
@@ -48,9 +28,5 @@ pub extern "C" fn num_speed_digits(draft: &[u8], start: usize, end: usize, out: 
     ensures count { result ≡ count_of (answer_of (digits_of (part_of draft.now start end)) (length out.old)) }
     ensures buffer { out.new ≡ buffer_of (digits_of (part_of draft.now start end)) (length out.old) }
 {
-    let written = num::digits(draft, start, end, out);
-    match written {
-        DigitText::Written(n) => n,
-        DigitText::Short => 0,
-    }
+    num::digits(draft, start, end, out).unwrap_or(0)
 }

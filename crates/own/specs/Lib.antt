@@ -8,3 +8,4 @@ pub mod Examples
 pub mod Kinds
 pub mod Arms
 pub mod Calls
+pub mod Numbers

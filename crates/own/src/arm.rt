@@ -1,12 +1,21 @@
 // Built-in arms by the low of their record, as specs/Arms.antt has them.
-pub const LEFT: u32 = 1;
+ghost use Rattle.std.specs.Prelude.{◌≡◌};
+ghost use Rattle.own.specs.Numbers.{arm_number};
 
-pub const RIGHT: u32 = 2;
+#[derive(Clone, Copy, PartialEq, Eq, Debug)]
+pub enum MatchPattern {
+    Left = 1,
+    Right = 2,
+    None = 3,
+    Some = 4,
+    False = 5,
+    True = 6,
+}
 
-pub const NONE: u32 = 3;
+impl From<MatchPattern> for u32 {
+    ghost from_gives = { λ a n. n ≡ arm_number a };
 
-pub const SOME: u32 = 4;
-
-pub const FALSE: u32 = 5;
-
-pub const TRUE: u32 = 6;
+    fn from(arm: MatchPattern) -> u32 {
+        arm as u32
+    }
+}

@@ -1,28 +1,29 @@
 // Calls by the low of their record, as specs/Calls.antt has them.
-pub const JET: u32 = 1;
+ghost use Rattle.std.specs.Prelude.{◌≡◌};
+ghost use Rattle.own.specs.Numbers.{call_number};
 
-pub const UNWRAP_LEFT: u32 = 2;
+#[derive(Clone, Copy, PartialEq, Eq, Debug)]
+pub enum CallName {
+    Jet = 1,
+    UnwrapLeft = 2,
+    UnwrapRight = 3,
+    Unwrap = 4,
+    IsNone = 5,
+    Assert = 6,
+    Panic = 7,
+    Debug = 8,
+    TypeCast = 9,
+    Custom = 10,
+    Fold = 11,
+    ArrayFold = 12,
+    ForWhile = 13,
+    RawHash = 14,
+}
 
-pub const UNWRAP_RIGHT: u32 = 3;
+impl From<CallName> for u32 {
+    ghost from_gives = { λ c n. n ≡ call_number c };
 
-pub const UNWRAP: u32 = 4;
-
-pub const IS_NONE: u32 = 5;
-
-pub const ASSERT: u32 = 6;
-
-pub const PANIC: u32 = 7;
-
-pub const DEBUG: u32 = 8;
-
-pub const TYPE_CAST: u32 = 9;
-
-pub const CUSTOM: u32 = 10;
-
-pub const FOLD: u32 = 11;
-
-pub const ARRAY_FOLD: u32 = 12;
-
-pub const FOR_WHILE: u32 = 13;
-
-pub const RAW_HASH: u32 = 14;
+    fn from(call: CallName) -> u32 {
+        call as u32
+    }
+}

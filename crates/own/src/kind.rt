@@ -1,94 +1,122 @@
-// The kinds of records by number, as specs/Kinds.antt has them.
-pub const FUNCTION: u32 = 1;
+// The kinds of records, as specs/Kinds.antt has them. A record's first word is its kind's number.
+ghost use Rattle.std.specs.Prelude.{◌≡◌};
+ghost use Rattle.own.specs.Numbers.{kind_number, NamesKind};
 
-pub const NAME: u32 = 2;
+#[derive(Clone, Copy, PartialEq, Eq, Debug)]
+pub enum Kind {
+    Function = 1,
+    Name = 2,
+    Parameter = 3,
+    // Types.
+    Alias = 4,
+    Builtin = 5,
+    BoolType = 6,
+    Unsigned = 7,
+    EitherType = 8,
+    OptionType = 9,
+    TupleType = 10,
+    ArrayType = 11,
+    ListType = 12,
+    // Patterns; the second is `_`.
+    IdentifierPattern = 13,
+    IgnorePattern = 14,
+    TuplePattern = 15,
+    ArrayPattern = 16,
+    // A `let`, and a block.
+    Let = 17,
+    Block = 18,
+    // Expressions.
+    Left = 19,
+    Right = 20,
+    Some = 21,
+    None = 22,
+    Boolean = 23,
+    Decimal = 24,
+    Hexadecimal = 25,
+    Binary = 26,
+    Witness = 27,
+    ParameterValue = 28,
+    Variable = 29,
+    Parenthesised = 30,
+    Tuple = 31,
+    Array = 32,
+    List = 33,
+    EnumConstruction = 34,
+    Match = 35,
+    EnumMatch = 36,
+    // Arms.
+    BuiltinArm = 37,
+    EnumArm = 38,
+    // A call, and a number in it.
+    Call = 39,
+    Number = 40,
+    // A whole file, and a type item.
+    Program = 41,
+    TypeItem = 42,
+}
 
-pub const PARAMETER: u32 = 3;
+// A number that no kind has.
+#[derive(Clone, Copy, PartialEq, Eq, Debug)]
+pub struct NoKind(pub u32);
 
-// Types.
-pub const ALIAS: u32 = 4;
+impl From<Kind> for u32 {
+    ghost from_gives = { λ k n. n ≡ kind_number k };
 
-pub const BUILTIN: u32 = 5;
+    fn from(kind: Kind) -> u32 {
+        kind as u32
+    }
+}
 
-pub const BOOL_TYPE: u32 = 6;
+impl TryFrom<u32> for Kind {
+    type Error = NoKind;
 
-pub const UNSIGNED: u32 = 7;
+    ghost try_from_gives = { NamesKind };
 
-pub const EITHER_TYPE: u32 = 8;
-
-pub const OPTION_TYPE: u32 = 9;
-
-pub const TUPLE_TYPE: u32 = 10;
-
-pub const ARRAY_TYPE: u32 = 11;
-
-pub const LIST_TYPE: u32 = 12;
-
-// Patterns; the second is `_`.
-pub const IDENTIFIER_PATTERN: u32 = 13;
-
-pub const IGNORE_PATTERN: u32 = 14;
-
-pub const TUPLE_PATTERN: u32 = 15;
-
-pub const ARRAY_PATTERN: u32 = 16;
-
-// A `let`, and a block.
-pub const LET: u32 = 17;
-
-pub const BLOCK: u32 = 18;
-
-// Expressions.
-pub const LEFT: u32 = 19;
-
-pub const RIGHT: u32 = 20;
-
-pub const SOME: u32 = 21;
-
-pub const NONE: u32 = 22;
-
-pub const BOOLEAN: u32 = 23;
-
-pub const DECIMAL: u32 = 24;
-
-pub const HEXADECIMAL: u32 = 25;
-
-pub const BINARY: u32 = 26;
-
-pub const WITNESS: u32 = 27;
-
-pub const PARAMETER_VALUE: u32 = 28;
-
-pub const VARIABLE: u32 = 29;
-
-pub const PARENTHESISED: u32 = 30;
-
-pub const TUPLE: u32 = 31;
-
-pub const ARRAY: u32 = 32;
-
-pub const LIST: u32 = 33;
-
-pub const ENUM_CONSTRUCTION: u32 = 34;
-
-pub const MATCH: u32 = 35;
-
-pub const ENUM_MATCH: u32 = 36;
-
-// Arms.
-pub const BUILTIN_ARM: u32 = 37;
-
-pub const ENUM_ARM: u32 = 38;
-
-// A call, and a number in it.
-pub const CALL: u32 = 39;
-
-pub const NUMBER: u32 = 40;
-
-// A whole file, and a type item.
-pub const PROGRAM: u32 = 41;
-
-pub const TYPE_ITEM: u32 = 42;
-
-// The kinds are 1 to this.
-pub const LAST: u32 = TYPE_ITEM;
+    fn try_from(number: u32) -> Result<Self, NoKind> {
+        match number {
+            1 => Ok(Kind::Function),
+            2 => Ok(Kind::Name),
+            3 => Ok(Kind::Parameter),
+            4 => Ok(Kind::Alias),
+            5 => Ok(Kind::Builtin),
+            6 => Ok(Kind::BoolType),
+            7 => Ok(Kind::Unsigned),
+            8 => Ok(Kind::EitherType),
+            9 => Ok(Kind::OptionType),
+            10 => Ok(Kind::TupleType),
+            11 => Ok(Kind::ArrayType),
+            12 => Ok(Kind::ListType),
+            13 => Ok(Kind::IdentifierPattern),
+            14 => Ok(Kind::IgnorePattern),
+            15 => Ok(Kind::TuplePattern),
+            16 => Ok(Kind::ArrayPattern),
+            17 => Ok(Kind::Let),
+            18 => Ok(Kind::Block),
+            19 => Ok(Kind::Left),
+            20 => Ok(Kind::Right),
+            21 => Ok(Kind::Some),
+            22 => Ok(Kind::None),
+            23 => Ok(Kind::Boolean),
+            24 => Ok(Kind::Decimal),
+            25 => Ok(Kind::Hexadecimal),
+            26 => Ok(Kind::Binary),
+            27 => Ok(Kind::Witness),
+            28 => Ok(Kind::ParameterValue),
+            29 => Ok(Kind::Variable),
+            30 => Ok(Kind::Parenthesised),
+            31 => Ok(Kind::Tuple),
+            32 => Ok(Kind::Array),
+            33 => Ok(Kind::List),
+            34 => Ok(Kind::EnumConstruction),
+            35 => Ok(Kind::Match),
+            36 => Ok(Kind::EnumMatch),
+            37 => Ok(Kind::BuiltinArm),
+            38 => Ok(Kind::EnumArm),
+            39 => Ok(Kind::Call),
+            40 => Ok(Kind::Number),
+            41 => Ok(Kind::Program),
+            42 => Ok(Kind::TypeItem),
+            _ => Err(NoKind(number)),
+        }
+    }
+}

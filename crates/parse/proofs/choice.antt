@@ -1,5 +1,4 @@
 -- The tables of choice.rt.
 pub mod Tables
 pub mod Checks
-pub mod Keys
 pub mod Chosen

@@ -1,6 +1,4 @@
 -- Names and single tokens.
-pub mod LiteralHead
-pub mod TypeHead
 pub mod Tests
 pub mod Chain
 pub mod Rows

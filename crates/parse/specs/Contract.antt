@@ -1,12 +1,12 @@
 -- What the functions of the parser require and ensure: they are proved against the relations `Reads` and `Sticks` over grammar's table,
 -- and against the records and refusals that grammar gives to what was read.
 -- Assumes nothing: these are definitions.
-use Rattle.std.specs.Prelude.{◌≡◌, ℕ, suc, ◌+◌, ◌*◌, ◌/◌, ◌%◌, ◌<◌, ◌≤◌, true, false, cond, T, List, [], ◌∷◌, ◌++◌, length, drop, ◌==◌, ◌≢◌, nat_lt, slice_index, slice_index_or}
+use Rattle.std.specs.Prelude.{◌≡◌, ℕ, suc, ◌+◌, ◌*◌, ◌/◌, ◌%◌, ◌<◌, ◌≤◌, Bool, true, false, not, cond, T, List, [], ◌∷◌, ◌++◌, length, drop, ◌==◌, ◌≢◌, nat_lt, slice_index, slice_index_or}
+use Rattle.std.specs.Prelude as std
+use Rattle.std.specs.Prelude.{Some, None}
 use Rattle.std.proofs.Math.Option.{Option, none, some}
 use Rattle.std.proofs.lemmas.List.Edits.{sets}
-use Rattle.num.specs.Value.{decimal_of}
-use Rattle.num.specs.declared.Value.{Value}
-use Rattle.num.specs.declared.Value.TheVariants.{Number, TooLarge}
+use Rattle.num.specs.Value.{Value, decimal_of}
 use Rattle.num.specs.Bound.{bound_ok, size_ok, length_ok}
 use Rattle.theory.specs.Grammar.{Sym, nt}
 use Rattle.theory.specs.Machine.{choose}
@@ -17,7 +17,9 @@ use Rattle.own.specs.Tree.{Tok, Items, Each, concat, classes_of}
 use Rattle.own.specs.Flat.{blank_tok}
 use Rattle.own.specs.Law.{Sort, word, child, sorts}
 use Rattle.text.specs.Widths.{rec_wide, tok_wide}
-use Rattle.text.specs.Refusals as refusal
+use Rattle.text.specs.Refusals.{refusal_number}
+use Rattle.text.specs.declared.refusal.Refusal.{Refusal}
+use Rattle.text.specs.declared.refusal.Refusal.TheVariants as refusal
 use Rattle.text.specs.Lists.{has}
 use Rattle.own.specs.Words.{rec_then, toks, sizes, word_groups}
 use Rattle.own.specs.Kinds as kind
@@ -25,15 +27,22 @@ use Rattle.kinds.specs.Shape.{half_range}
 use Rattle.kinds.specs.Fields.{counted, halves}
 use Rattle.kinds.specs.Families as family
 use Rattle.kinds.specs.Class.{class_of}
+use Rattle.kinds.specs.Rules.{wrappers}
+use Rattle.own.specs.Numbers.{kind_number}
+use Rattle.own.specs.declared.kind.Kind.{Kind}
 use Rattle.lexer.specs.Classes as t
 use Rattle.grammar.specs.Shapes.Shapes.{shapes}
 use Rattle.grammar.specs.Shapes.Tables.{means, table}
-use Rattle.grammar.specs.Shapes.TablesIndex.{n-arm, n-head}
-use Rattle.grammar.specs.Records.Records.{low_half, high_half, sees, name_count, arranged, text_of, record_items}
+use Rattle.grammar.specs.Shapes.TablesIndex.{n-arm, n-head, n-identifier, n-function_name, n-alias_name}
+use Rattle.grammar.specs.Records.Records.{low_half, high_half, sees, name_count, wrapper_head, arranged, text_of, record_items}
 use Rattle.grammar.specs.Records.Faults.{Fault, earlier, earliest, faults}
 use Rattle.parse.specs.declared.State.{State}
+use Rattle.parse.specs.declared.fault.Fault as code
 use Rattle.parse.specs.declared.token.Lexeme.{Lexeme}
+use Rattle.parse.specs.declared.token.Source.{Source}
 use Rattle.parse.specs.declared.Step.{Step}
+use Rattle.parse.specs.declared.names.NameSort.{NameSort}
+use Rattle.parse.specs.declared.names.NameSort.TheVariants as name
 use Rattle.parse.specs.declared.Step.TheVariants.{Next, Refused}
 use Rattle.parse.specs.Choice as choice
 
@@ -50,9 +59,13 @@ pub record Text : Type 0 where
   pub draft : List ℕ
   pub ts : List Tok
 
--- The draft with the first n tokens of a buffer, as far as it holds them.
-unfoldable pub text : List ℕ → List ℕ → ℕ → Text
-text draft words n = record { draft = draft; ts = toks (class_of draft) (cond (nat_lt n (length words / tok_wide)) n (length words / tok_wide)) words }
+-- How many tokens the words of a source hold,
+abbrev pub count_of : Source → ℕ
+count_of s = length s.tokens.now / tok_wide
+
+-- and the draft with those.
+unfoldable pub text : Source → Text
+text s = record { draft = s.draft.now; ts = toks (class_of s.draft.now) (count_of s) s.tokens.now }
 
 abbrev pub classes : Text → List ℕ
 classes x = classes_of x.ts
@@ -80,12 +93,18 @@ abbrev pub sooner : Option Fault → Option Fault → Option Fault
 sooner none g = g
 sooner (some f) g = earlier f g
 
--- A refusal by its number and place; number 0 is none.
-unfoldable pub fault : ℕ → ℕ → Option Fault
-fault n p = cond (n == 0) none (some (record { number = n; place = p }))
+-- A refusal of the code, if there is one, at a place,
+unfoldable pub fault_at : std.Option Refusal → ℕ → Option Fault
+fault_at None p = none
+fault_at (Some r) p = some (record { number = refusal_number r; place = p })
+
+-- and with its place.
+unfoldable pub fault : std.Option code.Fault → Option Fault
+fault None = none
+fault (Some f) = some (record { number = refusal_number f.refusal; place = f.place })
 
 abbrev pub kept : State → Option Fault
-kept st = fault st.fault st.place
+kept st = fault st.fault
 
 -- The state is at its token: class, start and end are those of the token, `end` that of the token before.
 pub record Stands (x : Text) (st : State) : Type 0 where
@@ -140,8 +159,8 @@ pub record Put (l : List ℕ) (here k b e low high z : ℕ) (l' : List ℕ) : Ty
 
 -- The same of a record that holds the number v; if that is too large nothing is written.
 pub data PutNumber (l : List ℕ) (here k b e : ℕ) (v : Value) (z : ℕ) (l' : List ℕ) : Type 0 where
-  written : {n : ℕ} → v ≡ Number n → Put l here k b e (low_half n) (high_half n) z l' → PutNumber l here k b e v z l'
-  unwritten : v ≡ TooLarge → l' ≡ l → PutNumber l here k b e v z l'
+  written : {n : ℕ} → v ≡ Some n → Put l here k b e (low_half n) (high_half n) z l' → PutNumber l here k b e v z l'
+  unwritten : v ≡ None → l' ≡ l → PutNumber l here k b e v z l'
 
 -- The records from `from` to `mid`, u, and those up to `to`, v, are exchanged where they fit.
 pub record Turned (l : List ℕ) (from mid to : ℕ) (l' : List ℕ) : Type 0 where
@@ -188,11 +207,11 @@ pub data Parsed (x : Text) (σ : List Sym) (wrap : shape.Items → shape.Items) 
 -- The state with a record more.
 unfoldable pub reserved : State → State
 reserved st =
-    record { at = st.at; class = st.class; start = st.start; stop = st.stop; end = st.end; out = (st.out + 1) % u32_count; fault = st.fault; place = st.place }
+    record { at = st.at; class = st.class; start = st.start; stop = st.stop; end = st.end; out = (st.out + 1) % u32_count; fault = st.fault }
 
 -- The state without a refusal.
 unfoldable pub cleaned : State → State
-cleaned st = record { at = st.at; class = st.class; start = st.start; stop = st.stop; end = st.end; out = st.out; fault = 0; place = 0 }
+cleaned st = record { at = st.at; class = st.class; start = st.start; stop = st.stop; end = st.end; out = st.out; fault = None }
 
 -- One token that is no record of its own,
 pub record Mark (t : Tok) (J L : Items) (m a b : ℕ) : Type 0 where
@@ -228,32 +247,53 @@ unfoldable pub next : ℕ → ℕ → ℕ
 next at n = cond (nat_lt at n) (at + 1) at
 
 -- The inner state with the earliest refusal: that of the outer state, this one, that of the inner state.
-pub record Judged (outer inner : State) (number place : ℕ) (r : State) : Type 0 where
+pub record Judged (outer inner : State) (refusal : std.Option Refusal) (place : ℕ) (r : State) : Type 0 where
   pub at_is : r.at ≡ inner.at
   pub class_is : r.class ≡ inner.class
   pub start_is : r.start ≡ inner.start
   pub stop_is : r.stop ≡ inner.stop
   pub end_is : r.end ≡ inner.end
   pub out_is : r.out ≡ inner.out
-  pub kept_is : kept r ≡ sooner (kept outer) (sooner (fault number place) (kept inner))
+  pub kept_is : kept r ≡ sooner (kept outer) (sooner (fault_at refusal place) (kept inner))
 
--- The refusal of a bound, of a size and of a length, or 0.
-unfoldable pub bound_fault : Value → ℕ
-bound_fault v = cond (bound_ok v) 0 refusal.Bound
+-- The refusal of a bound, of a size and of a length, if there is one.
+unfoldable pub bound_fault : Value → std.Option Refusal
+bound_fault v = cond (bound_ok v) None (Some refusal.Bound)
 
-unfoldable pub size_fault : Value → ℕ
-size_fault v = cond (size_ok v) 0 refusal.Size
+unfoldable pub size_fault : Value → std.Option Refusal
+size_fault v = cond (size_ok v) None (Some refusal.Size)
 
-unfoldable pub length_fault : Value → ℕ
-length_fault v = cond (length_ok v) 0 refusal.Length
+unfoldable pub length_fault : Value → std.Option Refusal
+length_fault v = cond (length_ok v) None (Some refusal.Length)
+
+-- The entry of a class in a table of alternatives: one of its list, then what all names of types lead to, and 0 past the classes.
+unfoldable pub entry_in : List ℕ → ℕ → ℕ → ℕ
+entry_in l c named = cond (nat_lt c t.bool) (slice_index l c) (cond (nat_lt c (t.last + 1)) named 0)
 
 -- The sort of a name, one that a function may have or a reserved one, and 0 for any other token.
 unfoldable pub name_sort : ℕ → ℕ
 name_sort c = cond (has t.function_names c) choice.FunctionName (cond (has t.identifiers c) choice.ReservedName 0)
 
+-- The nonterminal of each name that is a record of its own,
+abbrev pub name_nt : NameSort → ℕ
+name_nt name.Identifier = n-identifier
+name_nt name.Function = n-function_name
+name_nt name.Alias = n-alias_name
+
+-- and whether a token of a class is one.
+abbrev pub is_name : NameSort → ℕ → Bool
+is_name name.Identifier c = not (name_sort c == 0)
+is_name name.Function c = name_sort c == choice.FunctionName
+is_name name.Alias c = not (choose table n-alias_name c == 0)
+
 -- The alternative of an arm's head, or 0 where no arm begins.
 unfoldable pub head_sort : ℕ → ℕ
 head_sort c = cond (choose table n-arm c == 0) 0 (choose table n-head c)
+
+-- The kind of a wrapper, none for any other class.
+abbrev pub Wraps : ℕ → std.Option Kind → Type 0
+Wraps c None = has wrappers c ≡ false
+Wraps c (Some k) = (has wrappers c ≡ true) × (kind_number k ≡ (wrapper_head c).kind)
 
 -- The classes of a call's name that is a record: "a jet's token or a function name".
 abbrev pub callees : List ℕ
@@ -301,11 +341,10 @@ pub record Commas (J L : Items) (m a b : ℕ) : Type 0 where
   pub same : L ≡ J
   pub commas : Only t.Comma (sorts J)
 
--- What a function says of a nonterminal, of all that it is lent: the draft, the words of its tokens and their number, the state from which
--- it parses, and the tree buffer before and after.
-abbrev pub Parses : ℕ → Info → List ℕ → List ℕ → ℕ → State → List ℕ → List ℕ → Step → Type 0
-Parses A I draft words n st l l' r = Parsed (text draft words n) (nt A ∷ []) as_items I st l l' r
+-- What a function says of a nonterminal: of what is read, the state from which it parses, and the tree buffer before and after.
+abbrev pub Parses : ℕ → Info → Text → State → List ℕ → List ℕ → Step → Type 0
+Parses A I x st l l' r = Parsed x (nt A ∷ []) as_items I st l l' r
 
 -- The name at a token, as a record of its own.
-abbrev pub NameAt : List ℕ → List ℕ → ℕ → ℕ → Info
-NameAt draft words n at = Named (tok_at (text draft words n) at) kind.Name 0 0
+abbrev pub NameAt : Text → ℕ → Info
+NameAt x at = Named (tok_at x at) kind.Name 0 0

@@ -1,7 +1,7 @@
 -- What the functions of the cycle and of arms' heads say besides: of the records of what was read (J, before tokens became records; L, as
 -- laid), of the m tokens that belong to no record yet, and of their two numbers a and b.
 -- Assumes nothing: these are definitions.
-use Rattle.std.specs.Prelude.{◌≡◌, ℕ, ◌+◌, ◌≤◌, true, false, cond, ◌||◌, ◌⊎◌, List, [], ◌∷◌, ◌++◌, length, take, drop, ◌==◌, ◌≢◌, nat_lt}
+use Rattle.std.specs.Prelude.{◌≡◌, ℕ, ◌+◌, ◌≤◌, true, false, cond, ◌||◌, ◌⊎◌, List, [], ◌∷◌, ◌++◌, length, take, drop, ◌==◌, ◌≢◌, nat_lt, Option, Some, None}
 use Rattle.theory.specs.Grammar.{nt}
 use Rattle.theory.specs.Machine.{choose}
 use Rattle.own.specs.Tree as own
@@ -16,9 +16,10 @@ use Rattle.lexer.specs.Classes as t
 use Rattle.grammar.specs.Records.Records.{head, sees, name_count, lone, unended, arm_head, arranged}
 use Rattle.grammar.specs.Shapes.Tables.{table}
 use Rattle.grammar.specs.Shapes.TablesIndex.{n-single, n-function, n-type_item, n-file}
-use Rattle.text.specs.Refusals as refusal
+use Rattle.text.specs.declared.refusal.Refusal.{Refusal}
+use Rattle.text.specs.declared.refusal.Refusal.TheVariants as refusal
 use Rattle.text.specs.Widths.{rec_wide}
-use Rattle.parse.specs.Contract.{Text, as_items, Parsed, Put, Moved, Only, Turned, countable, reserved}
+use Rattle.parse.specs.Contract.{Text, as_items, Parsed, Put, Moved, Only, Turned, countable, reserved, head_sort}
 use Rattle.parse.specs.Choice as choice
 use Rattle.parse.specs.declared.State.{State}
 use Rattle.parse.specs.declared.Step.{Step}
@@ -73,6 +74,12 @@ pub data Leads (c b : ℕ) : Type 0 where
   named_leads : choose table n-single c ≡ choice.Named → Leads c b
   bare_leads : choose table n-single c ≡ choice.Bare → Leads c b
   generic_leads : {rule : ℕ} → Generic c rule → (b ≢ t.LAngle) → Leads c b
+
+-- A name of the class c begins an enum path in an arm's head, with a token of the class b behind it.
+pub data Leading (c b : ℕ) : Type 0 where
+  none_begins : head_sort c ≡ choice.NoneHead → b ≡ t.DoubleColon → Leading c b
+  word_begins : head_sort c ≡ choice.WrappedHead → (b ≢ t.LParen) → Leading c b
+  name_begins : head_sort c ≡ choice.NamedHead → Leading c b
 
 -- Pieces that say nothing of an arm's head: no `::`, no name, no pattern.
 pub record Quiet (w : List Sort) : Type 0 where
@@ -151,12 +158,12 @@ order_from o [] = o
 order_from o (word c ∷ w) = order_from o w
 order_from o (child k l h c ∷ w) = order_from (after_arm o k l) w
 
--- The kind of a match with arms in this order, and its refusal or 0.
+-- The kind of a match with arms in this order, and its refusal, if there is one.
 unfoldable pub order_kind : ℕ → ℕ
 order_kind o = cond (o == order.Enums || o == order.Mixed) kind.EnumMatch kind.Match
 
-unfoldable pub order_fault : ℕ → ℕ
-order_fault o = cond (o == 0) refusal.NoArms (cond (o == order.Enums || (o == order.Paired || o == order.Turned)) 0 (cond (o == order.Unpaired) refusal.NoPartners (cond (o == order.Mixed) refusal.MixedArms refusal.ArmCount)))
+unfoldable pub order_fault : ℕ → Option Refusal
+order_fault o = cond (o == 0) (Some refusal.NoArms) (cond (o == order.Enums || (o == order.Paired || o == order.Turned)) None (cond (o == order.Unpaired) (Some refusal.NoPartners) (cond (o == order.Mixed) (Some refusal.MixedArms) (Some refusal.ArmCount))))
 
 -- Nothing but arms.
 abbrev pub Armed : List Sort → Type 0

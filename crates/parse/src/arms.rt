@@ -1,15 +1,17 @@
 // The arms of a match: their order as a number, and what follows from it.
 ghost use Rattle.std.specs.Prelude.{◌≡◌, ◌≤◌, ◌||◌, if◌then◌else◌, ◌==◌, nat_eq};
 ghost use Rattle.own.specs.Arms as arm;
+ghost use Rattle.own.specs.Numbers.{kind_number};
 ghost use Rattle.parse.specs.Orders as orders;
 ghost use Rattle.parse.specs.Infos.{arm_kind, arm_low, arm_high, ArmKind, pair_arm, after_arm, order_kind, order_fault, Arranged};
 
 use crate::tree;
-use own::arm;
-use own::kind::{BUILTIN_ARM, ENUM_ARM, ENUM_MATCH, MATCH};
-use text::refusal;
+use own::arm::MatchPattern;
+use own::kind::Kind;
+use text::refusal::Refusal;
 
-// The order of arms as a number, as specs/Orders.antt has it: none yet, or one built-in arm, by its low; enum arms;
+// The order of arms, as specs/Orders.antt has it: a number, since it is one of the two that a step has, whose form document 01 names.
+// None yet, or one built-in arm, by its low; enum arms;
 const NO_ARM: u32 = 0;
 
 const ENUMS: u32 = 7;
@@ -29,45 +31,47 @@ const MIXED: u32 = 12;
 // Two lows as one number, and those of partners.
 const APART: u32 = 8;
 
-const LEFT_RIGHT: u32 = APART * arm::LEFT + arm::RIGHT;
+const LEFT_RIGHT: u32 = APART * MatchPattern::Left as u32 + MatchPattern::Right as u32;
 
-const NONE_SOME: u32 = APART * arm::NONE + arm::SOME;
+const NONE_SOME: u32 = APART * MatchPattern::None as u32 + MatchPattern::Some as u32;
 
-const FALSE_TRUE: u32 = APART * arm::FALSE + arm::TRUE;
+const FALSE_TRUE: u32 = APART * MatchPattern::False as u32 + MatchPattern::True as u32;
 
-const RIGHT_LEFT: u32 = APART * arm::RIGHT + arm::LEFT;
+const RIGHT_LEFT: u32 = APART * MatchPattern::Right as u32 + MatchPattern::Left as u32;
 
-const SOME_NONE: u32 = APART * arm::SOME + arm::NONE;
+const SOME_NONE: u32 = APART * MatchPattern::Some as u32 + MatchPattern::None as u32;
 
-const TRUE_FALSE: u32 = APART * arm::TRUE + arm::FALSE;
+const TRUE_FALSE: u32 = APART * MatchPattern::True as u32 + MatchPattern::False as u32;
 
 // Kind, low and high of an arm.
 #[derive(Drop)]
 pub(crate) struct Arm {
-    pub(crate) kind: u32,
+    pub(crate) kind: Kind,
     pub(crate) low: u32,
     pub(crate) high: u32,
 }
 
 // The record of an arm: a built-in one where there is no name, otherwise an enum arm.
+#[tactic(auto, unfolding(crate::specs::Infos::arm_kind, crate::specs::Infos::arm_low, crate::specs::Infos::arm_high))]
 pub(crate) fn head(number: u32, other: u32) -> Arm
-    ensures { (result.kind ≡ arm_kind number) × (result.low ≡ arm_low number other) × (result.high ≡ arm_high number other) }
+    ensures { (kind_number result.kind ≡ arm_kind number) × (result.low ≡ arm_low number other) × (result.high ≡ arm_high number other) }
 {
     if number == 0 {
         return Arm {
-            kind: BUILTIN_ARM,
+            kind: Kind::BuiltinArm,
             low: other,
             high: 0,
         };
     }
     Arm {
-        kind: ENUM_ARM,
+        kind: Kind::EnumArm,
         low: number,
         high: other,
     }
 }
 
 // The order of two built-in arms.
+#[tactic(auto, unfolding(crate::specs::Infos::pair_arm, own::specs::Tree::partner))]
 fn pair(a: u32, b: u32) -> u32
     requires { (a ≤ arm.True) × (b ≤ arm.True) }
     ensures { result ≡ pair_arm a b }
@@ -84,11 +88,12 @@ fn pair(a: u32, b: u32) -> u32
 }
 
 // The order of arms with one arm more.
+#[tactic(auto, unfolding(crate::specs::Infos::after_arm))]
 pub(crate) fn after(order: u32, kind: u32, low: u32) -> u32
     requires { ArmKind kind low }
     ensures { result ≡ after_arm order kind low }
 {
-    if kind == ENUM_ARM {
+    if kind == u32::from(Kind::EnumArm) {
         return with_enum(order);
     }
     if order == NO_ARM {
@@ -124,28 +129,30 @@ pub(crate) fn first_end(order: u32, mid: u32, out: u32) -> u32
 }
 
 // The kind of a match: another one with an enum arm among its arms.
-pub(crate) fn kind(order: u32) -> u32
-    ensures { result ≡ order_kind order }
+#[tactic(auto, unfolding(crate::specs::Infos::order_kind))]
+pub(crate) fn kind(order: u32) -> Kind
+    ensures { kind_number result ≡ order_kind order }
 {
     match order {
-        ENUMS => ENUM_MATCH,
-        MIXED => ENUM_MATCH,
-        _ => MATCH,
+        ENUMS => Kind::EnumMatch,
+        MIXED => Kind::EnumMatch,
+        _ => Kind::Match,
     }
 }
 
-// The refusal of a match with these arms, or 0.
-pub(crate) fn fault(order: u32) -> u32
+// The refusal of a match with these arms, if there is one.
+#[tactic(auto, unfolding(crate::specs::Infos::order_fault))]
+pub(crate) fn fault(order: u32) -> Option<Refusal>
     ensures { result ≡ order_fault order }
 {
     match order {
-        NO_ARM => refusal::NO_ARMS,
-        ENUMS => 0,
-        PAIRED => 0,
-        TURNED => 0,
-        UNPAIRED => refusal::NO_PARTNERS,
-        MIXED => refusal::MIXED_ARMS,
-        _ => refusal::ARM_COUNT,
+        NO_ARM => Some(Refusal::NoArms),
+        ENUMS => None,
+        PAIRED => None,
+        TURNED => None,
+        UNPAIRED => Some(Refusal::NoPartners),
+        MIXED => Some(Refusal::MixedArms),
+        _ => Some(Refusal::ArmCount),
     }
 }
 

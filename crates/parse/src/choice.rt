@@ -1,10 +1,10 @@
 // Which alternative reads on, by the class of the next token. The tables, written by tools/choice.py, say what grammar's table says, class by
-// class.
+// class. Alternatives are numbers and no enum: a table is a string of bytes, and what it gives is what grammar's table numbers.
 ghost use Rattle.std.specs.Prelude.{◌≡◌};
 ghost use Rattle.theory.specs.Machine.{choose};
 ghost use Rattle.grammar.specs.Shapes.Tables.{table};
 ghost use Rattle.grammar.specs.Shapes.TablesIndex.{n-type, n-pattern, n-single, n-alias_name};
-ghost use Rattle.parse.specs.Contract.{name_sort, head_sort};
+ghost use Rattle.parse.specs.Contract.{entry_in, name_sort, head_sort};
 
 // Written by tools/choice.py, to the second mark.
 // The classes are the numbers below this one.
@@ -12,6 +12,8 @@ const CLASSES: u32 = 97;
 
 // Those from this one on are the names of types, which all lead to the same alternative; a table has an entry for each of the others.
 const TYPE_NAMES: u32 = 63;
+
+type Choices = [u8; 63];
 
 // At a class that begins none of the alternatives.
 pub(crate) const ABSENT: u32 = 0;
@@ -29,7 +31,7 @@ pub(crate) const TUPLE_TYPE: u32 = 5;
 
 pub(crate) const ARRAY_TYPE: u32 = 6;
 
-const TYPES: [u8; 63] = *b"\
+const TYPES: Choices = *b"\
     \0\0\0\0\0\0\0\0\0\0\0\0\0\0\0\0\
     \0\0\0\0\x05\0\x06\0\0\0\0\0\0\0\0\0\
     \x04\0\0\0\0\x04\x04\x04\x04\x01\x02\x03\x04\x04\x04\x04\
@@ -42,7 +44,7 @@ pub(crate) const TUPLE_PATTERN: u32 = 2;
 
 pub(crate) const ARRAY_PATTERN: u32 = 3;
 
-const PATTERNS: [u8; 63] = *b"\
+const PATTERNS: Choices = *b"\
     \0\0\0\0\0\0\0\0\0\0\0\0\0\0\0\0\
     \0\0\0\0\x02\0\x03\0\0\0\0\0\0\0\0\0\
     \x01\0\0\0\0\x01\x01\x01\x01\x01\x01\x01\x01\x01\x01\x01\
@@ -73,7 +75,7 @@ pub(crate) const FOLDING: u32 = 11;
 
 pub(crate) const FOR_WHILE: u32 = 12;
 
-const SINGLES: [u8; 63] = *b"\
+const SINGLES: Choices = *b"\
     \0\0\0\0\0\0\0\0\0\x05\0\0\0\0\0\0\
     \0\0\0\0\x02\0\x03\0\0\0\x07\0\x01\x01\x01\0\
     \x08\x06\x01\x01\0\x08\x08\x08\x09\x08\x08\x08\x0a\x0a\x0b\x0c\
@@ -84,14 +86,14 @@ pub(crate) const RESERVED_NAME: u32 = 1;
 
 pub(crate) const FUNCTION_NAME: u32 = 2;
 
-const NAMES: [u8; 63] = *b"\
+const NAMES: Choices = *b"\
     \0\0\0\0\0\0\0\0\0\0\0\0\0\0\0\0\
     \0\0\0\0\0\0\0\0\0\0\0\0\0\0\0\0\
     \x02\0\0\0\0\x02\x02\x02\x02\x02\x02\x02\x01\x01\x01\x01\
     \x01\x01\x01\x01\0\x01\x01\x01\x01\0\0\0\0\0\0";
 
 // A type item's name.
-const ALIASES: [u8; 63] = *b"\
+const ALIASES: Choices = *b"\
     \0\0\0\0\0\0\0\0\0\0\0\0\0\0\0\0\
     \0\0\0\0\0\0\0\0\0\0\0\0\0\0\0\0\
     \x01\0\0\0\0\x02\x03\x04\x05\0\0\0\x06\x07\x08\x09\
@@ -108,84 +110,57 @@ pub(crate) const WRAPPED_HEAD: u32 = 4;
 
 pub(crate) const NAMED_HEAD: u32 = 5;
 
-const HEADS: [u8; 63] = *b"\
+const HEADS: Choices = *b"\
     \0\0\0\0\0\0\0\0\0\0\0\0\0\0\0\0\
     \0\0\0\0\0\0\0\0\0\0\0\0\0\0\0\0\
     \x05\0\0\0\0\x04\x04\x04\x03\x05\x05\x05\x05\x05\x05\x05\
     \x05\x05\x05\x05\0\x05\x05\x05\x05\0\0\0\0\x01\x02";
 
 // The second mark: what follows is written by hand.
+// The entry of a class, and what all names of types lead to.
+#[tactic(auto, unfolding(crate::specs::Contract::entry_in))]
+#[inline(always)]
+fn entry(table: &Choices, class: u32, named: u32) -> u32
+    ensures { result ≡ entry_in table.now class named }
+{
+    if class < TYPE_NAMES {
+        return u32::from(table[class as usize]);
+    }
+    if class < CLASSES { named } else { ABSENT }
+}
+
 pub(crate) fn types(class: u32) -> u32
     ensures { result ≡ choose table n-type class }
 {
-    if class < TYPE_NAMES {
-        let i = class as usize;
-        return TYPES[i] as u32;
-    }
-    if class < CLASSES {
-        return NAMED_TYPE;
-    }
-    ABSENT
+    entry(&TYPES, class, NAMED_TYPE)
 }
 
 pub(crate) fn patterns(class: u32) -> u32
     ensures { result ≡ choose table n-pattern class }
 {
-    if class < TYPE_NAMES {
-        let i = class as usize;
-        return PATTERNS[i] as u32;
-    }
-    if class < CLASSES {
-        return NAME_PATTERN;
-    }
-    ABSENT
+    entry(&PATTERNS, class, NAME_PATTERN)
 }
 
 pub(crate) fn singles(class: u32) -> u32
     ensures { result ≡ choose table n-single class }
 {
-    if class < TYPE_NAMES {
-        let i = class as usize;
-        return SINGLES[i] as u32;
-    }
-    if class < CLASSES {
-        return NAMED;
-    }
-    ABSENT
+    entry(&SINGLES, class, NAMED)
 }
 
 pub(crate) fn names(class: u32) -> u32
     ensures { result ≡ name_sort class }
 {
-    if class < TYPE_NAMES {
-        let i = class as usize;
-        return NAMES[i] as u32;
-    }
-    if class < CLASSES {
-        return FUNCTION_NAME;
-    }
-    ABSENT
+    entry(&NAMES, class, FUNCTION_NAME)
 }
 
 pub(crate) fn aliases(class: u32) -> u32
     ensures { result ≡ choose table n-alias_name class }
 {
-    if class < TYPE_NAMES {
-        let i = class as usize;
-        return ALIASES[i] as u32;
-    }
-    ABSENT
+    entry(&ALIASES, class, ABSENT)
 }
 
 pub(crate) fn heads(class: u32) -> u32
     ensures { result ≡ head_sort class }
 {
-    if class < TYPE_NAMES {
-        let i = class as usize;
-        return HEADS[i] as u32;
-    }
-    if class < CLASSES {
-        return NAMED_HEAD;
-    }
-    ABSENT
+    entry(&HEADS, class, NAMED_HEAD)
 }

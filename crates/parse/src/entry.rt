@@ -1,34 +1,46 @@
 // From the first token to the answer: the parser's refusals in their order.
-ghost use Rattle.std.specs.Prelude.{◌≡◌, ◌*◌, ◌≤◌, false, length};
-ghost use Rattle.text.specs.Front.{Held};
+ghost use Rattle.std.specs.Prelude.{◌≡◌, ◌*◌, ◌≤◌, false, length, take};
 ghost use Rattle.text.specs.Widths.{tok_wide};
+ghost use Rattle.text.specs.Front.{Held};
 ghost use Rattle.lexer.specs.Buffer.{tokens_in};
 ghost use Rattle.own.specs.Words.{rec_words};
-ghost use Rattle.grammar.specs.Answers.Answer.{start_of, records_in};
+ghost use Rattle.grammar.specs.Answers.Answer.{records_in};
 ghost use Rattle.parse.specs.Contract.{text, countable, Ready};
-ghost use Rattle.parse.specs.Entry.{entry_of, too_many, too_long, WholeRead, Starts, ended, judged, meant, answered, reading_of, answer_of, tree_of};
+ghost use Rattle.parse.specs.Entry.{entry_of, too_many, too_long, WholeRead, Starts, place_in, ended, judged, meant, reading_of, answer_of, tree_of};
 
-use crate::{Answer, State, Step, file, program, token};
-use text::{RECORD_WORDS, TOKEN_WORDS, refusal};
+use crate::token::Source;
+use crate::{ReadAs, State, Step, file, program};
+use text::refusal::{Refusal, Refused};
+use text::{RECORD_WORDS, TOKEN_WORDS};
 
 // So many numbers a word has.
 const U32_COUNT: usize = 4294967296;
 
 // Whether there are more tokens than there may be, or than so many words hold.
+#[tactic(auto, unfolding(crate::specs::Entry::too_many))]
 fn too_many(most: usize, count: usize, words: usize) -> bool
     ensures { result ≡ too_many most count words }
 {
-    if most < count {
-        return true;
+    most < count || words / TOKEN_WORDS < count
+}
+
+// The draft with the words of so many tokens.
+fn source<'a>(draft: &'a [u8], tokens: &'a [u32], count: usize) -> Source<'a>
+    requires { tok_wide * count ≤ length tokens.now }
+    ensures draft { result.draft.now ≡ draft.now }
+    ensures tokens { result.tokens.now ≡ take (tok_wide * count) tokens.now }
+{
+    Source {
+        draft,
+        tokens: &tokens[..TOKEN_WORDS * count],
     }
-    words / TOKEN_WORDS < count
 }
 
 // The state at the first token.
-fn start(draft: &[u8], tokens: &[u32], count: usize) -> State
-    ensures { Starts (text draft.now tokens.now count) result }
+fn start(source: &Source) -> State
+    ensures { Starts (text source.now) result }
 {
-    let t = token::token(draft, tokens, count, 0);
+    let t = source.token(0);
     State {
         at: 0,
         class: t.class,
@@ -36,91 +48,79 @@ fn start(draft: &[u8], tokens: &[u32], count: usize) -> State
         stop: t.stop,
         end: 0,
         out: 0,
-        fault: 0,
-        place: 0,
+        fault: None,
     }
 }
 
 // Where the token of this number starts, or the length at the end.
-fn place(draft: &[u8], tokens: &[u32], count: usize, at: usize) -> usize
-    requires { tok_wide * count ≤ length tokens.now }
-    ensures { result ≡ start_of draft.now (tokens_in count tokens.now) at }
+fn place(source: &Source, at: usize) -> usize
+    ensures { result ≡ place_in source.now at }
 {
-    if at < count {
-        let t = token::token(draft, tokens, count, at);
+    if at < source.count() {
+        let t = source.token(at);
         return t.start as usize;
     }
-    draft.len()
+    source.draft.len()
 }
 
 // The answer of the last state, with so many words for the records.
-fn end(draft: &[u8], tokens: &[u32], count: usize, room: usize, z: State) -> Answer
-    requires { tok_wide * count ≤ length tokens.now }
-    ensures { result ≡ ended draft.now tokens.now count room z }
+#[tactic(auto, unfolding(crate::specs::Entry::ended))]
+fn end(source: &Source, room: usize, z: State) -> Result<usize, Refused>
+    ensures { result ≡ ended source.now room z }
 {
-    if z.at < count {
-        return Answer::Refused {
-            number: refusal::MISSHAPEN,
-            place: place(draft, tokens, count, z.at),
-        };
+    if z.at < source.count() {
+        return Err(Refused {
+            refusal: Refusal::Misshapen,
+            place: place(source, z.at),
+        });
     }
-    if z.fault != 0 {
-        return Answer::Refused {
-            number: z.fault,
-            place: z.place as usize,
-        };
+    if let Some(fault) = z.fault {
+        return Err(Refused {
+            refusal: fault.refusal,
+            place: fault.place as usize,
+        });
     }
     let records = z.out as usize;
     if room < RECORD_WORDS * records {
-        return Answer::Refused {
-            number: refusal::NO_ROOM,
+        return Err(Refused {
+            refusal: Refusal::NoRoom,
             place: 0,
-        };
+        });
     }
-    Answer::Records(records)
+    Ok(records)
 }
 
 // The answer of a step, likewise.
-fn judge(draft: &[u8], tokens: &[u32], count: usize, room: usize, step: Step) -> Answer
-    requires { tok_wide * count ≤ length tokens.now }
-    ensures { result ≡ judged draft.now tokens.now count room step }
+fn judge(source: &Source, room: usize, step: Step) -> Result<usize, Refused>
+    ensures { result ≡ judged source.now room step }
 {
     match step {
-        Step::Next(z, _, _) => end(draft, tokens, count, room, z),
-        Step::Refused(at) => Answer::Refused {
-            number: refusal::MISSHAPEN,
-            place: place(draft, tokens, count, at),
-        },
+        Step::Next(z, _, _) => end(source, room, z),
+        Step::Refused(at) => Err(Refused {
+            refusal: Refusal::Misshapen,
+            place: place(source, at),
+        }),
     }
 }
 
 // Whether a file is longer than its first record can say.
-fn too_long(file: bool, bytes: usize) -> bool
-    ensures { result ≡ too_long (entry_of file) bytes }
+#[tactic(auto, unfolding(crate::specs::Entry::too_long))]
+fn too_long(what: ReadAs, bytes: usize) -> bool
+    ensures { result ≡ too_long (entry_of what) bytes }
 {
-    if file {
-        return bytes >= U32_COUNT;
-    }
-    false
+    what == ReadAs::File && bytes >= U32_COUNT
 }
 
 // Reads a whole draft: a file, or one function.
-fn whole(
-    draft: &[u8],
-    tokens: &[u32],
-    count: usize,
-    tree: &mut [u32],
-    st: State,
-    file: bool,
-) -> Step
-    requires ready { Ready (text draft.now tokens.now count) st }
-    requires draft_value { too_long (entry_of file) (length draft.now) ≡ false }
-    ensures { WholeRead (text draft.now tokens.now count) (length draft.now) st tree.old tree.new result (entry_of file) }
+fn whole(source: &Source, tree: &mut [u32], st: State, what: ReadAs) -> Step
+    requires ready { Ready (text source.now) st }
+    requires draft_value { too_long (entry_of what) (length source.now.draft.now) ≡ false }
+    ensures { WholeRead (text source.now) (length source.now.draft.now) st tree.old tree.new result (entry_of what) }
 {
-    if file {
-        return file::file(draft, tokens, count, tree, st);
+    match what {
+        ReadAs::File => file::file(source, tree, st),
+        ReadAs::Function => program::function(source, tree, st),
     }
-    program::function(draft, tokens, count, tree, st)
 }
 
 // Writes the records of a draft of so many tokens at most, a file or one function, and leaves what is behind them.
@@ -130,27 +130,28 @@ pub(crate) fn parse_front_within(
     count: usize,
     tree: &mut [u32],
     most: usize,
-    file: bool,
-) -> Answer
+    what: ReadAs,
+) -> Result<usize, Refused>
     requires { most ≤ countable }
-    ensures value { result ≡ answered (answer_of (entry_of file) most draft.now tokens.now count (length tree.old)) }
-    ensures held { Held (meant count result) (rec_words (records_in (reading_of (entry_of file) draft.now (tokens_in count tokens.now)))) tree.old tree.new }
+    ensures answer { meant count result ≡ answer_of (entry_of what) most draft.now tokens.now count (length tree.old) }
+    ensures held { Held (meant count result) (rec_words (records_in (reading_of (entry_of what) draft.now (tokens_in count tokens.now)))) tree.old tree.new }
 {
     if too_many(most, count, tokens.len()) {
-        return Answer::Refused {
-            number: refusal::TOO_MANY,
+        return Err(Refused {
+            refusal: Refusal::TooMany,
             place: 0,
-        };
+        });
     }
-    if too_long(file, draft.len()) {
-        return Answer::Refused {
-            number: refusal::TOO_LONG,
+    if too_long(what, draft.len()) {
+        return Err(Refused {
+            refusal: Refusal::TooLong,
             place: 0,
-        };
+        });
     }
-    let st = start(draft, tokens, count);
-    let step = whole(draft, tokens, count, tree, st, file);
-    judge(draft, tokens, count, tree.len(), step)
+    let source = source(draft, tokens, count);
+    let st = start(&source);
+    let step = whole(&source, tree, st, what);
+    judge(&source, tree.len(), step)
 }
 
 // The same with zeros behind the records; on a refusal every word is 0.
@@ -160,18 +161,18 @@ pub(crate) fn parse_within(
     count: usize,
     tree: &mut [u32],
     most: usize,
-    file: bool,
-) -> Answer
+    what: ReadAs,
+) -> Result<usize, Refused>
     requires { most ≤ countable }
-    ensures value { result ≡ answered (answer_of (entry_of file) most draft.now tokens.now count (length tree.old)) }
-    ensures tree_after { tree.new ≡ tree_of (entry_of file) most draft.now tokens.now count (length tree.old) }
+    ensures answer { meant count result ≡ answer_of (entry_of what) most draft.now tokens.now count (length tree.old) }
+    ensures tree_after { tree.new ≡ tree_of (entry_of what) most draft.now tokens.now count (length tree.old) }
 {
-    let answer = parse_front_within(draft, tokens, count, tree, most, file);
-    let Answer::Records(records) = answer else {
-        text::clear(tree);
+    let answer = parse_front_within(draft, tokens, count, tree, most, what);
+    let Ok(records) = answer else {
+        tree.fill(0);
         return answer;
     };
     let used = RECORD_WORDS * records;
     text::clear_from(tree, used);
-    Answer::Records(records)
+    Ok(records)
 }

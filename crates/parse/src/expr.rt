@@ -3,6 +3,7 @@
 // What is read most often is inlined where it is called. The rest stands apart, and takes no room in the frames of the others.
 ghost use Rattle.std.specs.Prelude.{◌≡◌, ◌<◌, if◌then◌else◌, nat_eq};
 ghost use Rattle.lexer.specs.Classes as t;
+ghost use Rattle.own.specs.Numbers.{kind_number};
 ghost use Rattle.theory.specs.Machine.{choose};
 ghost use Rattle.grammar.specs.Shapes.Tables.{table};
 ghost use Rattle.grammar.specs.Shapes.TablesIndex.{n-expression, n-block, n-elements, n-assignment, n-single, n-list-expression, n-many-arm, n-arm, n-arm-choice};
@@ -12,13 +13,14 @@ ghost use Rattle.parse.specs.Infos.{LetKind, Elements, Lone, Arms, Arm, Body};
 
 mod c;
 
+use crate::token::Source;
 use crate::{State, Step, arms, choice, fault, heads, names, pattern, token, tree, types};
 use lexer::classes as class;
-use own::kind;
+use own::kind::Kind;
 
-// The first kind for one expression without a comma, otherwise the second.
-fn only(lone: u32, a: u32, b: u32) -> u32
-    ensures { result ≡ (if nat_eq lone 1 then a else b) }
+// The first kind for one expression without a comma, otherwise the second. `lone` is a number of a step: 1 is that, and 0 no expression yet.
+fn only(lone: u32, a: Kind, b: Kind) -> Kind
+    ensures { kind_number result ≡ (if nat_eq lone 1 then kind_number a else kind_number b) }
 {
     if lone == 1 { a } else { b }
 }
@@ -32,12 +34,12 @@ fn first(lone: u32) -> u32
 
 // A boolean, a number, a witness or a parameter.
 #[inline(always)]
-fn literal(draft: &[u8], tokens: &[u32], count: usize, tree: &mut [u32], st: State) -> Step
-    requires ready { Ready (text draft.now tokens.now count) st }
+fn literal(source: &Source, tree: &mut [u32], st: State) -> Step
+    requires ready { Ready (text source.now) st }
     requires class_value { choose table n-single st.class ≡ choice.Literal }
-    ensures { Parses n-single (Node ExprKind) draft.now tokens.now count st tree.old tree.new result }
+    ensures { Parses n-single (Node ExprKind) (text source.now) st tree.old tree.new result }
 {
-    let a = token::advance(draft, tokens, count, tree::reserve(st));
+    let a = source.advance(tree::reserve(st));
     tree::close(
         tree,
         st,
@@ -52,66 +54,66 @@ fn literal(draft: &[u8], tokens: &[u32], count: usize, tree: &mut [u32], st: Sta
 // An expression: a block or any other. `Expression::parser`. For the variable see `single`.
 #[cycle(expression)]
 #[inline(always)]
-pub(crate) fn expr(draft: &[u8], tokens: &[u32], count: usize, tree: &mut [u32], st: State) -> Step
-    requires { Ready (text draft.now tokens.now count) st }
-    ensures { Parses n-expression (Node ExprKind) draft.now tokens.now count st tree.old tree.new result }
+pub(crate) fn expr(source: &Source, tree: &mut [u32], st: State) -> Step
+    requires { Ready (text source.now) st }
+    ensures { Parses n-expression (Node ExprKind) (text source.now) st tree.old tree.new result }
 {
     if st.class == class::LBRACE {
-        let step = block(draft, tokens, count, tree, st);
+        let step = block(source, tree, st);
         return step;
     }
-    single(draft, tokens, count, tree, st)
+    single(source, tree, st)
 }
 
 // `{ elements }`. `Expression::parser`.
 #[cycle(expression)]
 #[inline(never)]
-pub(crate) fn block(draft: &[u8], tokens: &[u32], count: usize, tree: &mut [u32], st: State) -> Step
-    requires ready { Ready (text draft.now tokens.now count) st }
+pub(crate) fn block(source: &Source, tree: &mut [u32], st: State) -> Step
+    requires ready { Ready (text source.now) st }
     requires class_value { st.class ≡ t.LBrace }
-    ensures { Parses n-block (Node ExprKind) draft.now tokens.now count st tree.old tree.new result }
+    ensures { Parses n-block (Node ExprKind) (text source.now) st tree.old tree.new result }
 {
-    let a = token::advance(draft, tokens, count, tree::reserve(st));
-    let inner = elems(draft, tokens, count, tree, a);
+    let a = source.advance(tree::reserve(st));
+    let inner = elems(source, tree, a);
     let Step::Next(b, last, _) = inner else {
         return inner;
     };
-    let brace = token::eat(draft, tokens, count, b, class::RBRACE);
+    let brace = source.eat(b, class::RBRACE);
     let Step::Next(z, _, _) = brace else {
         return brace;
     };
-    tree::close(tree, st, z, kind::BLOCK, last, 0);
+    tree::close(tree, st, z, Kind::Block, last, 0);
     Step::Next(z, 0, 0)
 }
 
 // What stands between the braces of a block, and 1 if its last element is an expression without `;`. `split_block_body`, `Statement::parser`.
 #[cycle(expression)]
 #[inline(always)]
-fn elems(draft: &[u8], tokens: &[u32], count: usize, tree: &mut [u32], st: State) -> Step
-    requires { Ready (text draft.now tokens.now count) st }
-    ensures { Parses n-elements Elements draft.now tokens.now count st tree.old tree.new result }
+fn elems(source: &Source, tree: &mut [u32], st: State) -> Step
+    requires { Ready (text source.now) st }
+    ensures { Parses n-elements Elements (text source.now) st tree.old tree.new result }
 {
     let mut here = st;
     while here.class != class::RBRACE {
         if here.class == class::LET {
-            let statement = assign(draft, tokens, count, tree, here);
+            let statement = assign(source, tree, here);
             let Step::Next(a, _, _) = statement else {
                 return statement;
             };
-            let semi = token::eat(draft, tokens, count, a, class::SEMI);
+            let semi = source.eat(a, class::SEMI);
             let Step::Next(b, _, _) = semi else {
                 return semi;
             };
             here = b;
         } else {
-            let inner = expr(draft, tokens, count, tree, here);
+            let inner = expr(source, tree, here);
             let Step::Next(d, _, _) = inner else {
                 return inner;
             };
             if d.class != class::SEMI {
                 return Step::Next(d, 1, 0);
             }
-            here = token::advance(draft, tokens, count, d);
+            here = source.advance(d);
         }
     }
     Step::Next(here, 0, 0)
@@ -120,33 +122,33 @@ fn elems(draft: &[u8], tokens: &[u32], count: usize, tree: &mut [u32], st: State
 // `let p: T = e`. `Assignment::parser`.
 #[cycle(expression)]
 #[inline(always)]
-fn assign(draft: &[u8], tokens: &[u32], count: usize, tree: &mut [u32], st: State) -> Step
-    requires ready { Ready (text draft.now tokens.now count) st }
+fn assign(source: &Source, tree: &mut [u32], st: State) -> Step
+    requires ready { Ready (text source.now) st }
     requires class_value { st.class ≡ t.Let }
-    ensures { Parses n-assignment (Node LetKind) draft.now tokens.now count st tree.old tree.new result }
+    ensures { Parses n-assignment (Node LetKind) (text source.now) st tree.old tree.new result }
 {
-    let a = token::advance(draft, tokens, count, tree::reserve(st));
-    let left = pattern::pattern(draft, tokens, count, tree, a);
+    let a = source.advance(tree::reserve(st));
+    let left = pattern::pattern(source, tree, a);
     let Step::Next(b, _, _) = left else {
         return left;
     };
-    let colon = token::eat(draft, tokens, count, b, class::COLON);
+    let colon = source.eat(b, class::COLON);
     let Step::Next(d, _, _) = colon else {
         return colon;
     };
-    let middle = types::ty(draft, tokens, count, tree, d);
+    let middle = types::ty(source, tree, d);
     let Step::Next(f, _, _) = middle else {
         return middle;
     };
-    let equal = token::eat(draft, tokens, count, f, class::EQ);
+    let equal = source.eat(f, class::EQ);
     let Step::Next(g, _, _) = equal else {
         return equal;
     };
-    let right = expr(draft, tokens, count, tree, g);
+    let right = expr(source, tree, g);
     let Step::Next(z, _, _) = right else {
         return right;
     };
-    tree::close(tree, st, z, kind::LET, 0, 0);
+    tree::close(tree, st, z, Kind::Let, 0, 0);
     Step::Next(z, 0, 0)
 }
 
@@ -154,29 +156,23 @@ fn assign(draft: &[u8], tokens: &[u32], count: usize, tree: &mut [u32], st: Stat
 // other answers stay in registers.
 #[cycle(expression)]
 #[inline(always)]
-pub(crate) fn single(
-    draft: &[u8],
-    tokens: &[u32],
-    count: usize,
-    tree: &mut [u32],
-    st: State,
-) -> Step
-    requires { Ready (text draft.now tokens.now count) st }
-    ensures { Parses n-single (Node ExprKind) draft.now tokens.now count st tree.old tree.new result }
+pub(crate) fn single(source: &Source, tree: &mut [u32], st: State) -> Step
+    requires { Ready (text source.now) st }
+    ensures { Parses n-single (Node ExprKind) (text source.now) st tree.old tree.new result }
 {
     let step = match choice::singles(st.class) {
-        choice::LITERAL => return literal(draft, tokens, count, tree, st),
-        choice::PARENS => parens(draft, tokens, count, tree, st),
-        choice::ARRAY => array(draft, tokens, count, tree, st),
-        choice::LIST => list(draft, tokens, count, tree, st),
-        choice::MATCH => cases(draft, tokens, count, tree, st),
-        choice::SIMPLE_CALL => c::simple(draft, tokens, count, tree, st),
-        choice::CAST_CALL => c::cast(draft, tokens, count, tree, st),
-        choice::NAMED => return c::named(draft, tokens, count, tree, st),
-        choice::BARE => c::bare(draft, tokens, count, tree, st),
-        choice::TYPED => c::generic(draft, tokens, count, tree, st, choice::TYPED),
-        choice::FOLDING => c::generic(draft, tokens, count, tree, st, choice::FOLDING),
-        choice::FOR_WHILE => c::generic(draft, tokens, count, tree, st, choice::FOR_WHILE),
+        choice::LITERAL => return literal(source, tree, st),
+        choice::PARENS => parens(source, tree, st),
+        choice::ARRAY => array(source, tree, st),
+        choice::LIST => list(source, tree, st),
+        choice::MATCH => cases(source, tree, st),
+        choice::SIMPLE_CALL => c::simple(source, tree, st),
+        choice::CAST_CALL => c::cast(source, tree, st),
+        choice::NAMED => return c::named(source, tree, st),
+        choice::BARE => c::bare(source, tree, st),
+        choice::TYPED => c::generic(source, tree, st, choice::TYPED),
+        choice::FOLDING => c::generic(source, tree, st, choice::FOLDING),
+        choice::FOR_WHILE => c::generic(source, tree, st, choice::FOR_WHILE),
         _ => return Step::Refused(st.at),
     };
     step
@@ -185,17 +181,17 @@ pub(crate) fn single(
 // `(e)`, or a tuple.
 #[cycle(expression)]
 #[inline(never)]
-fn parens(draft: &[u8], tokens: &[u32], count: usize, tree: &mut [u32], st: State) -> Step
-    requires ready { Ready (text draft.now tokens.now count) st }
+fn parens(source: &Source, tree: &mut [u32], st: State) -> Step
+    requires ready { Ready (text source.now) st }
     requires class_value { choose table n-single st.class ≡ choice.Parens }
-    ensures { Parses n-single (Node ExprKind) draft.now tokens.now count st tree.old tree.new result }
+    ensures { Parses n-single (Node ExprKind) (text source.now) st tree.old tree.new result }
 {
-    let a = token::advance(draft, tokens, count, tree::reserve(st));
-    let inner = exprs(draft, tokens, count, tree, a);
+    let a = source.advance(tree::reserve(st));
+    let inner = exprs(source, tree, a);
     let Step::Next(b, lone, _) = inner else {
         return inner;
     };
-    let paren = token::eat(draft, tokens, count, b, class::RPAREN);
+    let paren = source.eat(b, class::RPAREN);
     let Step::Next(z, _, _) = paren else {
         return paren;
     };
@@ -203,7 +199,7 @@ fn parens(draft: &[u8], tokens: &[u32], count: usize, tree: &mut [u32], st: Stat
         tree,
         st,
         z,
-        only(lone, kind::PARENTHESISED, kind::TUPLE),
+        only(lone, Kind::Parenthesised, Kind::Tuple),
         0,
         0,
     );
@@ -213,67 +209,67 @@ fn parens(draft: &[u8], tokens: &[u32], count: usize, tree: &mut [u32], st: Stat
 // `[e, …]`
 #[cycle(expression)]
 #[inline(never)]
-fn array(draft: &[u8], tokens: &[u32], count: usize, tree: &mut [u32], st: State) -> Step
-    requires ready { Ready (text draft.now tokens.now count) st }
+fn array(source: &Source, tree: &mut [u32], st: State) -> Step
+    requires ready { Ready (text source.now) st }
     requires class_value { choose table n-single st.class ≡ choice.Array }
-    ensures { Parses n-single (Node ExprKind) draft.now tokens.now count st tree.old tree.new result }
+    ensures { Parses n-single (Node ExprKind) (text source.now) st tree.old tree.new result }
 {
-    let a = token::advance(draft, tokens, count, tree::reserve(st));
-    let inner = exprs(draft, tokens, count, tree, a);
+    let a = source.advance(tree::reserve(st));
+    let inner = exprs(source, tree, a);
     let Step::Next(b, _, _) = inner else {
         return inner;
     };
-    let bracket = token::eat(draft, tokens, count, b, class::RBRACKET);
+    let bracket = source.eat(b, class::RBRACKET);
     let Step::Next(z, _, _) = bracket else {
         return bracket;
     };
-    tree::close(tree, st, z, kind::ARRAY, 0, 0);
+    tree::close(tree, st, z, Kind::Array, 0, 0);
     Step::Next(z, 0, 0)
 }
 
 // `list![e, …]`
 #[cycle(expression)]
 #[inline(never)]
-fn list(draft: &[u8], tokens: &[u32], count: usize, tree: &mut [u32], st: State) -> Step
-    requires ready { Ready (text draft.now tokens.now count) st }
+fn list(source: &Source, tree: &mut [u32], st: State) -> Step
+    requires ready { Ready (text source.now) st }
     requires class_value { choose table n-single st.class ≡ choice.List }
-    ensures { Parses n-single (Node ExprKind) draft.now tokens.now count st tree.old tree.new result }
+    ensures { Parses n-single (Node ExprKind) (text source.now) st tree.old tree.new result }
 {
-    let a = token::advance(draft, tokens, count, tree::reserve(st));
-    let open = token::eat(draft, tokens, count, a, class::LBRACKET);
+    let a = source.advance(tree::reserve(st));
+    let open = source.eat(a, class::LBRACKET);
     let Step::Next(b, _, _) = open else {
         return open;
     };
-    let inner = exprs(draft, tokens, count, tree, b);
+    let inner = exprs(source, tree, b);
     let Step::Next(d, _, _) = inner else {
         return inner;
     };
-    let bracket = token::eat(draft, tokens, count, d, class::RBRACKET);
+    let bracket = source.eat(d, class::RBRACKET);
     let Step::Next(z, _, _) = bracket else {
         return bracket;
     };
-    tree::close(tree, st, z, kind::LIST, 0, 0);
+    tree::close(tree, st, z, Kind::List, 0, 0);
     Step::Next(z, 0, 0)
 }
 
 // Expressions with commas between them, up to what closes them; and 1 if it is one without a comma.
 #[cycle(expression)]
 #[inline(always)]
-pub(crate) fn exprs(draft: &[u8], tokens: &[u32], count: usize, tree: &mut [u32], st: State) -> Step
-    requires { Ready (text draft.now tokens.now count) st }
-    ensures { Parses n-list-expression Lone draft.now tokens.now count st tree.old tree.new result }
+pub(crate) fn exprs(source: &Source, tree: &mut [u32], st: State) -> Step
+    requires { Ready (text source.now) st }
+    ensures { Parses n-list-expression Lone (text source.now) st tree.old tree.new result }
 {
     let mut here = st;
     let mut lone = 0;
     while !token::closes(here.class) {
-        let inner = expr(draft, tokens, count, tree, here);
+        let inner = expr(source, tree, here);
         let Step::Next(a, _, _) = inner else {
             return inner;
         };
         if a.class != class::COMMA {
             return Step::Next(a, first(lone), 0);
         }
-        here = token::advance(draft, tokens, count, a);
+        here = source.advance(a);
         lone = 2;
     }
     Step::Next(here, lone, 0)
@@ -282,25 +278,25 @@ pub(crate) fn exprs(draft: &[u8], tokens: &[u32], count: usize, tree: &mut [u32]
 // `match e { arms }`. `match_expr_parser`, `assemble_match_arms`.
 #[cycle(expression)]
 #[inline(never)]
-fn cases(draft: &[u8], tokens: &[u32], count: usize, tree: &mut [u32], st: State) -> Step
-    requires ready { Ready (text draft.now tokens.now count) st }
+fn cases(source: &Source, tree: &mut [u32], st: State) -> Step
+    requires ready { Ready (text source.now) st }
     requires class_value { choose table n-single st.class ≡ choice.Match }
-    ensures { Parses n-single (Node ExprKind) draft.now tokens.now count st tree.old tree.new result }
+    ensures { Parses n-single (Node ExprKind) (text source.now) st tree.old tree.new result }
 {
-    let a = token::advance(draft, tokens, count, tree::reserve(fault::clean(st)));
-    let inner = expr(draft, tokens, count, tree, a);
+    let a = source.advance(tree::reserve(fault::clean(st)));
+    let inner = expr(source, tree, a);
     let Step::Next(b, _, _) = inner else {
         return inner;
     };
-    let open = token::eat(draft, tokens, count, b, class::LBRACE);
+    let open = source.eat(b, class::LBRACE);
     let Step::Next(d, _, _) = open else {
         return open;
     };
-    let rest = arms(draft, tokens, count, tree, d);
+    let rest = arms(source, tree, d);
     let Step::Next(f, order, mid) = rest else {
         return rest;
     };
-    let brace = token::eat(draft, tokens, count, f, class::RBRACE);
+    let brace = source.eat(f, class::RBRACE);
     let Step::Next(g, _, _) = brace else {
         return brace;
     };
@@ -313,16 +309,16 @@ fn cases(draft: &[u8], tokens: &[u32], count: usize, tree: &mut [u32], st: State
 // Arms, up to the brace that closes them; their order, and the first record after the first of them.
 #[cycle(expression)]
 #[inline(always)]
-fn arms(draft: &[u8], tokens: &[u32], count: usize, tree: &mut [u32], st: State) -> Step
-    requires ready { Ready (text draft.now tokens.now count) st }
+fn arms(source: &Source, tree: &mut [u32], st: State) -> Step
+    requires ready { Ready (text source.now) st }
     requires out_lt_at { st.out < st.at }
-    ensures { Parses n-many-arm (Arms st) draft.now tokens.now count st tree.old tree.new result }
+    ensures { Parses n-many-arm (Arms st) (text source.now) st tree.old tree.new result }
 {
     let mut here = st;
     let mut order = 0;
     let mut mid = st.out;
     while here.class != class::RBRACE {
-        let inner = arm(draft, tokens, count, tree, here);
+        let inner = arm(source, tree, here);
         let Step::Next(a, kind, low) = inner else {
             return inner;
         };
@@ -336,51 +332,51 @@ fn arms(draft: &[u8], tokens: &[u32], count: usize, tree: &mut [u32], st: State)
 // An arm; its kind and low. `match_arm_parser`.
 #[cycle(expression)]
 #[inline(always)]
-fn arm(draft: &[u8], tokens: &[u32], count: usize, tree: &mut [u32], st: State) -> Step
-    requires ready { Ready (text draft.now tokens.now count) st }
+fn arm(source: &Source, tree: &mut [u32], st: State) -> Step
+    requires ready { Ready (text source.now) st }
     requires out_lt_at { st.out < st.at }
-    ensures { Parses n-arm Arm draft.now tokens.now count st tree.old tree.new result }
+    ensures { Parses n-arm Arm (text source.now) st tree.old tree.new result }
 {
-    let head = heads::head(draft, tokens, count, tree, tree::reserve(st));
+    let head = heads::head(source, tree, tree::reserve(st));
     let Step::Next(a, number, other) = head else {
         return head;
     };
-    let arrow = token::eat(draft, tokens, count, a, class::FAT_ARROW);
+    let arrow = source.eat(a, class::FAT_ARROW);
     let Step::Next(b, _, _) = arrow else {
         return arrow;
     };
-    let rest = body(draft, tokens, count, tree, b);
+    let rest = body(source, tree, b);
     let Step::Next(z, _, _) = rest else {
         return rest;
     };
     let h = arms::head(number, other);
     tree::close(tree, st, z, h.kind, h.low, h.high);
-    Step::Next(z, h.kind, h.low)
+    Step::Next(z, u32::from(h.kind), h.low)
 }
 
 // What an arm has behind its fat arrow: a block, or an expression and a comma; after a block the comma may be missing.
 #[cycle(expression)]
 #[inline(always)]
-fn body(draft: &[u8], tokens: &[u32], count: usize, tree: &mut [u32], st: State) -> Step
-    requires { Ready (text draft.now tokens.now count) st }
-    ensures { Parses n-arm-choice Body draft.now tokens.now count st tree.old tree.new result }
+fn body(source: &Source, tree: &mut [u32], st: State) -> Step
+    requires { Ready (text source.now) st }
+    ensures { Parses n-arm-choice Body (text source.now) st tree.old tree.new result }
 {
     if st.class == class::LBRACE {
-        let inner = block(draft, tokens, count, tree, st);
+        let inner = block(source, tree, st);
         let Step::Next(a, _, _) = inner else {
             return inner;
         };
         if a.class == class::COMMA {
-            let b = token::advance(draft, tokens, count, a);
+            let b = source.advance(a);
             return Step::Next(b, 0, 0);
         }
         return Step::Next(a, 0, 0);
     }
-    let other = single(draft, tokens, count, tree, st);
+    let other = single(source, tree, st);
     let Step::Next(d, _, _) = other else {
         return other;
     };
-    let comma = token::eat(draft, tokens, count, d, class::COMMA);
+    let comma = source.eat(d, class::COMMA);
     let Step::Next(z, _, _) = comma else {
         return comma;
     };

@@ -5,60 +5,62 @@ ghost use Rattle.grammar.specs.Shapes.TablesIndex.{n-type_item, n-file};
 ghost use Rattle.parse.specs.Contract.{text, Ready, Parses, Node, u32_count};
 ghost use Rattle.parse.specs.Infos.{TypeItemKind, ItemKind, item_at, FileItems, behind, FileRead};
 
-use crate::{State, Step, names, program, token, tree, types};
+use crate::names::NameSort;
+use crate::token::Source;
+use crate::{State, Step, names, program, tree, types};
 use lexer::classes as class;
-use own::kind;
+use own::kind::Kind;
 use text::RECORD_WORDS;
 
 // The class of the end, where no token stands.
 const END: u32 = 0;
 
 // `type name = T;`, where `type` stands.
-fn type_item(draft: &[u8], tokens: &[u32], count: usize, tree: &mut [u32], st: State) -> Step
-    requires ready { Ready (text draft.now tokens.now count) st }
+fn type_item(source: &Source, tree: &mut [u32], st: State) -> Step
+    requires ready { Ready (text source.now) st }
     requires class_value { st.class ≡ t.«Type» }
-    ensures { Parses n-type_item (Node TypeItemKind) draft.now tokens.now count st tree.old tree.new result }
+    ensures { Parses n-type_item (Node TypeItemKind) (text source.now) st tree.old tree.new result }
 {
-    let a = token::advance(draft, tokens, count, tree::reserve(st));
-    let name = names::alias_name(draft, tokens, count, tree, a);
+    let a = source.advance(tree::reserve(st));
+    let name = names::name(source, tree, a, NameSort::Alias);
     let Step::Next(b, _, _) = name else {
         return name;
     };
-    let equals = token::eat(draft, tokens, count, b, class::EQ);
+    let equals = source.eat(b, class::EQ);
     let Step::Next(d, _, _) = equals else {
         return equals;
     };
-    let inner = types::ty(draft, tokens, count, tree, d);
+    let inner = types::ty(source, tree, d);
     let Step::Next(f, _, _) = inner else {
         return inner;
     };
-    let semi = token::eat(draft, tokens, count, f, class::SEMI);
+    let semi = source.eat(f, class::SEMI);
     let Step::Next(z, _, _) = semi else {
         return semi;
     };
-    tree::close(tree, st, z, kind::TYPE_ITEM, 0, 0);
+    tree::close(tree, st, z, Kind::TypeItem, 0, 0);
     Step::Next(z, 0, 0)
 }
 
 // A type item where `type` stands, otherwise a function.
-fn item(draft: &[u8], tokens: &[u32], count: usize, tree: &mut [u32], st: State) -> Step
-    requires { Ready (text draft.now tokens.now count) st }
-    ensures { Parses (item_at st.class) (Node ItemKind) draft.now tokens.now count st tree.old tree.new result }
+fn item(source: &Source, tree: &mut [u32], st: State) -> Step
+    requires { Ready (text source.now) st }
+    ensures { Parses (item_at st.class) (Node ItemKind) (text source.now) st tree.old tree.new result }
 {
     if st.class == class::TYPE {
-        return type_item(draft, tokens, count, tree, st);
+        return type_item(source, tree, st);
     }
-    program::function(draft, tokens, count, tree, st)
+    program::function(source, tree, st)
 }
 
 // Items one after the other, up to the end.
-fn items(draft: &[u8], tokens: &[u32], count: usize, tree: &mut [u32], st: State) -> Step
-    requires { Ready (text draft.now tokens.now count) st }
-    ensures { Parses n-file FileItems draft.now tokens.now count st tree.old tree.new result }
+fn items(source: &Source, tree: &mut [u32], st: State) -> Step
+    requires { Ready (text source.now) st }
+    ensures { Parses n-file FileItems (text source.now) st tree.old tree.new result }
 {
     let mut here = st;
     while here.class != END {
-        let inner = item(draft, tokens, count, tree, here);
+        let inner = item(source, tree, here);
         let Step::Next(a, _, _) = inner else {
             return inner;
         };
@@ -68,27 +70,25 @@ fn items(draft: &[u8], tokens: &[u32], count: usize, tree: &mut [u32], st: State
 }
 
 // Where the words behind the first record begin, in a buffer of so many; its end if it is shorter.
+#[tactic(auto, unfolding(crate::specs::Infos::behind))]
 fn first_words(size: usize) -> usize
     ensures { result ≡ behind size }
 {
-    if size < RECORD_WORDS {
-        return size;
-    }
-    RECORD_WORDS
+    size.min(RECORD_WORDS)
 }
 
 // A whole file: its items behind the first record, and then that record, over all of the draft.
-pub(crate) fn file(draft: &[u8], tokens: &[u32], count: usize, tree: &mut [u32], st: State) -> Step
-    requires ready { Ready (text draft.now tokens.now count) st }
-    requires draft_len_bound { length draft.now < u32_count }
-    ensures { FileRead (text draft.now tokens.now count) (length draft.now) st tree.old tree.new result }
+pub(crate) fn file(source: &Source, tree: &mut [u32], st: State) -> Step
+    requires ready { Ready (text source.now) st }
+    requires draft_len_bound { length source.now.draft.now < u32_count }
+    ensures { FileRead (text source.now) (length source.now.draft.now) st tree.old tree.new result }
 {
     let from = first_words(tree.len());
-    let step = items(draft, tokens, count, &mut tree[from..], st);
+    let step = items(source, &mut tree[from..], st);
     let Step::Next(z, _, _) = step else {
         return step;
     };
     let all = tree::reserve(z);
-    tree::top(tree, draft.len() as u32, all.out);
+    tree::top(tree, source.draft.len() as u32, all.out);
     Step::Next(all, 0, 0)
 }

@@ -24,8 +24,11 @@ mod token;
 mod tree;
 mod types;
 
+use fault::Fault;
+use text::refusal::Refused;
+
 // Where the parser stands: the number of the next token with its class, start and end; the end of the token before it; how many records
-// there are so far; and the earliest refusal of a shape, its number (0 for none) and place.
+// there are so far; and the earliest refusal of a shape, if there is one.
 #[derive(Clone, Copy)]
 struct State {
     at: usize,
@@ -34,51 +37,70 @@ struct State {
     stop: u32,
     end: u32,
     out: u32,
-    fault: u32,
-    place: u32,
+    fault: Option<Fault>,
 }
 
 // What a step of the parser answers: the next state, with two numbers that some steps have besides; or the token where it is stuck.
+// Document 01 names this form: an enum whose answers are taken apart by `let .. else`.
 #[derive(Clone, Copy)]
 enum Step {
     Next(State, u32, u32),
     Refused(usize),
 }
 
-// What is handed over: so many records; or a refusal by its number, at a place.
-#[derive(Drop)]
-pub enum Answer {
-    Records(usize),
-    Refused { number: u32, place: usize },
+// What a draft is read as: one function, or a file of functions and type items.
+#[derive(Clone, Copy, PartialEq, Eq, Debug)]
+pub enum ReadAs {
+    Function,
+    File,
 }
 
-// Writes the records of one function, a draft with so many tokens, `RECORD_WORDS` words each, and zeros behind them; on a refusal every word is 0. The last
-// word of each record, its way up, is 0 too: crate `up` fills it.
-pub fn parse(draft: &[u8], tokens: &[u32], count: usize, tree: &mut [u32]) -> Answer
+// Writes the records of one function and says how many: a draft with so many tokens, `RECORD_WORDS` words each, and zeros behind them; on a refusal
+// every word is 0. The last word of each record, its way up, is 0 too: crate `up` fills it.
+pub fn parse(draft: &[u8], tokens: &[u32], count: usize, tree: &mut [u32]) -> Result<usize, Refused>
     ensures answer { meant count result ≡ answer_of single_function draft_limits.tokens draft.now tokens.now count (length tree.old) }
     ensures tree { tree.new ≡ tree_of single_function draft_limits.tokens draft.now tokens.now count (length tree.old) }
 {
-    entry::parse_within(draft, tokens, count, tree, lexer::DRAFT_TOKENS, false)
+    entry::parse_within(
+        draft,
+        tokens,
+        count,
+        tree,
+        lexer::DRAFT_TOKENS,
+        ReadAs::Function,
+    )
 }
 
 // The same of a file: its first record is that of the whole file.
-pub fn parse_file(draft: &[u8], tokens: &[u32], count: usize, tree: &mut [u32]) -> Answer
+pub fn parse_file(
+    draft: &[u8],
+    tokens: &[u32],
+    count: usize,
+    tree: &mut [u32],
+) -> Result<usize, Refused>
     ensures answer { meant count result ≡ answer_of whole_file draft_limits.tokens draft.now tokens.now count (length tree.old) }
     ensures tree { tree.new ≡ tree_of whole_file draft_limits.tokens draft.now tokens.now count (length tree.old) }
 {
-    entry::parse_within(draft, tokens, count, tree, lexer::DRAFT_TOKENS, true)
+    entry::parse_within(
+        draft,
+        tokens,
+        count,
+        tree,
+        lexer::DRAFT_TOKENS,
+        ReadAs::File,
+    )
 }
 
-// As `parse_file`, or as `parse` where it is no file, for a caller that needs no zeros: the words behind the records stay; on a refusal the words may be anything.
+// As `parse` or `parse_file`, for a caller that needs no zeros: the words behind the records stay; on a refusal the words may be anything.
 pub fn parse_front(
     draft: &[u8],
     tokens: &[u32],
     count: usize,
     tree: &mut [u32],
-    file: bool,
-) -> Answer
-    ensures answer { meant count result ≡ answer_of (entry_of file) draft_limits.tokens draft.now tokens.now count (length tree.old) }
-    ensures held { Held (meant count result) (rec_words (records_in (reading_of (entry_of file) draft.now (tokens_in count tokens.now)))) tree.old tree.new }
+    what: ReadAs,
+) -> Result<usize, Refused>
+    ensures answer { meant count result ≡ answer_of (entry_of what) draft_limits.tokens draft.now tokens.now count (length tree.old) }
+    ensures held { Held (meant count result) (rec_words (records_in (reading_of (entry_of what) draft.now (tokens_in count tokens.now)))) tree.old tree.new }
 {
-    entry::parse_front_within(draft, tokens, count, tree, lexer::DRAFT_TOKENS, file)
+    entry::parse_front_within(draft, tokens, count, tree, lexer::DRAFT_TOKENS, what)
 }

@@ -6,7 +6,8 @@ use Rattle.std.proofs.Common.{ap, arith, ltb-true, ltb-false, le-ltb}
 use Rattle.lexer.specs.Limits.{draft_limits}
 use Rattle.own.specs.Tree.{Rec}
 use Rattle.text.specs.Widths.{tok_wide, rec_wide}
-use Rattle.text.specs.Refusals as refusal
+use Rattle.text.specs.Refusals.{refusal_number}
+use Rattle.text.specs.declared.refusal.Refusal.TheVariants as refusal
 use Rattle.grammar.specs.Entry.{whole_file}
 use Rattle.text.specs.Answers.{Answer, accepted, refused}
 use Rattle.grammar.specs.Answers.Answer.{Reading, unread, read, reading, answer, fitted, records_in, records_read}
@@ -21,8 +22,8 @@ use Rattle.reader.specs.Fits.{most, enough}
 one_line : (c p : ℕ) (rs : List Rec) → length (lines (listed (refused c p) rs)) ≤ enough
 one_line c p rs = let h = lines-length (listed (refused c p) rs) in omega (arith, h)
 
-by-room : (n : ℕ) (rs : List Rec) (b : Bool) → ltb (rec_wide * most) (rec_wide * length rs) ≡ b → length (lines (listed (cond b (refused refusal.NoRoom 0) (accepted n (length rs))) rs)) ≤ enough
-by-room n rs true e = one_line refusal.NoRoom 0 rs
+by-room : (n : ℕ) (rs : List Rec) (b : Bool) → ltb (rec_wide * most) (rec_wide * length rs) ≡ b → length (lines (listed (cond b (refused (refusal_number refusal.NoRoom) 0) (accepted n (length rs))) rs)) ≤ enough
+by-room n rs true e = one_line (refusal_number refusal.NoRoom) 0 rs
 by-room n rs false e =
     let h = lines-length rs in
     let k : rec_wide * length rs ≤ rec_wide * most = ltb-false (rec_wide * most) (rec_wide * length rs) e in

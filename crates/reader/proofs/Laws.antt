@@ -16,7 +16,8 @@ use Rattle.lexer.specs.Buffer.{tokens_in}
 use Rattle.lexer.proofs.Fits.{not-both, lexed-fits, lexed-short, read-back, words-fit, tokens-cleared}
 use Rattle.text.specs.Widths.{tok_wide, rec_wide}
 use Rattle.text.specs.Answers.{Answer, accepted, refused}
-use Rattle.text.specs.Refusals as refusal
+use Rattle.text.specs.Refusals.{refusal_number}
+use Rattle.text.specs.declared.refusal.Refusal.TheVariants as refusal
 use Rattle.own.specs.Tree.{Rec, classes_of}
 use Rattle.own.specs.Words.{rec_words}
 use Rattle.own.proofs.WordLaws.{record-words-length}
@@ -39,7 +40,7 @@ as-many : (space : ℕ) (x : Reading) {n m : ℕ} → fitted space x ≡ accepte
 as-many space (unread c p) e = absurd (not-both e)
 as-many space (read ts rs) {n} {m} e = go (ltb space (rec_wide * length rs)) e
   where
-    go : (b : Bool) → cond b (refused refusal.NoRoom 0) (accepted (length ts) (length rs)) ≡ accepted n m → m ≡ length rs
+    go : (b : Bool) → cond b (refused (refusal_number refusal.NoRoom) 0) (accepted (length ts) (length rs)) ≡ accepted n m → m ≡ length rs
     go true f = absurd (not-both f)
     go false f = sym (ap records_of f)
 
@@ -84,7 +85,7 @@ module _ (en : Entry) (draft words : List ℕ) (n rw : ℕ) (e : lexed_of draft_
   pub parsed-answer : answer_of en draft_limits.tokens draft words n rw ≡ answer en draft_limits draft (length words) rw
   unfolding answer_of
   parsed-answer =
-      ap₂ (λ (b c : Bool). cond b (refused refusal.TooMany 0) (cond c (refused refusal.TooLong 0) (fitted rw (reading_of en draft (tokens_in n words))))) not-many not-long ∙ sym its-answer
+      ap₂ (λ (b c : Bool). cond b (refused (refusal_number refusal.TooMany) 0) (cond c (refused (refusal_number refusal.TooLong) 0) (fitted rw (reading_of en draft (tokens_in n words))))) not-many not-long ∙ sym its-answer
 
   -- and where the draft is accepted its records, given their ways up, are at the front of the buffer.
   pub parsed-raised : (old : List ℕ) {out : List ℕ} {k m : ℕ} → answer en draft_limits draft (length words) rw ≡ accepted k m

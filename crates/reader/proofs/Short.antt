@@ -12,7 +12,8 @@ use Rattle.lexer.specs.Limits.{Limits, limits_of, draft_limits, first_too_deep, 
 use Rattle.lexer.proofs.Fits.{lexed-fits}
 use Rattle.lexer.proofs.Tokens.{Between, tokens-between}
 use Rattle.text.specs.Widths.{tok_wide, rec_wide}
-use Rattle.text.specs.Refusals as refusal
+use Rattle.text.specs.Refusals.{refusal_number}
+use Rattle.text.specs.declared.refusal.Refusal.TheVariants as refusal
 use Rattle.grammar.specs.Entry.{Entry, whole_file, over}
 use Rattle.text.specs.Answers.{Answer, accepted, refused}
 use Rattle.grammar.specs.Answers.Answer.{Reading, unread, read, lexed, reading, answer, fitted, records_in, records_read}
@@ -43,13 +44,13 @@ module _ (draft : List ℕ) (k : ℕ) (few : length (tokens_of (lexemes draft)) 
   judged-roomy l tw h (refused_at c p) e = refl
   judged-roomy l tw h (tokens ts) e =
       let n = ap (λ (x : Lexemes). length (tokens_of x)) e in
-      ap (λ (b : Bool). cond b (refused refusal.TooMany (get_or ts (room l tw) no_token).start) (deep (first_too_deep 0 0 ts) (length ts))) (le-ltb (room l tw) (length ts) (omega (arith, n, few, h)))
+      ap (λ (b : Bool). cond b (refused (refusal_number refusal.TooMany) (get_or ts (room l tw) no_token).start) (deep (first_too_deep 0 0 ts) (length ts))) (le-ltb (room l tw) (length ts) (omega (arith, n, few, h)))
 
   reading-roomy : (en : Entry) (bytes count tw : ℕ) → k ≤ room (limits_of bytes count) tw
-      → reading en (limits_of bytes count) draft tw ≡ lexed en (cond (ltb bytes (length draft)) (refused refusal.TooLong bytes) (roomy (lexemes draft))) draft (tokens_of (lexemes draft))
+      → reading en (limits_of bytes count) draft tw ≡ lexed en (cond (ltb bytes (length draft)) (refused (refusal_number refusal.TooLong) bytes) (roomy (lexemes draft))) draft (tokens_of (lexemes draft))
   unfolding reading lexed_of
   reading-roomy en bytes count tw h =
-      ap (λ (x : Answer). lexed en (cond (ltb bytes (length draft)) (refused refusal.TooLong bytes) x) draft (tokens_of (lexemes draft))) (judged-roomy (limits_of bytes count) tw h (lexemes draft) refl)
+      ap (λ (x : Answer). lexed en (cond (ltb bytes (length draft)) (refused (refusal_number refusal.TooLong) bytes) x) draft (tokens_of (lexemes draft))) (judged-roomy (limits_of bytes count) tw h (lexemes draft) refl)
 
   -- the reading is the same with any limit of tokens and any buffer that have room for k tokens,
   same-reading : (en : Entry) (bytes count tw count' tw' : ℕ) → k ≤ room (limits_of bytes count) tw → k ≤ room (limits_of bytes count') tw'
@@ -63,7 +64,7 @@ module _ (draft : List ℕ) (k : ℕ) (few : length (tokens_of (lexemes draft)) 
     unfolding answer
     records-fit rw rw' h h' (unread c p) e = refl
     records-fit rw rw' h h' (read ts rs) e =
-        ap (λ (b : Bool). cond b (refused refusal.NoRoom 0) (accepted (length ts) (length rs))) (enough rw h ∙ sym (enough rw' h'))
+        ap (λ (b : Bool). cond b (refused (refusal_number refusal.NoRoom) 0) (accepted (length ts) (length rs))) (enough rw h ∙ sym (enough rw' h'))
       where
         enough : (rw : ℕ) → rec_wide * (over en + k) ≤ rw → ltb rw (rec_wide * length rs) ≡ false
         enough rw h = go (ltb rw (rec_wide * length rs)) refl
@@ -71,7 +72,7 @@ module _ (draft : List ℕ) (k : ℕ) (few : length (tokens_of (lexemes draft)) 
             go : (b : Bool) → ltb rw (rec_wide * length rs) ≡ b → b ≡ false
             go false q = refl
             go true q = absurd (space-enough en (limits_of bytes k) draft (tok_wide * k) rw h 0
-                (ap (fitted rw) e ∙ ap (λ (b : Bool). cond b (refused refusal.NoRoom 0) (accepted (length ts) (length rs))) q))
+                (ap (fitted rw) e ∙ ap (λ (b : Bool). cond b (refused (refusal_number refusal.NoRoom) 0) (accepted (length ts) (length rs))) q))
 
   -- So the listing is the same by any buffers that have room for k tokens;
   pub same-tokens : (tw tw' rw : ℕ) → k ≤ room draft_limits tw → k ≤ room draft_limits tw' → listing whole_file draft_limits draft tw rw ≡ listing whole_file draft_limits draft tw' rw

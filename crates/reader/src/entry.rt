@@ -1,18 +1,17 @@
 // The listing of a draft into a buffer of bytes, as the entry for C does it (crate togmelic).
 ghost use Rattle.std.specs.Prelude.{◌≡◌, [], ◌↔◌, ◌+◌, ◌*◌, ◌/◌, ◌<◌, ◌≤◌, length};
-ghost use Rattle.text.specs.Answers.{accepted, refused};
+ghost use Rattle.text.specs.Refusals.{refused_by};
 ghost use Rattle.text.specs.Widths.{tok_wide, rec_wide};
-ghost use Rattle.lexer.specs.Lexemes.{lexemes};
-ghost use Rattle.lexer.specs.Limits.{draft_limits, lexed_of, tokens_of};
-ghost use Rattle.lexer.specs.Buffer.{tokens_in};
+ghost use Rattle.lexer.specs.Limits.{draft_limits};
 ghost use Rattle.lines.specs.Lines.{lines};
 ghost use Rattle.lines.specs.Written.{used, padded};
 ghost use Rattle.grammar.specs.Entry.{whole_file, over};
 ghost use Rattle.grammar.specs.Answers.Lines as spec;
 ghost use Rattle.reader.specs.Listed.{records_most, listing_by, listing_of, used_of, bytes_of};
 
-use crate::Reading;
-use lexer::Lexed;
+use crate::lexed::Lexed;
+use parse::ReadAs;
+use text::refusal::Refused;
 use text::{RECORD_WORDS, TOKEN_WORDS};
 
 // A file has no more records than tokens but one, that of the whole file.
@@ -42,75 +41,64 @@ const MOST_TOKENS: usize = TOKEN_WORDS * lexer::DRAFT_TOKENS;
 const MOST_RECORDS: usize = RECORD_WORDS * (lexer::DRAFT_TOKENS + RECORDS_OVER);
 
 // Lists a refusal: kind 0, the place twice, the number as low, high 0, size 1, way up 0. A line has digits for the low part of a place.
-fn refusal(number: u32, place: usize, out: &mut [u8]) -> usize
-    ensures used { result ≡ used (lines (spec.listed (refused number place) [])) (length out.old) }
-    ensures bytes { out.new ≡ padded (lines (spec.listed (refused number place) [])) (length out.old) }
+fn refusal(refused: Refused, out: &mut [u8]) -> usize
+    ensures used { result ≡ used (lines (spec.listed (refused_by refused) [])) (length out.old) }
+    ensures bytes { out.new ≡ padded (lines (spec.listed (refused_by refused) [])) (length out.old) }
 {
-    let p = (place % lines::PLACES) as u32;
-    let mut words = [0u32; RECORD_WORDS];
-    words[1] = p;
-    words[2] = p;
-    words[3] = number;
-    words[5] = 1;
+    let place = (refused.place % lines::PLACES) as u32;
+    let words = [0, place, place, u32::from(refused.refusal), 0, 1, 0];
     lines::list(&words, 1, out)
 }
 
 // Lists a draft by way of its tokens, which stand in a buffer, and of this buffer for its tree.
-fn list_by(draft: &[u8], out: &mut [u8], tokens: &[u32], count: usize, tree: &mut [u32]) -> usize
-    requires lexed { lexed_of draft_limits draft.now (length tokens.now) ≡ accepted count 0 }
-    requires held { tokens_in count tokens.now ≡ tokens_of (lexemes draft.now) }
-    ensures used { result ≡ used (spec.listing whole_file draft_limits draft.now (length tokens.now) (length tree.old)) (length out.old) }
-    ensures bytes { out.new ≡ padded (spec.listing whole_file draft_limits draft.now (length tokens.now) (length tree.old)) (length out.old) }
+fn list_by(lexed: &Lexed, out: &mut [u8], tree: &mut [u32]) -> usize
+    ensures used { result ≡ used (spec.listing whole_file draft_limits lexed.now.draft.now (length lexed.now.words.now) (length tree.old)) (length out.old) }
+    ensures bytes { out.new ≡ padded (spec.listing whole_file draft_limits lexed.now.draft.now (length lexed.now.words.now) (length tree.old)) (length out.old) }
 {
-    let reading = crate::parsed(draft, tokens, count, tree, true);
-    match reading {
-        Reading::Accepted { tokens: _, records } => lines::list(tree, records, out),
-        Reading::Refused { number, place } => refusal(number, place, out),
+    match crate::parsed(lexed, tree, ReadAs::File) {
+        Ok(counts) => lines::list(tree, counts.records, out),
+        Err(refused) => refusal(refused, out),
     }
 }
 
 // The same by way of an array of so many words, which has room for the records of as many tokens and the one over. Out of line, so that no frame has two.
 #[inline(never)]
-fn list_in<const WORDS: usize>(draft: &[u8], out: &mut [u8], tokens: &[u32], count: usize) -> usize
-    requires lexed { lexed_of draft_limits draft.now (length tokens.now) ≡ accepted count 0 }
-    requires held { tokens_in count tokens.now ≡ tokens_of (lexemes draft.now) }
-    requires room { (rec_wide * (over whole_file + count) ≤ WORDS) × (WORDS ≤ rec_wide * records_most) }
-    ensures used { result ≡ used (listing_by draft.now (length tokens.now)) (length out.old) }
-    ensures bytes { out.new ≡ padded (listing_by draft.now (length tokens.now)) (length out.old) }
+fn list_in<const WORDS: usize>(lexed: &Lexed, out: &mut [u8]) -> usize
+    requires { (rec_wide * (over whole_file + lexed.now.count) ≤ WORDS) × (WORDS ≤ rec_wide * records_most) }
+    ensures used { result ≡ used (listing_by lexed.now.draft.now (length lexed.now.words.now)) (length out.old) }
+    ensures bytes { out.new ≡ padded (listing_by lexed.now.draft.now (length lexed.now.words.now)) (length out.old) }
 {
     let mut tree = [0u32; WORDS];
-    list_by(draft, out, tokens, count, &mut tree)
+    list_by(lexed, out, &mut tree)
 }
 
 // By way of the smallest array that has room for the records of so many tokens.
-fn list_counted(draft: &[u8], out: &mut [u8], tokens: &[u32], count: usize) -> usize
-    requires lexed { lexed_of draft_limits draft.now (length tokens.now) ≡ accepted count 0 }
-    requires held { tokens_in count tokens.now ≡ tokens_of (lexemes draft.now) }
-    ensures used { result ≡ used (listing_by draft.now (length tokens.now)) (length out.old) }
-    ensures bytes { out.new ≡ padded (listing_by draft.now (length tokens.now)) (length out.old) }
+fn list_counted(lexed: &Lexed, out: &mut [u8]) -> usize
+    ensures used { result ≡ used (listing_by lexed.now.draft.now (length lexed.now.words.now)) (length out.old) }
+    ensures bytes { out.new ≡ padded (listing_by lexed.now.draft.now (length lexed.now.words.now)) (length out.old) }
 {
-    if count < STEP_1 / RECORD_WORDS {
-        return list_in::<STEP_1>(draft, out, tokens, count);
+    if lexed.count < STEP_1 / RECORD_WORDS {
+        return list_in::<STEP_1>(lexed, out);
     }
-    if count < STEP_2 / RECORD_WORDS {
-        return list_in::<STEP_2>(draft, out, tokens, count);
+    if lexed.count < STEP_2 / RECORD_WORDS {
+        return list_in::<STEP_2>(lexed, out);
     }
-    if count < STEP_3 / RECORD_WORDS {
-        return list_in::<STEP_3>(draft, out, tokens, count);
+    if lexed.count < STEP_3 / RECORD_WORDS {
+        return list_in::<STEP_3>(lexed, out);
     }
-    if count < STEP_4 / RECORD_WORDS {
-        return list_in::<STEP_4>(draft, out, tokens, count);
+    if lexed.count < STEP_4 / RECORD_WORDS {
+        return list_in::<STEP_4>(lexed, out);
     }
-    if count < STEP_5 / RECORD_WORDS {
-        return list_in::<STEP_5>(draft, out, tokens, count);
+    if lexed.count < STEP_5 / RECORD_WORDS {
+        return list_in::<STEP_5>(lexed, out);
     }
-    if count < STEP_6 / RECORD_WORDS {
-        return list_in::<STEP_6>(draft, out, tokens, count);
+    if lexed.count < STEP_6 / RECORD_WORDS {
+        return list_in::<STEP_6>(lexed, out);
     }
-    if count < STEP_7 / RECORD_WORDS {
-        return list_in::<STEP_7>(draft, out, tokens, count);
+    if lexed.count < STEP_7 / RECORD_WORDS {
+        return list_in::<STEP_7>(lexed, out);
     }
-    list_in::<MOST_RECORDS>(draft, out, tokens, count)
+    list_in::<MOST_RECORDS>(lexed, out)
 }
 
 // Lists a draft by way of this buffer for its tokens.
@@ -118,10 +106,16 @@ fn list_lexed(draft: &[u8], out: &mut [u8], tokens: &mut [u32]) -> usize
     ensures used { result ≡ used (listing_by draft.now (length tokens.old)) (length out.old) }
     ensures bytes { out.new ≡ padded (listing_by draft.now (length tokens.old)) (length out.old) }
 {
-    let lexed = lexer::lex_front(draft, tokens);
-    match lexed {
-        Lexed::Refused { number, place } => refusal(number, place, out),
-        Lexed::Tokens(count) => list_counted(draft, out, tokens, count),
+    match lexer::lex_front(draft, tokens) {
+        Ok(count) => list_counted(
+            &Lexed {
+                draft,
+                words: tokens,
+                count,
+            },
+            out,
+        ),
+        Err(refused) => refusal(refused, out),
     }
 }
 

@@ -4,7 +4,7 @@ ghost use Rattle.load.specs.Load.{load_of, words_of};
 ghost use Rattle.load.specs.Promised.{Loads};
 ghost use Rattle.reader.specs.Loading.{records_loaded, refusal_loaded, Refusing};
 
-use load::Loaded;
+use text::refusal::Refused;
 
 // Loads a listing: the number of records, seven words each, zeros behind them, and 0 and 0 as the refusal. Or 0, every word 0, and the refusal: its number,
 // and the first bad line from 1, or 0.
@@ -15,14 +15,14 @@ pub fn load_listing(listing: &[u8], words: &mut [u32], refusal: &mut [usize; 2])
     ensures nothing { (result ≡ 0) ↔ Refusing (load_of listing.now (length words.old)) }
     ensures laws { Loads listing.now (length words.old) (load_of listing.now (length words.old)) words.new }
 {
-    let loaded = load::load(listing, words);
-    match loaded {
-        Loaded::Records(n) => {
+    match load::load(listing, words) {
+        Ok(n) => {
             *refusal = [0, 0];
             n
         }
-        Loaded::Refused { number, line } => {
-            *refusal = [number as usize, line];
+        Err(not_loaded) => {
+            let refused = Refused::from(not_loaded);
+            *refusal = [u32::from(refused.refusal) as usize, refused.place];
             0
         }
     }

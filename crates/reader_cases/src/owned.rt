@@ -1,304 +1,294 @@
 // Whether the records of an accepted draft own its tokens (document 01, "Records and the marks they own"; document 02, order 3), by trying every place.
-// A record owns what its place holds and no child's does. `TOKEN_WORDS` a token and `RECORD_WORDS` a record, with no words behind them.
+// A record owns what its place holds and no child's does.
 // Check 1: one record alone owns each token; no other that holds it has as few bytes; its kind may own the token's class.
 // Check 2: a child is of a kind that its record may hold, and in its place; the children's sizes and one more are the record's size; a child's way up
 // leads back to its record, and that of the first record is 0.
 // Check 3: the tokens that each record owns add up to the tokens.
 // Check 4: of two built-in arms of one match the first is odd, and the second one more.
-ghost use Rattle.std.specs.Prelude.{◌+◌, ◌*◌, ◌≤◌, ◌<◌, length};
-ghost use Rattle.text.specs.Widths.{rec_wide};
+ghost use Rattle.std.specs.Prelude.{◌≤◌, length};
+ghost use Rattle.std.specs.Iterator.{at_most};
 
-use own::{arm, kind};
+use own::arm::MatchPattern;
+use own::kind::Kind;
 use text::{RECORD_WORDS, TOKEN_WORDS};
-use up::UP;
 
-fn wide(w: u32) -> usize
-    ensures { result < 4294967296 }
-{
-    w as usize
+// The words of a token and of a record.
+pub(crate) type TokenWords = [u32; TOKEN_WORDS];
+
+pub(crate) type RecordWords = [u32; RECORD_WORDS];
+
+// The bytes of a draft from start to end.
+#[derive(Clone, Copy, PartialEq, Eq, Debug)]
+struct Place {
+    start: usize,
+    end: usize,
 }
 
-// Whether the place of a record holds the bytes from start to end.
-fn holds(tree: &[u32], i: usize, start: u32, end: u32) -> bool
-    requires { rec_wide * i + rec_wide ≤ length tree.now }
-{
-    tree[RECORD_WORDS * i + 1] <= start && end <= tree[RECORD_WORDS * i + 2]
-}
-
-// How many bytes the place of a record has.
-fn width(tree: &[u32], i: usize) -> u32
-    requires { rec_wide * i + rec_wide ≤ length tree.now }
-{
-    let start = tree[RECORD_WORDS * i + 1];
-    let end = tree[RECORD_WORDS * i + 2];
-    if start <= end { end - start } else { 0 }
-}
-
-// The record behind a record and all beneath it; the end of the tree if the size is 0 or says more than there are.
-fn after(tree: &[u32], i: usize) -> usize
-    requires { rec_wide * i + rec_wide ≤ length tree.now }
-    ensures { (i < result) × (rec_wide * result ≤ length tree.now) }
-{
-    let size = wide(tree[RECORD_WORDS * i + 5]);
-    let end = tree.len() / RECORD_WORDS;
-    if size == 0 {
-        return end;
+impl Place {
+    fn holds(self, other: Place) -> bool {
+        self.start <= other.start && other.end <= self.end
     }
-    if size > end - i {
-        return end;
+
+    fn bytes(self) -> usize {
+        self.end.saturating_sub(self.start)
     }
-    i + size
 }
 
-// Whether the place of a record's child holds the bytes from start to end.
-fn child_holds(tree: &[u32], i: usize, start: u32, end: u32) -> bool
-    requires { rec_wide * i + rec_wide ≤ length tree.now }
-{
-    let stop = after(tree, i);
-    let mut c = i + 1;
-    while c < stop {
-        if holds(tree, c, start, end) {
-            return true;
+// A token by its words.
+#[derive(Clone, Copy, PartialEq, Eq, Debug)]
+struct Token {
+    kind: u32,
+    place: Place,
+}
+
+impl From<&TokenWords> for Token {
+    fn from(words: &TokenWords) -> Token {
+        let [kind, start, end] = *words;
+        Token {
+            kind,
+            place: Place {
+                start: start as usize,
+                end: end as usize,
+            },
         }
-        c = after(tree, c);
-    }
-    false
-}
-
-// Whether a record owns the bytes from start to end.
-fn owns(tree: &[u32], i: usize, start: u32, end: u32) -> bool
-    requires { rec_wide * i + rec_wide ≤ length tree.now }
-{
-    if holds(tree, i, start, end) {
-        !child_holds(tree, i, start, end)
-    } else {
-        false
     }
 }
 
-// The first record from a record on that owns the bytes; the number of records if none does.
-fn owner(tree: &[u32], from: usize, start: u32, end: u32) -> usize {
-    let mut i = from;
-    while i < tree.len() / RECORD_WORDS {
-        if owns(tree, i, start, end) {
-            return i;
+// A record by its words.
+#[derive(Clone, Copy, PartialEq, Eq, Debug)]
+struct Record {
+    kind: u32,
+    place: Place,
+    low: u32,
+    high: u32,
+    size: usize,
+    up: usize,
+}
+
+impl From<&RecordWords> for Record {
+    fn from(words: &RecordWords) -> Record {
+        let [kind, start, end, low, high, size, up] = *words;
+        Record {
+            kind,
+            place: Place {
+                start: start as usize,
+                end: end as usize,
+            },
+            low,
+            high,
+            size: size as usize,
+            up: up as usize,
         }
-        i += 1;
     }
-    tree.len() / RECORD_WORDS
 }
 
-// Whether every other record that holds the bytes has a place of more bytes.
-fn narrowest(tree: &[u32], o: usize, start: u32, end: u32) -> bool
-    requires { rec_wide * o + rec_wide ≤ length tree.now }
-{
-    let bytes = width(tree, o);
-    let mut i = 0;
-    while i < tree.len() / RECORD_WORDS {
-        if i != o && holds(tree, i, start, end) && width(tree, i) <= bytes {
-            return false;
+impl Record {
+    fn is(self, kind: Kind) -> bool {
+        self.kind == u32::from(kind)
+    }
+}
+
+// A record, and the records beneath it; all behind it if its size is 0 or says more than there are.
+#[derive(Clone, Copy)]
+struct Node<'a> {
+    record: Record,
+    beneath: &'a [RecordWords],
+}
+
+impl<'a> Node<'a> {
+    fn new(words: &RecordWords, behind: &'a [RecordWords]) -> Node<'a>
+        ensures { length result.beneath.now ≤ length behind.now }
+    {
+        let record = Record::from(words);
+        let below = record.size.checked_sub(1).unwrap_or(behind.len());
+        Node {
+            record,
+            beneath: &behind[..below.min(behind.len())],
         }
-        i += 1;
-    }
-    true
-}
-
-// Check 1 of a token.
-fn token_owned(draft: &[u8], tree: &[u32], kind: u32, start: u32, end: u32) -> bool {
-    let o = owner(tree, 0, start, end);
-    if o >= tree.len() / RECORD_WORDS {
-        return false;
-    }
-    if owner(tree, o + 1, start, end) < tree.len() / RECORD_WORDS {
-        return false;
-    }
-    if !narrowest(tree, o, start, end) {
-        return false;
-    }
-    let class = lexer::class(draft, kind, start as usize, end as usize);
-    kinds::may_own(tree[RECORD_WORDS * o], class)
-}
-
-// Check 1 of every token.
-fn tokens_owned(draft: &[u8], tokens: &[u32], tree: &[u32]) -> bool {
-    let mut t = 0;
-    while t < tokens.len() / TOKEN_WORDS {
-        if !token_owned(
-            draft,
-            tree,
-            tokens[TOKEN_WORDS * t],
-            tokens[TOKEN_WORDS * t + 1],
-            tokens[TOKEN_WORDS * t + 2],
-        ) {
-            return false;
-        }
-        t += 1;
-    }
-    true
-}
-
-// Whether a child is of a kind that the record may hold, has its place within the record's, and leads back to it.
-fn child_fits(tree: &[u32], i: usize, c: usize) -> bool
-    requires { (rec_wide * i + rec_wide ≤ length tree.now) × ((rec_wide * c + rec_wide ≤ length tree.now) × (i < c)) }
-{
-    if wide(tree[RECORD_WORDS * c + UP]) != c - i {
-        return false;
-    }
-    if kinds::may_hold(tree[RECORD_WORDS * i], tree[RECORD_WORDS * c]) {
-        holds(
-            tree,
-            i,
-            tree[RECORD_WORDS * c + 1],
-            tree[RECORD_WORDS * c + 2],
-        )
-    } else {
-        false
     }
 }
 
-// Check 2 of a record.
-fn children_fit(tree: &[u32], i: usize) -> bool
-    requires { rec_wide * i + rec_wide ≤ length tree.now }
-{
-    let stop = after(tree, i);
-    let mut c = i + 1;
-    while c < stop {
-        if !child_fits(tree, i, c) {
-            return false;
-        }
-        c = after(tree, c);
+// Records that lie one behind the other, each with what is beneath it.
+#[derive(Drop)]
+struct Children<'a>(&'a [RecordWords]);
+
+impl<'a> Iterator for Children<'a> {
+    type Item = Node<'a>;
+
+    ghost remaining = { λ children. at_most (length children.0.now) };
+
+    fn next(&mut self) -> Option<Node<'a>> {
+        let (words, behind) = self.0.split_first()?;
+        let node = Node::new(words, behind);
+        self.0 = &behind[node.beneath.len()..];
+        Some(node)
     }
-    c == i + wide(tree[RECORD_WORDS * i + 5])
+}
+
+// Every record, with what is beneath it.
+#[derive(Drop)]
+struct Nodes<'a>(&'a [RecordWords]);
+
+impl<'a> Iterator for Nodes<'a> {
+    type Item = Node<'a>;
+
+    ghost remaining = { λ nodes. at_most (length nodes.0.now) };
+
+    fn next(&mut self) -> Option<Node<'a>> {
+        let (words, behind) = self.0.split_first()?;
+        self.0 = behind;
+        Some(Node::new(words, behind))
+    }
 }
 
 // Whether two children side by side, if both are built-in arms, are a pair in its order.
-fn arms_paired(tree: &[u32], c: usize, d: usize) -> bool
-    requires { (rec_wide * c + rec_wide ≤ length tree.now) × (rec_wide * d + rec_wide ≤ length tree.now) }
-{
-    if tree[RECORD_WORDS * c] != kind::BUILTIN_ARM || tree[RECORD_WORDS * d] != kind::BUILTIN_ARM {
-        return true;
-    }
-    let low = tree[RECORD_WORDS * c + 3];
-    if low > arm::FALSE {
-        return false;
-    }
-    low % 2 == 1 && tree[RECORD_WORDS * d + 3] == low + 1
+fn are_paired(one: Record, next: Record) -> bool {
+    !one.is(Kind::BuiltinArm)
+        || !next.is(Kind::BuiltinArm)
+        || [
+            (MatchPattern::Left, MatchPattern::Right),
+            (MatchPattern::None, MatchPattern::Some),
+            (MatchPattern::False, MatchPattern::True),
+        ]
+        .iter()
+        .any(|(first, second)| one.low == u32::from(*first) && next.low == u32::from(*second))
 }
 
-// Check 4 of a record.
-fn arms_in_order(tree: &[u32], i: usize) -> bool
-    requires { rec_wide * i + rec_wide ≤ length tree.now }
-{
-    let stop = after(tree, i);
-    let mut c = i + 1;
-    while c < stop {
-        let d = after(tree, c);
-        if d < stop {
-            if !arms_paired(tree, c, d) {
+impl<'a> Node<'a> {
+    fn children(self) -> Children<'a> {
+        Children(self.beneath)
+    }
+
+    fn owns(self, place: Place) -> bool {
+        self.record.place.holds(place)
+            && !self.children().any(|child| child.record.place.holds(place))
+    }
+
+    // How many tokens the record owns.
+    fn count_owned(self, tokens: &[TokenWords]) -> usize {
+        tokens
+            .iter()
+            .filter(|token| self.owns(Token::from(*token).place))
+            .count()
+    }
+
+    // Whether a child is of a kind that the record may hold, has its place within the record's, and counts the records beneath it.
+    fn may_hold(self, child: Node<'_>) -> bool {
+        kinds::may_hold(self.record.kind, child.record.kind)
+            && self.record.place.holds(child.record.place)
+            && child.record.size.checked_sub(1) == Some(child.beneath.len())
+    }
+
+    // Check 2 of a record.
+    fn children_fit(self) -> bool {
+        let mut way = 1usize;
+        for child in self.children() {
+            if child.record.up != way || !self.may_hold(child) {
                 return false;
             }
+            way = way.saturating_add(child.record.size);
         }
-        c = d;
+        way == self.record.size
     }
-    true
+
+    // Check 4 of a record.
+    fn arms_in_order(self) -> bool {
+        self.children()
+            .zip(self.children().skip(1))
+            .all(|(one, next)| are_paired(one.record, next.record))
+    }
+
+    // Checks 2 and 4 of a record.
+    fn fits(self) -> bool {
+        self.children_fit() && (!self.record.is(Kind::Match) || self.arms_in_order())
+    }
 }
 
-// Checks 2 and 4 of every record.
-fn records_fit(tree: &[u32]) -> bool {
-    let mut i = 0;
-    while i < tree.len() / RECORD_WORDS {
-        if !children_fit(tree, i) {
+// Whether one record alone holds a place and has no more bytes than so many.
+fn is_narrowest(records: &[RecordWords], place: Place, bytes: usize) -> bool {
+    records
+        .iter()
+        .filter(|words| {
+            let held = Record::from(*words).place;
+            held.holds(place) && held.bytes() <= bytes
+        })
+        .count()
+        == 1
+}
+
+// An accepted draft, with its tokens and records.
+#[derive(Clone, Copy)]
+pub(crate) struct Accepted<'a> {
+    pub(crate) draft: &'a [u8],
+    pub(crate) tokens: &'a [TokenWords],
+    pub(crate) records: &'a [RecordWords],
+}
+
+impl<'a> Accepted<'a> {
+    // Check 1 of a token.
+    fn is_owned(self, token: Token) -> bool {
+        let place = token.place;
+        let mut owners = Nodes(self.records).filter(|node| node.owns(place));
+        let (Some(owner), None) = (owners.next(), owners.next()) else {
             return false;
+        };
+        let class = lexer::class(self.draft, token.kind, place.start, place.end);
+        is_narrowest(self.records, place, owner.record.place.bytes())
+            && kinds::may_own(owner.record.kind, class)
+    }
+
+    // Check 3.
+    fn counts_agree(self) -> bool {
+        let mut left = self.tokens.len();
+        for node in Nodes(self.records) {
+            let Some(fewer) = left.checked_sub(node.count_owned(self.tokens)) else {
+                return false;
+            };
+            left = fewer;
         }
-        if tree[RECORD_WORDS * i] == kind::MATCH && !arms_in_order(tree, i) {
+        left == 0
+    }
+
+    // Whether all four checks hold of trees side by side.
+    fn trees_owned(self) -> bool {
+        Nodes(self.records).all(|node| node.fits())
+            && self
+                .tokens
+                .iter()
+                .all(|token| self.is_owned(Token::from(token)))
+            && self.counts_agree()
+    }
+
+    // Whether they hold of one tree: the first record's size is the number of records.
+    pub(crate) fn is_function_owned(self) -> bool {
+        let Some(first) = self.records.first().map(Record::from) else {
             return false;
-        }
-        i += 1;
+        };
+        first.size == self.records.len() && first.up == 0 && self.trees_owned()
     }
-    true
-}
 
-// How many tokens a record owns.
-fn owned_by(tokens: &[u32], tree: &[u32], i: usize) -> usize
-    requires { rec_wide * i + rec_wide ≤ length tree.now }
-{
-    let mut n: usize = 0;
-    let mut t = 0;
-    while t < tokens.len() / TOKEN_WORDS {
-        if owns(
-            tree,
-            i,
-            tokens[TOKEN_WORDS * t + 1],
-            tokens[TOKEN_WORDS * t + 2],
-        ) {
-            n += 1;
-        }
-        t += 1;
-    }
-    n
-}
-
-// Check 3.
-fn counts_agree(tokens: &[u32], tree: &[u32]) -> bool {
-    let mut left = tokens.len() / TOKEN_WORDS;
-    let mut i = 0;
-    while i < tree.len() / RECORD_WORDS {
-        let n = owned_by(tokens, tree, i);
-        if n > left {
+    // Whether they hold of a file: the first record, which is no other's kind, counts all records, owns no token and holds its items; the four checks hold of
+    // all others.
+    pub(crate) fn is_file_owned(self) -> bool {
+        let Some((words, records)) = self.records.split_first() else {
             return false;
-        }
-        left -= n;
-        i += 1;
+        };
+        let first = Node::new(words, records);
+        let program = Record {
+            kind: u32::from(Kind::Program),
+            place: Place {
+                start: 0,
+                end: self.draft.len(),
+            },
+            low: 0,
+            high: 0,
+            size: self.records.len(),
+            up: 0,
+        };
+        let items = Accepted { records, ..self };
+        first.record == program
+            && first.children_fit()
+            && first.count_owned(self.tokens) == 0
+            && items.trees_owned()
     }
-    left == 0
-}
-
-// Whether all four checks hold of trees side by side.
-fn trees_owned(draft: &[u8], tokens: &[u32], tree: &[u32]) -> bool {
-    if !records_fit(tree) {
-        return false;
-    }
-    if !tokens_owned(draft, tokens, tree) {
-        return false;
-    }
-    counts_agree(tokens, tree)
-}
-
-// Whether they hold of one tree: the first record's size is the number of records.
-pub(crate) fn owned(draft: &[u8], tokens: &[u32], tree: &[u32]) -> bool {
-    if tree.len() < RECORD_WORDS {
-        return false;
-    }
-    if wide(tree[5]) != tree.len() / RECORD_WORDS || tree[UP] != 0 {
-        return false;
-    }
-    trees_owned(draft, tokens, tree)
-}
-
-// Whether the first record is that of a file of so many bytes, and counts all records.
-fn program_first(tree: &[u32], bytes: usize) -> bool
-    requires { rec_wide ≤ length tree.now }
-{
-    if tree[0] != kind::PROGRAM || tree[1] != 0 || wide(tree[2]) != bytes {
-        return false;
-    }
-    tree[3] == 0 && tree[4] == 0 && wide(tree[5]) == tree.len() / RECORD_WORDS && tree[UP] == 0
-}
-
-// Whether the records of an accepted file own its tokens: the first, which is no other's kind, owns none and holds its items; the four checks hold of all
-// others.
-pub(crate) fn file_owned(draft: &[u8], tokens: &[u32], tree: &[u32]) -> bool {
-    if tree.len() < RECORD_WORDS {
-        return false;
-    }
-    if !program_first(tree, draft.len()) {
-        return false;
-    }
-    if !children_fit(tree, 0) {
-        return false;
-    }
-    if owned_by(tokens, tree, 0) != 0 {
-        return false;
-    }
-    trees_owned(draft, tokens, &tree[RECORD_WORDS..])
 }

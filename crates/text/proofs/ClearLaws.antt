@@ -1,4 +1,4 @@
--- Setting a list to zeros: from the front, which is what a loop over a buffer keeps, and behind a place; whatever the width of its elements.
+-- Setting a list to zeros: from the front, one element after the other, and behind a place; whatever the width of its elements.
 -- Assumes nothing.
 use Rattle.std.specs.Prelude.{List, [], ◌++◌, ◌≡◌, refl, ℕ, ◌+◌, ◌-◌, ◌≤◌, ◌<◌, length, replicate, take, drop, set}
 use Rattle.std.proofs.Common.{append-nil, ◌∙◌, ap, ap₂, arith, length-set, length-drop, drop_of_length-le, length-take-le}

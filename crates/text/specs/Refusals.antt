@@ -1,55 +1,12 @@
 -- The numbers of refusals by name (document 01, "What the reader hands over"), in the order of its rows, and the two families of which "the
 -- earliest place" wins; those of the later requests (document 02) after them.
 -- Assumes nothing.
-use Rattle.std.specs.Prelude.{Bool, true, ◌&&◌, not, List, [], ◌∷◌, ◌++◌, ℕ, T}
+use Rattle.std.specs.Prelude.{Bool, true, ◌&&◌, not, List, [], ◌∷◌, ◌++◌, map, ℕ, T}
 use Rattle.text.specs.Lists.{has}
-
--- Of the draft 1; of its bytes 2 to 5 and 21; of its tokens 6 to 8; of its shapes 9 to 14; of the tree buffer 15. Each row stands above its case: in lexer's
--- Rows.antt, and in Outcome.antt and Faults.antt of `grammar`.
-abbrev pub TooLong : ℕ
-TooLong = 1
-
-abbrev pub NotAscii : ℕ
-NotAscii = 2
-
-abbrev pub NoLexeme : ℕ
-NoLexeme = 3
-
-abbrev pub Unclosed : ℕ
-Unclosed = 4
-
-abbrev pub Simc : ℕ
-Simc = 5
-
-abbrev pub TooMany : ℕ
-TooMany = 6
-
-abbrev pub TooDeep : ℕ
-TooDeep = 7
-
-abbrev pub Misshapen : ℕ
-Misshapen = 8
-
-abbrev pub Bound : ℕ
-Bound = 9
-
-abbrev pub Size : ℕ
-Size = 10
-
-abbrev pub NoArms : ℕ
-NoArms = 11
-
-abbrev pub MixedArms : ℕ
-MixedArms = 12
-
-abbrev pub ArmCount : ℕ
-ArmCount = 13
-
-abbrev pub NoPartners : ℕ
-NoPartners = 14
-
-abbrev pub NoRoom : ℕ
-NoRoom = 15
+use Rattle.text.specs.Answers.{Answer, refused}
+use Rattle.text.specs.declared.refusal.Refusal.{Refusal}
+use Rattle.text.specs.declared.refusal.Refusal.TheVariants as refusal
+use Rattle.text.specs.declared.refusal.Refused.{Refused}
 
 -- Of a listing that is loaded (order 1): 16 of its lines, 17 of its records, 18 of the record buffer. Each row stands above its case in Promised.antt
 -- of `load`.
@@ -62,26 +19,47 @@ NotWhole = 17
 abbrev pub NoLoadRoom : ℕ
 NoLoadRoom = 18
 
--- Of a shape again (order 2); its sentence stands in Faults.antt of `grammar`.
-abbrev pub Length : ℕ
-Length = 19
+-- Of the draft 1; of its bytes 2 to 5 and 21 (order 6); of its tokens 6 to 8; of its shapes 9 to 14 and 19 (order 2); of the tree buffer 15. Each row
+-- stands above its case: in lexer's Rows.antt, and in Outcome.antt and Faults.antt of `grammar`.
+abbrev pub refusal_number : Refusal → ℕ
+refusal_number refusal.TooLong = 1
+refusal_number refusal.NotAscii = 2
+refusal_number refusal.NoLexeme = 3
+refusal_number refusal.Unclosed = 4
+refusal_number refusal.Simc = 5
+refusal_number refusal.TooMany = 6
+refusal_number refusal.TooDeep = 7
+refusal_number refusal.Misshapen = 8
+refusal_number refusal.Bound = 9
+refusal_number refusal.Size = 10
+refusal_number refusal.NoArms = 11
+refusal_number refusal.MixedArms = 12
+refusal_number refusal.ArmCount = 13
+refusal_number refusal.NoPartners = 14
+refusal_number refusal.NoRoom = 15
+refusal_number refusal.BadLine = BadLine
+refusal_number refusal.NotWhole = NotWhole
+refusal_number refusal.NoLoadRoom = NoLoadRoom
+refusal_number refusal.Length = 19
+refusal_number refusal.NotUtf8 = 21
 
--- Of the bytes again (order 6); its sentence stands in lexer's Rows.antt.
-abbrev pub NotUtf8 : ℕ
-NotUtf8 = 21
+-- "a refusal", by its number, at its place
+abbrev pub refused_by : Refused → Answer
+refused_by r = refused (refusal_number r.refusal) r.place
 
 -- "of 2 to 5 the earliest place wins", and 21 "among 2 to 5 by earliest place": those of the bytes, which the lexer finds,
 abbrev pub of_bytes : List ℕ
-of_bytes = NotAscii ∷ NoLexeme ∷ Unclosed ∷ Simc ∷ NotUtf8 ∷ []
+of_bytes = map refusal_number (refusal.NotAscii ∷ refusal.NoLexeme ∷ refusal.Unclosed ∷ refusal.Simc ∷ refusal.NotUtf8 ∷ [])
 
 -- "of 9 to 14 the earliest place", and 19 "among 9 to 14 by earliest place": those of the shapes, which a well-shaped draft may have.
 abbrev pub of_shapes : List ℕ
-of_shapes = Bound ∷ Size ∷ NoArms ∷ MixedArms ∷ ArmCount ∷ NoPartners ∷ Length ∷ []
+of_shapes = map refusal_number (refusal.Bound ∷ refusal.Size ∷ refusal.NoArms ∷ refusal.MixedArms ∷ refusal.ArmCount ∷ refusal.NoPartners ∷ refusal.Length ∷ [])
 
 -- Every number of a reading, in the order of the tests: "Refusal 1 is tested first; of 2 to 5 the earliest place wins; then 6, 7 and 8 in turn [..];
 -- of 9 to 14 the earliest place; last 15."
 abbrev pub in_order : List ℕ
-in_order = TooLong ∷ (of_bytes ++ (TooMany ∷ TooDeep ∷ Misshapen ∷ (of_shapes ++ (NoRoom ∷ []))))
+in_order =
+    refusal_number refusal.TooLong ∷ (of_bytes ++ (map refusal_number (refusal.TooMany ∷ refusal.TooDeep ∷ refusal.Misshapen ∷ []) ++ (of_shapes ++ (refusal_number refusal.NoRoom ∷ []))))
 
 -- Those of a listing: "they are tested in this order".
 abbrev pub of_listings : List ℕ

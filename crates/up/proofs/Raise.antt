@@ -93,22 +93,19 @@ module _ {w : List ℕ} {n : ℕ} {l : List ℕ} {p i : ℕ} (x : Raised w n l p
   pub raised-at : p ≡ i - 1 - way_up (size_in l) (i - 1)
   raised-at = x.at ∙ sym (ap (λ (u : ℕ). i - 1 - u) (its-ways (i - 1)))
 
-  pub raise-more : {q v : ℕ} → v ≡ rec_wide * i → q ≡ i - way_up (size_in l) i → i < n
-      → Raised w n (set l (v + up_place) (i - q)) q (i + 1) × (v + rec_wide ≡ rec_wide * (i + 1))
-  raise-more {q} {v} m e h =
+  pub raise-more : {q : ℕ} → q ≡ i - way_up (size_in l) i → i < n → Raised w n (set l (rec_wide * i + up_place) (i - q)) q (i + 1)
+  raise-more {q} e h =
       let g : suc i ≡ i + 1 = omega arith in
       let k : i ≡ i + 1 - 1 = omega arith in
-      let u : i - q ≡ way_up (size_in l) i = omega (arith, e, back-within (size_in l) i i) in (
-        record {
-          room = x.room;
-          some = omega arith;
-          within = omega (arith, h);
-          long = length-set l (v + up_place) (i - q) ∙ x.long;
-          done = (λ j. set (x.done j) (m j + up_place) ((u ∙ its-ways i) j)) ∙ ap (λ (j : ℕ). placed f j w) g;
-          at = e ∙ ap (λ (v : ℕ). i - v) (its-ways i) ∙ ap (λ (j : ℕ). j - f j) k;
-        },
-        omega (arith, m),
-      )
+      let u : i - q ≡ way_up (size_in l) i = omega (arith, e, back-within (size_in l) i i) in
+      record {
+        room = x.room;
+        some = omega arith;
+        within = omega (arith, h);
+        long = length-set l (rec_wide * i + up_place) (i - q) ∙ x.long;
+        done = (λ j. set (x.done j) (rec_wide * i + up_place) ((u ∙ its-ways i) j)) ∙ ap (λ (j : ℕ). placed f j w) g;
+        at = e ∙ ap (λ (v : ℕ). i - v) (its-ways i) ∙ ap (λ (j : ℕ). j - f j) k;
+      }
 
   pub raise-end : n ≤ i → l ≡ upward n w
   unfolding upward

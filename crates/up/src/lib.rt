@@ -14,19 +14,18 @@ const SIZE: usize = 5;
 
 pub const UP: usize = 6;
 
-// The record that holds record i, whose words begin at w, where those before it have their ways up; i itself if none does. `before` is what holds the record
+// The record that holds record i, where those before it have their ways up; i itself if none does. `before` is what holds the record
 // before it, or that record itself. If the record before holds i, there is no way to go; else from `before` on, from parent to parent, up to the first that
 // reaches over i. Each record is passed at most once in all, since it is no parent of what comes after.
-fn above(tree: &[u32], before: usize, i: usize, w: usize) -> usize
+fn above(tree: &[u32], before: usize, i: usize) -> usize
     requires i_nonzero { 0 < i }
-    requires w_value { w ≡ rec_wide * i }
-    requires w_in_bounds { w ≤ length tree.now }
+    requires i_in_bounds { rec_wide * i ≤ length tree.now }
     requires before_value { before ≡ i - 1 - way_up (size_in tree.now) (i - 1) }
     requires raised { (q : ℕ) → q < i → get_or tree.now (rec_wide * q + up_place) 0 ≡ way_up (size_in tree.now) q }
     ensures is { result ≡ i - way_up (size_in tree.now) i }
     ensures small { Fits w32 (i - result) }
 {
-    if tree[w - RECORD_WORDS + SIZE] > 1 {
+    if tree[RECORD_WORDS * (i - 1) + SIZE] > 1 {
         return i - 1;
     }
     let mut p = before;
@@ -52,12 +51,8 @@ pub fn way_up(tree: &mut [u32], records: usize)
     }
     tree[UP] = 0;
     let mut p = 0;
-    let mut i = 1;
-    let mut w = RECORD_WORDS;
-    while i < records {
-        p = above(tree, p, i, w);
-        tree[w + UP] = (i - p) as u32;
-        i += 1;
-        w += RECORD_WORDS;
+    for i in 1..records {
+        p = above(tree, p, i);
+        tree[RECORD_WORDS * i + UP] = (i - p) as u32;
     }
 }

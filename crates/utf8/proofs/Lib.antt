@@ -3,3 +3,4 @@ pub mod Laws
 pub mod Parts
 pub mod Sequences
 pub mod Walks
+pub mod Founds

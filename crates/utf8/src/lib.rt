@@ -1,10 +1,10 @@
 // UTF-8: how many bytes the sequence at a place of a text has, by RFC 3629.
 #![tactic(auto)]
 
-ghost use Rattle.std.specs.Prelude.{◌≡◌, ◌≤◌, ◌<◌, length, get_or, drop};
+ghost use Rattle.std.specs.Prelude.{◌≡◌, ◌≤◌, ◌<◌, length, get_or, drop, unwrap_or};
 ghost use Rattle.utf8.specs.Octets.{Told};
 ghost use Rattle.utf8.specs.Second.{outside_of, least_second, most_second};
-ghost use Rattle.utf8.specs.Utf8.{char_length};
+ghost use Rattle.utf8.specs.Found.{char_found};
 
 use text::peek;
 
@@ -29,89 +29,82 @@ const LAST_TAIL: u8 = 0xbf;
 fn outside(b: u8, least: u8, most: u8) -> bool
     ensures { result ≡ outside_of least most b }
 {
-    if b < least {
-        return true;
-    }
-    most < b
+    !(least..=most).contains(&b)
 }
 
 // The least second byte of a sequence of three or four, by its first: a smaller one would write what fewer bytes write.
 fn least_second(b: u8) -> u8
     ensures { result ≡ least_second b }
 {
-    if b == THREE {
-        return 0xa0;
+    match b {
+        THREE => 0xa0,
+        FOUR => 0x90,
+        _ => TAIL,
     }
-    if b == FOUR {
-        return 0x90;
-    }
-    TAIL
 }
 
 // The most: a larger one would write a surrogate, or a number over 10FFFF.
 fn most_second(b: u8) -> u8
     ensures { result ≡ most_second b }
 {
-    if b == 0xed {
-        return 0x9f;
+    match b {
+        0xed => 0x9f,
+        LAST => 0x8f,
+        _ => LAST_TAIL,
     }
-    if b == LAST {
-        return 0x8f;
-    }
-    LAST_TAIL
 }
 
-// How many bytes the sequence at i has, whose first byte b is over 127; 0 if none stands there.
-fn wide(s: &[u8], i: usize, b: u8) -> usize
+// How many bytes the sequence at i has, whose first byte b is over 127.
+fn wide(s: &[u8], i: usize, b: u8) -> Option<usize>
     requires { (i < length s.now) × (b ≡ get_or s.now i 0) × (128 ≤ b) }
-    ensures { result ≡ char_length (drop i s.now) }
+    ensures { result ≡ char_found (drop i s.now) }
 {
     if b < TWO {
-        return 0;
+        return None;
     }
     let c = peek(s, i + 1);
     if b < THREE {
         if outside(c, TAIL, LAST_TAIL) {
-            return 0;
+            return None;
         }
-        return 2;
+        return Some(2);
     }
     if b > LAST {
-        return 0;
+        return None;
     }
     if outside(c, least_second(b), most_second(b)) {
-        return 0;
+        return None;
     }
     if outside(peek(s, i + 2), TAIL, LAST_TAIL) {
-        return 0;
+        return None;
     }
     if b < FOUR {
-        return 3;
+        return Some(3);
     }
     if outside(peek(s, i + 3), TAIL, LAST_TAIL) {
-        return 0;
+        return None;
     }
-    4
+    Some(4)
 }
 
 // The answer of `sequence`, whose law is proved once, of whatever is answered.
-fn length_at(s: &[u8], i: usize) -> usize
-    ensures { result ≡ char_length (drop i s.now) }
+fn length_at(s: &[u8], i: usize) -> Option<usize>
+    ensures { result ≡ char_found (drop i s.now) }
 {
     if i >= s.len() {
-        return 0;
+        return None;
     }
     let b = s[i];
     if b <= LAST_ASCII {
-        return 1;
+        return Some(1);
     }
     wide(s, i, b)
 }
 
-// How many bytes the sequence at i has, 0 if none stands there: nor does one at the end of the text, or past it.
-pub fn sequence(s: &[u8], i: usize) -> usize
-    ensures answer { result ≡ char_length (drop i s.now) }
-    ensures law { Told (drop i s.now) result }
+// How many bytes the sequence at i has, if one stands there: none does at the end of the text, or past it.
+pub fn sequence(s: &[u8], i: usize) -> Option<usize>
+    ensures answer { result ≡ char_found (drop i s.now) }
+    ensures law { Told (drop i s.now) (unwrap_or result 0) }
 {
     length_at(s, i)
 }

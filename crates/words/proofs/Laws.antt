@@ -1,18 +1,14 @@
 -- The rules of the constants against the lists of words, each computed once over the whole table, and what the proofs cite of them.
 -- Assumes nothing.
-use mathlib.Core.Bool.{Bool, true, false, cond, ◌&&◌, and-false}
+use mathlib.Core.Bool.{Bool, true}
 use mathlib.Core.List.{List, [], ◌∷◌}
 use mathlib.Core.Path.{◌≡◌, refl, sym, ◌∙◌, ap}
-use Prim.Native.Nat.{ℕ, ◌+◌, ◌-◌, ◌%◌, ◌≤◌, ◌<◌}
+use Prim.Native.Nat.{ℕ, ◌+◌, ◌%◌, ◌≤◌, ◌<◌}
 use native.Mathlib.Omega.{arith}
-use borrow.Author.Tests.{lt-leb, leb-true}
 use lib.Dec.{T, eqb, leb, eqb→eq, leb→le}
-use lib.ListN.{length, get_or, take, drop, length-take, length-drop}
-use lib.Seq.{length-take-le}
+use lib.ListN.{length, get_or, take, drop}
 use Rattle.text.specs.Ascii.{ascii, ascii_from}
-use Rattle.text.specs.Part.{part_of}
 use Rattle.text.specs.Same.{same}
-use Rattle.text.proofs.Same.{differ}
 use Rattle.text.specs.Table.{every, all}
 use Rattle.text.proofs.Table.{at, table_at, each, is_true}
 use Rattle.text.proofs.SameLaws.{same_true}
@@ -20,7 +16,7 @@ use Rattle.words.specs.Words.{FUNCTION_RESERVED, KEYWORDS, MACROS, MODULE_RESERV
 use Rattle.words.specs.Layout.{tables, entries, letters, slot_of, Hash, hashes}
 use Rattle.words.specs.Lies.{Lies, Only, AtMost}
 use Rattle.words.proofs.Right.{Says}
-use Rattle.words.specs.declared.Found.TheVariants.{Plain}
+use Rattle.std.specs.Prelude.{None}
 use Rattle.words.proofs.Constants.{starts, sizes, bases, counts, longest, slots, function_reserved_slots, keywords_slots, macros_slots, module_reserved_slots, rule_words_slots}
 
 -- ---- one test for each word of each table
@@ -76,10 +72,10 @@ module _ (t k : ℕ) (h : t < 5) (l : k < length (get_or tables t [])) where
   entry-is = same_true _ _ (is_true _ (pass 4))
 
 -- bytes of another length are no word
-pub too_short : (t : ℕ) → t < 5 → (p : List ℕ) → length p < 2 → Says (get_or tables t []) p Plain
+pub too_short : (t : ℕ) → t < 5 → (p : List ℕ) → length p < 2 → Says (get_or tables t []) p None
 too_short t h p s k l e = omega (arith, word-long t k h l, ap length e)
 
-pub too_long : {ws : List (List ℕ)} {n : ℕ} → AtMost ws n → (p : List ℕ) → n < length p → Says ws p Plain
+pub too_long : {ws : List (List ℕ)} {n : ℕ} → AtMost ws n → (p : List ℕ) → n < length p → Says ws p None
 too_long m p s k l e = omega (arith, m.short k l, ap length e)
 
 pub longest-at : (t : ℕ) → t < 5 → AtMost (get_or tables t []) (get_or longest t 0)
@@ -88,37 +84,6 @@ longest-at t h = record { short = λ k l. word-short t k h l }
 pub longest_few : (t : ℕ) → t < 5 → get_or longest t 0 ≤ 14
 unfolding longest
 longest_few t h = leb→le _ _ (at (λ t n. leb n 14) longest 0 tt t h)
-
--- ---- the part of a draft
-
-part_size : (d : List ℕ) (s e : ℕ) → length (part_of d s e) ≤ e - s
-unfolding part_of
-part_size d s e = go (leb s e && leb e (length d))
-  where
-    go : (b : Bool) → length (cond b (take (e - s) (drop s d)) []) ≤ e - s
-    go true = omega (arith, length-take (e - s) (drop s d))
-    go false = omega arith
-
-second : (a b : Bool) → (a && b) ≡ true → b ≡ true
-second true b q = q
-second false b q = differ q
-
-module _ (t : ℕ) (h : t < 5) (d : List ℕ) (s e : ℕ) where
-  pub short_part : e - s < 2 → Says (get_or tables t []) (part_of d s e) Plain
-  short_part k = too_short t h _ (omega (arith, part_size d s e))
-
-  -- a part out of range is empty
-  pub part_out : length d < e → Says (get_or tables t []) (part_of d s e) Plain
-  unfolding part_of
-  part_out k = simp (lt-leb _ _ k, and-false) (too_short t h [] (omega arith))
-
-  pub long_part : {n : ℕ} → AtMost (get_or tables t []) n → n < e - s → Says (get_or tables t []) (part_of d s e) Plain
-  unfolding part_of
-  long_part {n} m k = go (leb s e && leb e (length d)) refl
-    where
-      go : (b : Bool) → (leb s e && leb e (length d)) ≡ b → Says (get_or tables t []) (cond b (take (e - s) (drop s d)) []) Plain
-      go true q = let l = leb-true e (length d) (second (leb s e) _ q) in too_long m _ (omega (arith, length-take-le (e - s) (drop s d), length-drop s d))
-      go false q = too_short t h [] (omega arith)
 
 -- p can be no other word of table t than the one that its slot holds
 pub only_at : (t : ℕ) → t < 5 → (p : List ℕ) → Only (get_or tables t []) p (at_slot t p)
@@ -160,7 +125,3 @@ module _ (e : ℕ) (h : e < 77) where
   start-at =
       let i = leb→le (get_or starts e 0 + length (get_or entries e [])) 359 (entry-pass 1) in
       record { inside = omega (arith, letter-count); spelt = same_true _ _ (is_true _ (entry-pass 2)) }
-
--- a word of as many bytes as p stands there
-pub word-there : {r : ℕ} {w : List ℕ} → Lies r w → (n : ℕ) → n ≡ length w → (r + n ≤ 359) × (take n (drop r letters) ≡ w)
-word-there {r} {w} v n e = (omega (arith, letter-count, v.inside), ap (λ m. take m (drop r letters)) e ∙ v.spelt)

@@ -1,4 +1,4 @@
--- `word_of` says what it should: word number k exactly where the bytes are that word, and `Plain` exactly where they are none of the list's.
+-- `word_of` says what it should: word number k exactly where the bytes are that word, and `None` exactly where they are none of the list's.
 -- Assumes nothing.
 use Rattle.std.specs.Prelude.{Bool, true, false, cond, List, [], ◌∷◌, ◌≡◌, refl, ℕ, zero, suc, ◌+◌, ◌≤◌, ◌<◌, length, get_or}
 use Rattle.std.proofs.Common.{sym, ◌∙◌, ap, subst, le_of_suc-le-suc, not-suc-le-zero, arith}
@@ -7,43 +7,42 @@ use Rattle.text.proofs.Same.{differ}
 use Rattle.text.proofs.SameLaws.{same_true, same_self}
 use Rattle.words.specs.Lies.{Only}
 use Rattle.words.specs.Words.{find, word_of}
-use Rattle.words.specs.declared.Found.{Found}
-use Rattle.words.specs.declared.Found.TheVariants.{Word, Plain}
+use Rattle.std.specs.Prelude.{Option, Some, None}
 
 -- What an answer says of p and a list of words: this word of the list, or none of them.
-abbrev pub Says : List (List ℕ) → List ℕ → Found → Type 0
-Says ws p (Word k) = (k < length ws) × (get_or ws k [] ≡ p)
-Says ws p Plain = (k : ℕ) → k < length ws → get_or ws k [] ≡ p → ⊥
+abbrev pub Says : List (List ℕ) → List ℕ → Option ℕ → Type 0
+Says ws p (Some k) = (k < length ws) × (get_or ws k [] ≡ p)
+Says ws p None = (k : ℕ) → k < length ws → get_or ws k [] ≡ p → ⊥
 
 -- the same, counted from k
-From : List (List ℕ) → List ℕ → ℕ → Found → Type 0
-From ws p k (Word m) = (j : ℕ) × (m ≡ k + j) × (j < length ws) × (get_or ws j [] ≡ p)
-From ws p k Plain = Says ws p Plain
+From : List (List ℕ) → List ℕ → ℕ → Option ℕ → Type 0
+From ws p k (Some m) = (j : ℕ) × (m ≡ k + j) × (j < length ws) × (get_or ws j [] ≡ p)
+From ws p k None = Says ws p None
 
-none_of : (ws : List (List ℕ)) (w p : List ℕ) → same p w ≡ false → Says ws p Plain → Says (w ∷ ws) p Plain
+none_of : (ws : List (List ℕ)) (w p : List ℕ) → same p w ≡ false → Says ws p None → Says (w ∷ ws) p None
 none_of ws w p q r zero h e = differ (sym q ∙ ap (λ l. same p l) e ∙ same_self p)
 none_of ws w p q r (suc j) h e = r j (le_of_suc-le-suc h) e
 
-later : (ws : List (List ℕ)) (w p : List ℕ) (k : ℕ) (t : Found) → same p w ≡ false → From ws p (k + 1) t → From (w ∷ ws) p k t
+later : (ws : List (List ℕ)) (w p : List ℕ) (k : ℕ) (t : Option ℕ) → same p w ≡ false → From ws p (k + 1) t → From (w ∷ ws) p k t
 unfolding From
-later ws w p k (Word m) q r = (suc r.0, omega arith, omega arith, r.3)
-later ws w p k Plain q r = none_of ws w p q r
+later ws w p k (Some m) q r = (suc r.0, omega arith, omega arith, r.3)
+later ws w p k None q r = none_of ws w p q r
 
 found : (ws : List (List ℕ)) (p : List ℕ) (k : ℕ) → From ws p k (find p k ws)
 unfolding find From
 found [] p k = λ j h e. absurd (not-suc-le-zero h)
 found (w ∷ ws) p k = go (same p w) refl (found ws p (k + 1))
   where
-    go : (b : Bool) → same p w ≡ b → From ws p (k + 1) (find p (k + 1) ws) → From (w ∷ ws) p k (cond b (Word k) (find p (k + 1) ws))
+    go : (b : Bool) → same p w ≡ b → From ws p (k + 1) (find p (k + 1) ws) → From (w ∷ ws) p k (cond b (Some k) (find p (k + 1) ws))
     go true q r = (0, omega arith, omega arith, sym (same_true p w q))
     go false q r = later ws w p k (find p (k + 1) ws) q r
 
-whole : (ws : List (List ℕ)) (p : List ℕ) (t : Found) → From ws p 0 t → Says ws p t
+whole : (ws : List (List ℕ)) (p : List ℕ) (t : Option ℕ) → From ws p 0 t → Says ws p t
 unfolding From
-whole ws p (Word m) r =
+whole ws p (Some m) r =
     let e : m ≡ r.0 = omega arith in
     (omega (arith, r.2), ap (λ n. get_or ws n []) e ∙ r.3)
-whole ws p Plain r = r
+whole ws p None r = r
 
 -- The answer of `word_of` is true.
 pub says : (ws : List (List ℕ)) (p : List ℕ) → Says ws p (word_of ws p)
@@ -51,29 +50,29 @@ unfolding word_of
 says ws p = whole ws p (find p 0 ws) (found ws p 0)
 
 -- The place of a word that was found is one of the list's.
-pub below : (ws : List (List ℕ)) (p : List ℕ) (k : ℕ) → word_of ws p ≡ Word k → k < length ws
+pub below : (ws : List (List ℕ)) (p : List ℕ) (k : ℕ) → word_of ws p ≡ Some k → k < length ws
 below ws p k e = (subst (λ f. Says ws p f) e (says ws p)).0
 
 -- A word that p is, and that alone it can be, is the answer.
-pub is_word : (ws : List (List ℕ)) (p : List ℕ) (k : ℕ) → Only ws p k → k < length ws → get_or ws k [] ≡ p → word_of ws p ≡ Word k
+pub is_word : (ws : List (List ℕ)) (p : List ℕ) (k : ℕ) → Only ws p k → k < length ws → get_or ws k [] ≡ p → word_of ws p ≡ Some k
 is_word ws p k only h e = go (word_of ws p) (says ws p)
   where
-    go : (t : Found) → Says ws p t → t ≡ Word k
-    go (Word m) s = ap Word (sym (only.is m s.0 s.1))
-    go Plain s = absurd (s k h e)
+    go : (t : Option ℕ) → Says ws p t → t ≡ Some k
+    go (Some m) s = ap Some (sym (only.is m s.0 s.1))
+    go None s = absurd (s k h e)
 
 -- Bytes that are no word of the list are plain.
-pub is_plain : (ws : List (List ℕ)) (p : List ℕ) → Says ws p Plain → word_of ws p ≡ Plain
+pub is_plain : (ws : List (List ℕ)) (p : List ℕ) → Says ws p None → word_of ws p ≡ None
 is_plain ws p none = go (word_of ws p) (says ws p)
   where
-    go : (t : Found) → Says ws p t → t ≡ Plain
-    go (Word m) s = absurd (none m s.0 s.1)
-    go Plain s = refl
+    go : (t : Option ℕ) → Says ws p t → t ≡ None
+    go (Some m) s = absurd (none m s.0 s.1)
+    go None s = refl
 
 -- What a candidate decides: p is no word if the candidate is past the words, or if p is not the candidate.
 module _ (ws : List (List ℕ)) (p : List ℕ) (r : ℕ) (only : Only ws p r) where
-  pub past : length ws ≤ r → Says ws p Plain
+  pub past : length ws ≤ r → Says ws p None
   past h k l e = omega (arith, only.is k l e)
 
-  pub other : same p (get_or ws r []) ≡ false → Says ws p Plain
-  other q k l e = differ (sym q ∙ ap (λ n. same p (get_or ws n [])) (only.is k l e) ∙ ap (λ w. same p w) e ∙ same_self p)
+  pub other : (p ≡ get_or ws r [] → ⊥) → Says ws p None
+  other n k l e = n (sym e ∙ ap (λ m. get_or ws m []) (sym (only.is k l e)))

@@ -1,10 +1,8 @@
 -- The words that the rules single out, as lists of byte strings in the order of the Rust, and which word of a list a part of a draft is.
 -- Assumes nothing.
-use Rattle.std.specs.Prelude.{cond, List, [], ◌∷◌, ◌++◌, map, ℕ, ◌+◌}
+use Rattle.std.specs.Prelude.{cond, List, [], ◌∷◌, ◌++◌, map, ℕ, ◌+◌, Option, Some, None}
 use Rattle.text.specs.Ascii.{ascii}
 use Rattle.text.specs.Same.{same}
-use Rattle.words.specs.declared.Found.{Found}
-use Rattle.words.specs.declared.Found.TheVariants.{Word, Plain}
 use Rattle.words.specs.declared.Table.{Table}
 use Rattle.words.specs.declared.Table.TheVariants.{FunctionReserved, Keywords, Macros, ModuleReserved, RuleWords}
 
@@ -70,10 +68,10 @@ words_of Macros = MACROS
 words_of ModuleReserved = MODULE_RESERVED
 words_of RuleWords = RULE_WORDS
 
--- the first word of the list that p is, counted from k, and Plain if it is none; counted from 0
-unfoldable pub find : List ℕ → ℕ → List (List ℕ) → Found
-find p k [] = Plain
-find p k (w ∷ ws) = cond (same p w) (Word k) (find p (k + 1) ws)
+-- the first word of the list that p is, counted from k, and None if it is none; counted from 0
+unfoldable pub find : List ℕ → ℕ → List (List ℕ) → Option ℕ
+find p k [] = None
+find p k (w ∷ ws) = cond (same p w) (Some k) (find p (k + 1) ws)
 
-unfoldable pub word_of : List (List ℕ) → List ℕ → Found
+unfoldable pub word_of : List (List ℕ) → List ℕ → Option ℕ
 word_of ws p = find p 0 ws

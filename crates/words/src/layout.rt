@@ -1,27 +1,38 @@
 // The words in one constant byte string, and where each lies. Made by tools/words.py from the lists of specs/Words.antt.
-pub const LETTERS: [u8; 359] =
+// How many tables, entries and letters there are, and how many bytes the shortest and the longest word has.
+pub const TABLES: usize = 5;
+
+pub const ENTRIES: usize = 77;
+
+pub const LETTERS: usize = 359;
+
+pub const FEWEST: usize = 2;
+
+pub const MOST: usize = 14;
+
+pub const BYTES: [u8; LETTERS] =
     *b"ExplicitAmountConfidential1ExplicitAssetExplicitNonceunwrap_rightTokenAmount1unwrap_leftarray_foldfor_whileMessage64Signatureraw_hashDistanceDurationOutpointis_noneassert!witnessEitherOptionpanic!PubkeyScalarHeightAsset1Rightmatchlist!falsePointconstcrateparamLeftSomeNoneListintodbg!trueboolu128u256Ctx8TimeLocktypeenumsimcu16u32u64Gejpubuseletmodjetu4u8Fefn";
 
-// Where each entry starts in LETTERS, and its length.
-pub const STARTS: [u16; 77] = [
+// Where each entry starts in BYTES, and its length.
+pub const STARTS: [u16; ENTRIES] = [
     260, 220, 264, 268, 178, 184, 272, 77, 53, 88, 98, 157, 53, 164, 190, 225, 276, 94, 280, 125,
     164, 190, 280, 230, 235, 284, 288, 292, 296, 351, 353, 324, 327, 330, 292, 296, 300, 196, 107,
     107, 116, 202, 355, 333, 333, 240, 208, 304, 133, 141, 308, 149, 14, 27, 214, 0, 70, 40, 48,
     65, 336, 339, 130, 357, 342, 312, 345, 245, 225, 316, 250, 320, 284, 235, 348, 171, 255,
 ];
 
-pub const SIZES: [u8; 77] = *b"\
+pub const SIZES: [u8; ENTRIES] = *b"\
     \x04\x05\x04\x04\x06\x06\x04\x0b\x0c\x0a\x09\x07\x06\x06\x05\x05\x04\x04\x03\x08\x07\x06\x04\x05\x05\x04\x04\x02\x02\x02\x02\x03\
     \x03\x03\x04\x04\x04\x06\x07\x09\x09\x06\x02\x02\x03\x05\x06\x04\x08\x08\x04\x08\x0d\x0d\x06\x0e\x07\x0d\x05\x0c\x03\x03\x02\x02\
     \x03\x04\x03\x05\x05\x04\x05\x04\x04\x05\x03\x07\x05";
 
 // The first entry of each table, and how many words it has.
-pub const BASES: [u8; 5] = [7, 60, 20, 74, 0];
+pub const BASES: [u8; TABLES] = [7, 60, 20, 74, 0];
 
-pub const COUNTS: [u8; 5] = [13, 14, 4, 3, 60];
+pub const COUNTS: [u8; TABLES] = [13, 14, 4, 3, 60];
 
 // How many bytes the longest word of each table has.
-pub const LONGEST: [u8; 5] = [12, 5, 7, 7, 14];
+pub const LONGEST: [u8; TABLES] = [12, 5, 7, 7, 14];
 
 // The slots of each table: the word whose length and bytes lead there, 255 (ff) where there is none.
 pub const FUNCTION_RESERVED_SLOTS: [u8; 128] = *b"\

@@ -20,7 +20,9 @@ use Rattle.own.specs.Tree.{Tok, Node, Rec, concat, roots, end, tokens, classes_o
 use Rattle.own.specs.Law.{sorts}
 use Rattle.text.specs.Widths.{tok_wide, rec_wide}
 use Rattle.text.specs.Answers.{Answer, accepted, refused}
-use Rattle.text.specs.Refusals as refusal
+use Rattle.text.specs.Refusals as refusals
+use Rattle.text.specs.Refusals.{refusal_number}
+use Rattle.text.specs.declared.refusal.Refusal.TheVariants as refusal
 use Rattle.text.specs.Lists.{has}
 use Rattle.own.specs.Words.{toks, recs}
 use Rattle.up.specs.Ways.{ways_up, sevens, up_words}
@@ -109,20 +111,20 @@ module _ (en : Entry) (l : Limits) (draft : List ℕ) (tw rw : ℕ) where
       ∙ sym (ap₂ (λ x y. lexer.content x (tokens_of y) tw) (lexed-within en l draft tw rw a.its_tokens w) w.lexes)
 
   -- a row with the number of row 8 is row 8
-  row-misshapen : {c p : ℕ} → Refusal en l draft tw rw c p → c ≡ refusal.Misshapen → Misshapen en l draft tw p
+  row-misshapen : {c p : ℕ} → Refusal en l draft tw rw c p → c ≡ (refusal_number refusal.Misshapen) → Misshapen en l draft tw p
   unfolding has
   row-misshapen (too_long h) q = absurd (omega arith)
-  row-misshapen (bad_bytes {c = c} {p = p} h e) q = absurd (subst (λ n. T (has refusal.of_bytes n)) q (lexeme-refused draft c p ((rows.refused-exactly draft c p).1 e)).0)
+  row-misshapen (bad_bytes {c = c} {p = p} h e) q = absurd (subst (λ n. T (has refusals.of_bytes n)) q (lexeme-refused draft c p ((rows.refused-exactly draft c p).1 e)).0)
   row-misshapen (too_many h e k) q = absurd (omega arith)
   row-misshapen (too_deep h e k f) q = absurd (omega arith)
   row-misshapen (misshapen w) q = w
-  row-misshapen (faulted {ts = ts} {r = r} {f = f} s e) q = absurd (subst (λ n. T (has refusal.of_shapes n)) q (fault-numbers draft (toks_of draft ts) r f e))
+  row-misshapen (faulted {ts = ts} {r = r} {f = f} s e) q = absurd (subst (λ n. T (has refusals.of_shapes n)) q (fault-numbers draft (toks_of draft ts) r f e))
   row-misshapen (no_room s e h) q = absurd (omega arith)
 
   -- Law 2. Row 8, both halves: "the tokens before this one can be continued to a well-shaped draft, but not with this one", at "its
   -- start, or the length at the end". "In 8, limits and refusals 9 to 14 are left aside", 19 among them.
-  pub law-2 : (p : ℕ) → (answer en l draft tw rw ≡ refused refusal.Misshapen p) ↔ Misshapen en l draft tw p
-  law-2 p = ((λ e. row-misshapen ((refused-exactly en l draft tw rw refusal.Misshapen p).0 e) refl), λ w. (refused-exactly en l draft tw rw refusal.Misshapen p).1 (misshapen w))
+  pub law-2 : (p : ℕ) → (answer en l draft tw rw ≡ refused (refusal_number refusal.Misshapen) p) ↔ Misshapen en l draft tw p
+  law-2 p = ((λ e. row-misshapen ((refused-exactly en l draft tw rw (refusal_number refusal.Misshapen) p).0 e) refl), λ w. (refused-exactly en l draft tw rw (refusal_number refusal.Misshapen) p).1 (misshapen w))
 
   -- Law 4. "A refusal: [..] every word of both buffers 0."
   pub law-4-refused : (c p : ℕ) → answer en l draft tw rw ≡ refused c p → (token_buffer en l draft tw rw ≡ replicate tw 0) × (tree_buffer en l draft tw rw ≡ replicate rw 0)
@@ -217,17 +219,17 @@ module _ (en : Entry) (l : Limits) (draft : List ℕ) (tw rw : ℕ) where
       (subst (λ u. Owned en (length draft) u (records_for en draft a.its_tokens a.shape)) (sym h.0) (tree-owned a.its_tokens a.shape a.shaped a.no_fault))
 
   -- So a tree buffer of seven words for each token that fits, and for each record over, is never too small.
-  pub space-enough : rec_wide * (over en + l.tokens) ≤ rw → (p : ℕ) → answer en l draft tw rw ≡ refused refusal.NoRoom p → ⊥
+  pub space-enough : rec_wide * (over en + l.tokens) ≤ rw → (p : ℕ) → answer en l draft tw rw ≡ refused (refusal_number refusal.NoRoom) p → ⊥
   unfolding has
-  space-enough h p e = row-no-room ((refused-exactly en l draft tw rw refusal.NoRoom p).0 e) refl
+  space-enough h p e = row-no-room ((refused-exactly en l draft tw rw (refusal_number refusal.NoRoom) p).0 e) refl
     where
-      row-no-room : {c q : ℕ} → Refusal en l draft tw rw c q → c ≡ refusal.NoRoom → ⊥
+      row-no-room : {c q : ℕ} → Refusal en l draft tw rw c q → c ≡ (refusal_number refusal.NoRoom) → ⊥
       row-no-room (too_long x) y = omega arith
-      row-no-room (bad_bytes {c = c} {p = q} x e) y = subst (λ n. T (has refusal.of_bytes n)) y (lexeme-refused draft c q ((rows.refused-exactly draft c q).1 e)).0
+      row-no-room (bad_bytes {c = c} {p = q} x e) y = subst (λ n. T (has refusals.of_bytes n)) y (lexeme-refused draft c q ((rows.refused-exactly draft c q).1 e)).0
       row-no-room (too_many x e k) y = omega arith
       row-no-room (too_deep x e k f) y = omega arith
       row-no-room (misshapen w) y = omega arith
-      row-no-room (faulted {ts = ts} {r = r} {f = f} s e) y = subst (λ n. T (has refusal.of_shapes n)) y (fault-numbers draft (toks_of draft ts) r f e)
+      row-no-room (faulted {ts = ts} {r = r} {f = f} s e) y = subst (λ n. T (has refusals.of_shapes n)) y (fault-numbers draft (toks_of draft ts) r f e)
       row-no-room (no_room {ts = ts} {r = r} s e x) y = let z = few-records ts r s e in let w = s.within.few in omega arith
 
 -- All laws at once, of any answer and words that are the definition's.

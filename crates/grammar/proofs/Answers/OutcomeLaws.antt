@@ -14,7 +14,8 @@ use Rattle.lexer.proofs.RowLaws as rows
 use Rattle.lexer.specs.Limits.{Limits, first_too_deep, room, no_token, deep, judged, lexed_of, tokens_of}
 use Rattle.text.specs.Widths.{rec_wide}
 use Rattle.text.specs.Answers.{Answer, accepted, refused}
-use Rattle.text.specs.Refusals as refusal
+use Rattle.text.specs.Refusals.{refusal_number}
+use Rattle.text.specs.declared.refusal.Refusal.TheVariants as refusal
 use Rattle.grammar.specs.Entry.{Entry}
 use Rattle.grammar.specs.Shapes.WellShaped.{shape_of}
 use Rattle.grammar.proofs.Shapes.WellShapedLaws.{shape-exactly, stuck-shape-exactly}
@@ -39,7 +40,7 @@ module _ (en : Entry) (l : Limits) (draft : List ℕ) (tw rw : ℕ) where
     says-fitted e = go (ltb rw (rec_wide * length (records_for en draft ts r))) refl
       where
         go : (b : Bool) → ltb rw (rec_wide * length (records_for en draft ts r)) ≡ b
-            → Outcome (cond b (refused refusal.NoRoom 0) (accepted (length ts) (length (records_for en draft ts r))))
+            → Outcome (cond b (refused (refusal_number refusal.NoRoom) 0) (accepted (length ts) (length (records_for en draft ts r))))
         go true q = no_room s e (ltb-true _ _ q)
         go false q =
             record { its_tokens = ts; shape = r; shaped = s; no_fault = e; fits = ltb-false _ _ q; tokens_number = refl; records_number = refl }
@@ -64,7 +65,7 @@ module _ (en : Entry) (l : Limits) (draft : List ℕ) (tw rw : ℕ) where
   says-judged (tokens ts) short e = go (ltb (room l tw) (length ts)) refl
     where
       go : (b : Bool) → ltb (room l tw) (length ts) ≡ b
-          → Outcome (fitted rw (lexed en (cond b (refused refusal.TooMany (get_or ts (room l tw) no_token).start) (deep (first_too_deep 0 0 ts) (length ts))) draft ts))
+          → Outcome (fitted rw (lexed en (cond b (refused (refusal_number refusal.TooMany) (get_or ts (room l tw) no_token).start) (deep (first_too_deep 0 0 ts) (length ts))) draft ts))
       go true q = too_many short e (ltb-true _ _ q)
       go false q = says-deep ts short e (ltb-false _ _ q) (first_too_deep 0 0 ts) refl
 
@@ -74,7 +75,7 @@ module _ (en : Entry) (l : Limits) (draft : List ℕ) (tw rw : ℕ) where
   says = go (ltb l.bytes (length draft)) refl
     where
       go : (b : Bool) → ltb l.bytes (length draft) ≡ b
-          → Outcome (fitted rw (lexed en (cond b (refused refusal.TooLong l.bytes) (judged l tw (lexemes draft))) draft (tokens_of (lexemes draft))))
+          → Outcome (fitted rw (lexed en (cond b (refused (refusal_number refusal.TooLong) l.bytes) (judged l tw (lexemes draft))) draft (tokens_of (lexemes draft))))
       go true q = too_long (ltb-true _ _ q)
       go false q = says-judged (lexemes draft) (ltb-false _ _ q) refl
 
@@ -87,14 +88,14 @@ module _ (en : Entry) (l : Limits) (draft : List ℕ) (tw rw : ℕ) where
   unfolding lexed_of
   whole h = simp (le-ltb _ _ h)
 
-  first : l.bytes < length draft → lexed_of l draft tw ≡ refused refusal.TooLong l.bytes
+  first : l.bytes < length draft → lexed_of l draft tw ≡ refused (refusal_number refusal.TooLong) l.bytes
   unfolding lexed_of
   first h = simp (lt-ltb _ _ h)
 
   counted : (ts : List Token) → length draft ≤ l.bytes → lexemes draft ≡ tokens ts → length ts ≤ room l tw → lexed_of l draft tw ≡ deep (first_too_deep 0 0 ts) (length ts)
   counted ts h e k =
       whole h ∙ ap (judged l tw) e
-      ∙ ap (λ b. cond b (refused refusal.TooMany (get_or ts (room l tw) no_token).start) (deep (first_too_deep 0 0 ts) (length ts))) (le-ltb (room l tw) (length ts) k)
+      ∙ ap (λ b. cond b (refused (refusal_number refusal.TooMany) (get_or ts (room l tw) no_token).start) (deep (first_too_deep 0 0 ts) (length ts))) (le-ltb (room l tw) (length ts) k)
 
   -- Within the limits the lexer has no refusal;
   pub lexed-within : (ts : List Token) → Within l draft tw ts → lexed_of l draft tw ≡ accepted (length ts) 0
@@ -121,32 +122,32 @@ module _ (en : Entry) (l : Limits) (draft : List ℕ) (tw rw : ℕ) where
   by-reading x e = ap (fitted rw) e
 
   refused-only : {c p : ℕ} → Refusal en l draft tw rw c p → answer en l draft tw rw ≡ refused c p
-  refused-only (too_long h) = by-reading (unread refusal.TooLong l.bytes) (read-lexed (refused refusal.TooLong l.bytes) (first h))
+  refused-only (too_long h) = by-reading (unread (refusal_number refusal.TooLong) l.bytes) (read-lexed (refused (refusal_number refusal.TooLong) l.bytes) (first h))
   refused-only (bad_bytes {c = c} {p = p} h e) = by-reading (unread c p) (read-lexed (refused c p) (whole h ∙ ap (judged l tw) ((rows.refused-exactly draft c p).1 e)))
   refused-only (too_many {ts = ts} h e k) =
-      by-reading (unread refusal.TooMany (get_or ts (room l tw) no_token).start)
-      (read-lexed (refused refusal.TooMany (get_or ts (room l tw) no_token).start)
+      by-reading (unread (refusal_number refusal.TooMany) (get_or ts (room l tw) no_token).start)
+      (read-lexed (refused (refusal_number refusal.TooMany) (get_or ts (room l tw) no_token).start)
       (whole h ∙ ap (judged l tw) e
-      ∙ ap (λ b. cond b (refused refusal.TooMany (get_or ts (room l tw) no_token).start) (deep (first_too_deep 0 0 ts) (length ts))) (lt-ltb (room l tw) (length ts) k)))
+      ∙ ap (λ b. cond b (refused (refusal_number refusal.TooMany) (get_or ts (room l tw) no_token).start) (deep (first_too_deep 0 0 ts) (length ts))) (lt-ltb (room l tw) (length ts) k)))
   refused-only (too_deep {ts = ts} {p = p} h e k q) =
-      by-reading (unread refusal.TooDeep p) (read-lexed (refused refusal.TooDeep p) (counted ts h e k ∙ ap (λ o. deep o (length ts)) q))
+      by-reading (unread (refusal_number refusal.TooDeep) p) (read-lexed (refused (refusal_number refusal.TooDeep) p) (counted ts h e k ∙ ap (λ o. deep o (length ts)) q))
   refused-only (misshapen w) =
       let ts = w.its_tokens in
       let f = first-wrong-at en l draft tw ts w.within w.at w.there w.before w.further w.ended in
-      by-reading (unread refusal.Misshapen (start_of draft ts w.at)) (read-within ts w.within ∙ ap (shaped en draft ts) ((stuck-shape-exactly en (classes_of (toks_of draft ts)) w.at).1 f))
-      ∙ ap (refused refusal.Misshapen) (sym w.place)
+      by-reading (unread (refusal_number refusal.Misshapen) (start_of draft ts w.at)) (read-within ts w.within ∙ ap (shaped en draft ts) ((stuck-shape-exactly en (classes_of (toks_of draft ts)) w.at).1 f))
+      ∙ ap (refused (refusal_number refusal.Misshapen)) (sym w.place)
   refused-only (faulted {ts = ts} {r = r} {f = f} s e) =
       by-reading (unread f.number f.place) (read-shaped ts r s ∙ ap (λ o. faulty o ts (records_for en draft ts r)) e)
   refused-only (no_room {ts = ts} {r = r} s e h) =
       by-reading (read ts (records_for en draft ts r)) (read-faultless ts r s e)
-      ∙ ap (λ b. cond b (refused refusal.NoRoom 0) (accepted (length ts) (length (records_for en draft ts r)))) (lt-ltb rw (rec_wide * length (records_for en draft ts r)) h)
+      ∙ ap (λ b. cond b (refused (refusal_number refusal.NoRoom) 0) (accepted (length ts) (length (records_for en draft ts r)))) (lt-ltb rw (rec_wide * length (records_for en draft ts r)) h)
 
   accepted-only : (n m : ℕ) → Accepted en l draft tw rw n m → answer en l draft tw rw ≡ accepted n m
   accepted-only n m a =
       let ts = a.its_tokens in
       let r = a.shape in
       by-reading (read ts (records_for en draft ts r)) (read-faultless ts r a.shaped a.no_fault)
-      ∙ ap (λ b. cond b (refused refusal.NoRoom 0) (accepted (length ts) (length (records_for en draft ts r)))) (le-ltb rw (rec_wide * length (records_for en draft ts r)) a.fits)
+      ∙ ap (λ b. cond b (refused (refusal_number refusal.NoRoom) 0) (accepted (length ts) (length (records_for en draft ts r)))) (le-ltb rw (rec_wide * length (records_for en draft ts r)) a.fits)
       ∙ ap₂ (λ x y. accepted x y) (sym a.tokens_number) (sym a.records_number)
 
   -- Refused exactly by one of the rows, each with no row before it: the order of refusals.

@@ -5,7 +5,8 @@ use Rattle.std.proofs.Math.Option.{some}
 use Rattle.std.proofs.Common.{arith, ltb-true}
 use Rattle.own.specs.Law.{sorts}
 use Rattle.text.specs.Answers.{refused}
-use Rattle.text.specs.Refusals as refusal
+use Rattle.text.specs.Refusals.{refusal_number}
+use Rattle.text.specs.declared.refusal.Refusal.TheVariants as refusal
 use Rattle.theory.specs.Ebnf as shape
 use Rattle.lexer.specs.Lexemes.{Token}
 use Rattle.lexer.specs.Limits.{Limits, no_token, depth_after, row_after, passes, first_too_deep, room}
@@ -84,11 +85,11 @@ unless-start m false n u h = h & nil
 
 by-start : (r : Refused) (draft : List ℕ) (m : ℕ) (is : Items) → Starts m (marks is) → All (λ f. f.place ≤ m) (faults_by r draft is)
 by-start never draft m is s = nil
-by-start byBound draft m is s = unless-start m _ refusal.Bound _ (first-of-starts m t.DecLiteral (marks is) s)
-by-start byLength draft m is s = unless-start m _ refusal.Length _ (first-of-starts m _ (marks is) s)
+by-start byBound draft m is s = unless-start m _ (refusal_number refusal.Bound) _ (first-of-starts m t.DecLiteral (marks is) s)
+by-start byLength draft m is s = unless-start m _ (refusal_number refusal.Length) _ (first-of-starts m _ (marks is) s)
 by-start byFold draft m is s =
     let a = first-of-starts m t.DecLiteral (marks is) s in
-    chosen (λ g. g.place ≤ m) (eqb (opening (sorts is)) t.array_fold) (unless-start m _ refusal.Size _ a) (unless-start m _ refusal.Bound _ a)
+    chosen (λ g. g.place ≤ m) (eqb (opening (sorts is)) t.array_fold) (unless-start m _ (refusal_number refusal.Size) _ a) (unless-start m _ (refusal_number refusal.Bound) _ a)
 by-start byArms draft m is s = unless-start m _ _ _ (first-starts m (marks is) s)
 
 at-start : (draft : List ℕ) (m k : ℕ) (is : Items) → Starts m (marks is) → All (λ f. f.place ≤ m) (faults_at draft k is)

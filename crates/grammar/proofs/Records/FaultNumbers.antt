@@ -4,7 +4,9 @@ use Rattle.std.specs.Prelude.{Bool, true, false, cond, List, [], ◌∷◌, ◌�
 use Rattle.std.proofs.Math.Option.{some}
 use Rattle.std.proofs.Common.{sym, subst}
 use Rattle.std.proofs.lemmas.Bool.{eqb-false}
-use Rattle.text.specs.Refusals as refusal
+use Rattle.text.specs.Refusals as refusals
+use Rattle.text.specs.Refusals.{refusal_number}
+use Rattle.text.specs.declared.refusal.Refusal.TheVariants as refusal
 use Rattle.text.specs.Lists.{has, Some, here, there}
 use Rattle.theory.specs.Ebnf as shape
 use Rattle.own.specs.Tree.{Tok, Items, marks}
@@ -35,11 +37,11 @@ module _ (P : Fault → Type 0) where
 
 -- The number is one of the family.
 abbrev Numbered : Fault → Type 0
-Numbered f = T (has refusal.of_shapes f.number)
+Numbered f = T (has refusals.of_shapes f.number)
 
 -- The number of a match's refusal, if it has one.
 abbrev ArmsNumber : ℕ → Type 0
-ArmsNumber n = (n ≡ 0 → ⊥) → T (has refusal.of_shapes n)
+ArmsNumber n = (n ≡ 0 → ⊥) → T (has refusals.of_shapes n)
 
 if-either : (b : Bool) (x y : ℕ) → ArmsNumber x → ArmsNumber y → ArmsNumber (cond b x y)
 if-either true x y p q = p
@@ -48,18 +50,18 @@ if-either false x y p q = q
 is-nothing : ArmsNumber 0
 is-nothing h = absurd (h refl)
 
-is_number : (n : ℕ) → T (has refusal.of_shapes n) → ArmsNumber n
+is_number : (n : ℕ) → T (has refusals.of_shapes n) → ArmsNumber n
 is_number n t h = t
 
 arms-number : (e : ℕ) (lows : List ℕ) → ArmsNumber (arms_fault e lows)
 unfolding arms_fault has
 arms-number e lows =
     if-either (eqb e 0) _ _
-    (if-either (eqb (length lows) 0) _ _ (is_number refusal.NoArms tt)
-    (if-either (eqb (length lows) 2) _ _ (if-either (mates lows) _ _ is-nothing (is_number refusal.NoPartners tt)) (is_number refusal.ArmCount tt)))
-    (if-either (eqb (length lows) 0) _ _ is-nothing (is_number refusal.MixedArms tt))
+    (if-either (eqb (length lows) 0) _ _ (is_number (refusal_number refusal.NoArms) tt)
+    (if-either (eqb (length lows) 2) _ _ (if-either (mates lows) _ _ is-nothing (is_number (refusal_number refusal.NoPartners) tt)) (is_number (refusal_number refusal.ArmCount) tt)))
+    (if-either (eqb (length lows) 0) _ _ is-nothing (is_number (refusal_number refusal.MixedArms) tt))
 
-unless-numbered : (ok : Bool) (n : ℕ) (u : Tok) → (ok ≡ false → T (has refusal.of_shapes n)) → All Numbered (unless ok n u)
+unless-numbered : (ok : Bool) (n : ℕ) (u : Tok) → (ok ≡ false → T (has refusals.of_shapes n)) → All Numbered (unless ok n u)
 unfolding unless
 unless-numbered true n u h = nil
 unless-numbered false n u h = h refl & nil
@@ -67,9 +69,9 @@ unless-numbered false n u h = h refl & nil
 by-numbered : (r : Refused) (draft : List ℕ) (is : Items) → All Numbered (faults_by r draft is)
 unfolding has
 by-numbered never draft is = nil
-by-numbered byBound draft is = unless-numbered _ refusal.Bound _ (λ e. tt)
-by-numbered byLength draft is = unless-numbered _ refusal.Length _ (λ e. tt)
-by-numbered byFold draft is = chosen Numbered (eqb (opening (sorts is)) t.array_fold) (unless-numbered _ refusal.Size _ (λ e. tt)) (unless-numbered _ refusal.Bound _ (λ e. tt))
+by-numbered byBound draft is = unless-numbered _ (refusal_number refusal.Bound) _ (λ e. tt)
+by-numbered byLength draft is = unless-numbered _ (refusal_number refusal.Length) _ (λ e. tt)
+by-numbered byFold draft is = chosen Numbered (eqb (opening (sorts is)) t.array_fold) (unless-numbered _ (refusal_number refusal.Size) _ (λ e. tt)) (unless-numbered _ (refusal_number refusal.Bound) _ (λ e. tt))
 by-numbered byArms draft is =
     let f = arms_fault (counted (kind.EnumArm ∷ []) (sorts is)) (arm_lows (sorts is)) in
     unless-numbered (eqb f 0) f (first_tok (marks is)) (λ e. arms-number (counted (kind.EnumArm ∷ []) (sorts is)) (arm_lows (sorts is)) (eqb-false f 0 e))
@@ -87,5 +89,5 @@ all-numbered draft (shape.sub k js r) ts =
     (all_append (all-numbered draft js ts) (all-numbered draft r (drop (length (shape.yield js)) ts)))
 
 -- The number of a refusal of a shape tree is one of the family.
-pub fault-numbers : (draft : List ℕ) (ts : List Tok) (r : shape.Items) (f : Fault) → fault_of draft ts r ≡ some f → T (has refusal.of_shapes f.number)
+pub fault-numbers : (draft : List ℕ) (ts : List Tok) (r : shape.Items) (f : Fault) → fault_of draft ts r ≡ some f → T (has refusals.of_shapes f.number)
 fault-numbers draft ts r f e = of-answered Numbered draft ts r f (all-numbered draft r ts) e

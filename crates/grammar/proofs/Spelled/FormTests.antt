@@ -6,8 +6,7 @@ use Rattle.text.proofs.Same.{differ}
 use Rattle.text.proofs.Table.{first-of, second-of, or_cases, pair}
 use Rattle.text.specs.Lists.{Some, here, there, some, all, has}
 use Rattle.text.proofs.ListLaws.{some-sound, all-some, from_some}
-use Rattle.num.specs.declared.Value.{Value}
-use Rattle.num.specs.Value.{largest, fitted}
+use Rattle.num.specs.Value.{Value, largest, fitted}
 use Rattle.num.specs.Bound.{bound_ok, size_ok, length_ok, is_bound}
 use Rattle.num.proofs.ValueLaws.{Held, whole, lost, held}
 use Rattle.own.specs.Law.{Sort, word, child}

@@ -7,7 +7,8 @@ use Rattle.std.proofs.lemmas.Bool.{eqb-false}
 use Rattle.std.proofs.Math.Dec.{T, eqb}
 use Rattle.text.proofs.ListLaws.{all-has}
 use Rattle.text.proofs.Table.{first-of, second-of, or_cases, pair, not-true}
-use Rattle.text.specs.Refusals as refusal
+use Rattle.text.specs.Refusals.{refusal_number}
+use Rattle.text.specs.declared.refusal.Refusal.TheVariants as refusal
 use Rattle.text.specs.Lists.{all, some, here, has, count, span}
 use Rattle.own.specs.Tree.{partner}
 use Rattle.own.specs.Law.{Sort, word, child}
@@ -144,7 +145,7 @@ faultless e lows f = go (eqb e 0) refl (eqb (length lows) 0) refl (eqb (length l
     none_of (x ∷ l) q = absurd (omega arith)
 
     go : (a : Bool) → eqb e 0 ≡ a → (b : Bool) → eqb (length lows) 0 ≡ b → (c d : Bool) → mates lows ≡ d
-        → ◌≡◌ {A = ℕ} (cond a (cond b refusal.NoArms (cond c (cond d 0 refusal.NoPartners) refusal.ArmCount)) (cond b 0 refusal.MixedArms)) 0 → ((e ≡ 0) × T (mates lows)) ⊎ ((0 < e) × (lows ≡ []))
+        → ◌≡◌ {A = ℕ} (cond a (cond b (refusal_number refusal.NoArms) (cond c (cond d 0 (refusal_number refusal.NoPartners)) (refusal_number refusal.ArmCount))) (cond b 0 (refusal_number refusal.MixedArms))) 0 → ((e ≡ 0) × T (mates lows)) ⊎ ((0 < e) × (lows ≡ []))
     go true p true q c d m z = absurd (omega arith)
     go true p false q true true m z = inl (eqb-true e 0 p, subst (λ b. T b) (sym m) tt)
     go true p false q true false m z = absurd (omega arith)

@@ -12,7 +12,8 @@ use Rattle.std.proofs.Common.{ap, ◌∙◌, arith}
 use borrow.Author.Tests.{eqb-true, eq-eqb, ne_eqb}
 use Rattle.std.proofs.Math.ListN.{get_elem?}
 use Rattle.text.specs.Part.{part_of}
-use Rattle.text.specs.Refusals as refusal
+use Rattle.text.specs.Refusals.{refusal_number}
+use Rattle.text.specs.declared.refusal.Refusal.TheVariants as refusal
 use Rattle.text.specs.Lists.{all, here, has}
 use Rattle.num.specs.Digits as digits
 use Rattle.num.specs.Value.{decimal_from, decimal_of, largest, fitted}
@@ -139,19 +140,19 @@ module _ (draft : List ℕ) (is : Items) where
 
   list-clear : faults_at draft ListTypeShape is ≡ [] → sees class.LAngle w ≡ true → bound_ok (fitted (decimal draft is)) ≡ true
   unfolding faults_at
-  list-clear f s = rw s at (passes (not (sees class.LAngle w) || bound_ok (fitted (decimal draft is))) refusal.Bound (first_of class.DecLiteral (marks is)) f)
+  list-clear f s = rw s at (passes (not (sees class.LAngle w) || bound_ok (fitted (decimal draft is))) (refusal_number refusal.Bound) (first_of class.DecLiteral (marks is)) f)
 
   length-clear : faults_at draft ArrayTypeShape is ≡ [] → length_ok (fitted (decimal draft is)) ≡ true
   unfolding faults_at
-  length-clear f = passes (length_ok (fitted (decimal draft is))) refusal.Length _ f
+  length-clear f = passes (length_ok (fitted (decimal draft is))) (refusal_number refusal.Length) _ f
 
   size-clear : faults_at draft FoldingShape is ≡ [] → sees class.LAngle w ≡ true → opening w ≡ class.array_fold → size_ok (fitted (decimal draft is)) ≡ true
   unfolding faults_at
-  size-clear f s o = rw s at (passes (not (sees class.LAngle w) || size_ok (fitted (decimal draft is))) refusal.Size (first_of class.DecLiteral (marks is)) (rw o at f))
+  size-clear f s o = rw s at (passes (not (sees class.LAngle w) || size_ok (fitted (decimal draft is))) (refusal_number refusal.Size) (first_of class.DecLiteral (marks is)) (rw o at f))
 
   fold-clear : faults_at draft FoldingShape is ≡ [] → sees class.LAngle w ≡ true → (opening w ≡ class.array_fold → ⊥) → bound_ok (fitted (decimal draft is)) ≡ true
   unfolding faults_at
-  fold-clear f s o = rw s at (passes (not (sees class.LAngle w) || bound_ok (fitted (decimal draft is))) refusal.Bound (first_of class.DecLiteral (marks is)) (rw (ne_eqb (opening w) class.array_fold o) at f))
+  fold-clear f s o = rw s at (passes (not (sees class.LAngle w) || bound_ok (fitted (decimal draft is))) (refusal_number refusal.Bound) (first_of class.DecLiteral (marks is)) (rw (ne_eqb (opening w) class.array_fold o) at f))
 
   arms-clear : faults_at draft MatchShape is ≡ [] → arms_fault (counted (kind.EnumArm ∷ []) w) (arm_lows w) ≡ 0
   unfolding faults_at

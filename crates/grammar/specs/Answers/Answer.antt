@@ -10,7 +10,8 @@ use Rattle.lexer.specs.Limits.{Limits, no_token, lexed_of, token_words, tokens_o
 use Rattle.own.specs.Tree.{Tok, Node, Rec, classes_of}
 use Rattle.text.specs.Widths.{rec_wide}
 use Rattle.text.specs.Answers.{Answer, accepted, refused}
-use Rattle.text.specs.Refusals as refusal
+use Rattle.text.specs.Refusals.{refusal_number}
+use Rattle.text.specs.declared.refusal.Refusal.TheVariants as refusal
 use Rattle.up.specs.Ways.{up_words}
 use Rattle.kinds.specs.Class.{class_of}
 use Rattle.grammar.specs.Entry.{Entry, records_of, ups_of}
@@ -50,7 +51,7 @@ faulty (some f) ts rs = unread f.number f.place
 
 -- Refusal 8, then those of the shapes.
 abbrev pub shaped : Entry → List ℕ → List Token → Found → Reading
-shaped en draft ts (stuck k) = unread refusal.Misshapen (start_of draft ts k)
+shaped en draft ts (stuck k) = unread (refusal_number refusal.Misshapen) (start_of draft ts k)
 shaped en draft ts (found r) = faulty (fault_of draft (toks_of draft ts) r) ts (records_for en draft ts r)
 
 -- The lexer's refusals, then these.
@@ -65,7 +66,7 @@ reading en l draft tw = lexed en (lexed_of l draft tw) draft (tokens_of (lexemes
 -- Refusal 15: "tree buffer under six words a record"; "15 and 18 now ask seven words a record" (document 02, order 7).
 abbrev pub fitted : ℕ → Reading → Answer
 fitted rw (unread c p) = refused c p
-fitted rw (read ts rs) = cond (ltb rw (rec_wide * length rs)) (refused refusal.NoRoom 0) (accepted (length ts) (length rs))
+fitted rw (read ts rs) = cond (ltb rw (rec_wide * length rs)) (refused (refusal_number refusal.NoRoom) 0) (accepted (length ts) (length rs))
 
 -- The answer for a draft, a token buffer of tw words and a tree buffer of rw words.
 unfoldable pub answer : Entry → Limits → List ℕ → ℕ → ℕ → Answer

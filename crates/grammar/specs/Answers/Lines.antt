@@ -3,7 +3,8 @@
 use Rattle.std.specs.Prelude.{List, [], ◌∷◌, ◌++◌, ◌≡◌, refl, ℕ}
 use Rattle.text.specs.Ascii.{ascii, ascii_from}
 use Rattle.text.specs.Answers.{Answer, accepted, refused, Values, values}
-use Rattle.text.specs.Refusals as refusal
+use Rattle.text.specs.Refusals.{refusal_number}
+use Rattle.text.specs.declared.refusal.Refusal.TheVariants as refusal
 use Rattle.lexer.specs.Limits.{Limits}
 use Rattle.own.specs.Tree.{Rec}
 use Rattle.lines.specs.Hex.{upper_hex, hex}
@@ -26,6 +27,6 @@ unfoldable pub listing : Entry → Limits → List ℕ → ℕ → ℕ → List 
 listing en l draft tw rw = lines (listed (answer en l draft tw rw) (records_read en l draft tw))
 
 -- Refusal 8 at 31: kind 00, 31 twice, 8 as low, high 0, size 1, way up 0.
-pub refusal-line : lines (listed (refused refusal.Misshapen 31) []) ≡ ascii "00 001F 001F 00000008 00000000 0001 0000" ++ (LF ∷ [])
+pub refusal-line : lines (listed (refused (refusal_number refusal.Misshapen) 31) []) ≡ ascii "00 001F 001F 00000008 00000000 0001 0000" ++ (LF ∷ [])
 unfolding lines_of line_of hex upper_hex refusal_rec ascii ascii_from
 refusal-line = refl

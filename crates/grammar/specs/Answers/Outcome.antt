@@ -12,7 +12,8 @@ use Rattle.own.specs.Tree.{Rec, concat, classes_of}
 use Rattle.up.specs.Ways.{sevens}
 use Rattle.text.specs.Part.{part_of}
 use Rattle.text.specs.Widths.{tok_wide, rec_wide}
-use Rattle.text.specs.Refusals as refusal
+use Rattle.text.specs.Refusals.{refusal_number}
+use Rattle.text.specs.declared.refusal.Refusal.TheVariants as refusal
 use Rattle.grammar.specs.Entry.{Entry}
 use Rattle.grammar.specs.Shapes.WellShaped.{Shape, WellShaped}
 use Rattle.grammar.specs.Records.Faults.{Fault, fault_of}
@@ -62,21 +63,21 @@ pub record Misshapen (en : Entry) (l : Limits) (draft : List ℕ) (tw p : ℕ) :
 -- Refused: one case a row, or one for rows that are told apart by what is found, each with no row before it.
 pub data Refusal (en : Entry) (l : Limits) (draft : List ℕ) (tw rw : ℕ) : ℕ → ℕ → Type 0 where
   -- 1: "draft over 16,384 bytes"
-  too_long : l.bytes < length draft → Refusal en l draft tw rw refusal.TooLong l.bytes
+  too_long : l.bytes < length draft → Refusal en l draft tw rw (refusal_number refusal.TooLong) l.bytes
   -- those of the bytes: "of 2 to 5 the earliest place wins", 21 among them
   bad_bytes : {c p : ℕ} → length draft ≤ l.bytes → Earliest draft c p → Refusal en l draft tw rw c p
   -- 6: "over 2,048 tokens, or over a third of the token buffer's words", at the "first token too many"
   too_many : {ts : List Token} → length draft ≤ l.bytes → lexemes draft ≡ tokens ts → room l tw < length ts
-      → Refusal en l draft tw rw refusal.TooMany (get_or ts (room l tw) no_token).start
+      → Refusal en l draft tw rw (refusal_number refusal.TooMany) (get_or ts (room l tw) no_token).start
   -- 7: "over 48 brackets open, or over 8 `match` tokens in a row", at "the token that passes it"
   too_deep : {ts : List Token} {p : ℕ} → length draft ≤ l.bytes → lexemes draft ≡ tokens ts → length ts ≤ room l tw → first_too_deep 0 0 ts ≡ some p
-      → Refusal en l draft tw rw refusal.TooDeep p
-  misshapen : {p : ℕ} → Misshapen en l draft tw p → Refusal en l draft tw rw refusal.Misshapen p
+      → Refusal en l draft tw rw (refusal_number refusal.TooDeep) p
+  misshapen : {p : ℕ} → Misshapen en l draft tw p → Refusal en l draft tw rw (refusal_number refusal.Misshapen) p
   -- those of the shapes: "of 9 to 14 the earliest place", 19 among them
   faulted : {ts : List Token} {r : Items} {f : Fault} → Shaped en l draft tw ts r → fault_of draft (toks_of draft ts) r ≡ some f → Refusal en l draft tw rw f.number f.place
   -- 15: "tree buffer under six words a record", and by order 7 of document 02 under seven, at 0
   no_room : {ts : List Token} {r : Items} → Shaped en l draft tw ts r → fault_of draft (toks_of draft ts) r ≡ none → rw < rec_wide * length (records_for en draft ts r)
-      → Refusal en l draft tw rw refusal.NoRoom 0
+      → Refusal en l draft tw rw (refusal_number refusal.NoRoom) 0
 
 -- "An accepted draft, to which no row below applies: the numbers of tokens and records".
 pub record Accepted (en : Entry) (l : Limits) (draft : List ℕ) (tw rw n m : ℕ) : Type 0 where

@@ -3,7 +3,8 @@
 -- Assumes nothing: these are definitions. That `answer` and the buffers keep the promise stands in proofs/Answers/Laws.antt.
 use Rattle.std.specs.Prelude.{List, ◌↔◌, ◌≡◌, ℕ, length, replicate}
 use Rattle.text.specs.Answers.{Answer, accepted, refused}
-use Rattle.text.specs.Refusals as refusal
+use Rattle.text.specs.Refusals.{refusal_number}
+use Rattle.text.specs.declared.refusal.Refusal.TheVariants as refusal
 use Rattle.lexer.specs.Limits.{Limits}
 use Rattle.own.specs.Words.{toks, recs}
 use Rattle.kinds.specs.Class.{class_of}
@@ -19,7 +20,7 @@ pub record Promised (en : Entry) (l : Limits) (draft : List ℕ) (tw rw : ℕ) (
   pub written : (n m : ℕ) (d : Accepted en l draft tw rw n m) → Written tw rw d.its_tokens (ups_for en draft d.its_tokens d.shape) (records_for en draft d.its_tokens d.shape) ts rs
   -- Otherwise refused, in the order of the refusals; row 8 both ways;
   pub refuses : (c p : ℕ) → (a ≡ refused c p) ↔ Refusal en l draft tw rw c p
-  pub misshapen : (p : ℕ) → (a ≡ refused refusal.Misshapen p) ↔ Misshapen en l draft tw p
+  pub misshapen : (p : ℕ) → (a ≡ refused (refusal_number refusal.Misshapen) p) ↔ Misshapen en l draft tw p
   -- "every word of both buffers 0".
   pub zeros : (c p : ℕ) → a ≡ refused c p → (ts ≡ replicate tw 0) × (rs ≡ replicate rw 0)
   -- Demand 3, of the words that are handed over.

@@ -3,9 +3,9 @@
 use Rattle.std.specs.Prelude.{Bool, false, ◌||◌, not, cond, List, [], ◌∷◌, ◌++◌, map, ◌≡◌, ℕ, ◌≤◌, eqb, ltb, length, drop, get_or}
 use Rattle.std.proofs.Math.Option.{Option, none, some}
 use Rattle.text.specs.Lists.{Some}
-use Rattle.text.specs.Refusals as refusal
-use Rattle.num.specs.declared.Value.{Value}
-use Rattle.num.specs.Value.{fitted}
+use Rattle.text.specs.Refusals.{refusal_number}
+use Rattle.text.specs.declared.refusal.Refusal.TheVariants as refusal
+use Rattle.num.specs.Value.{Value, fitted}
 use Rattle.num.specs.Bound.{bound_ok, size_ok, length_ok}
 use Rattle.theory.specs.Ebnf as shape
 use Rattle.own.specs.Tree.{Tok, Items, marks, partner}
@@ -42,8 +42,8 @@ mates (a ∷ b ∷ c ∷ l) = false
 -- match", 13 "built-in arms only, 1 or over 2", 14 "two built-in arms, not Left with Right, None with Some, False with True".
 unfoldable pub arms_fault : ℕ → List ℕ → ℕ
 arms_fault e lows =
-    cond (eqb e 0) (cond (eqb (length lows) 0) refusal.NoArms (cond (eqb (length lows) 2) (cond (mates lows) 0 refusal.NoPartners) refusal.ArmCount))
-    (cond (eqb (length lows) 0) 0 refusal.MixedArms)
+    cond (eqb e 0) (cond (eqb (length lows) 0) (refusal_number refusal.NoArms) (cond (eqb (length lows) 2) (cond (mates lows) 0 (refusal_number refusal.NoPartners)) (refusal_number refusal.ArmCount)))
+    (cond (eqb (length lows) 0) 0 (refusal_number refusal.MixedArms))
 
 -- 9 "`List` or `fold` bound not a power of two from 2 to 9,223,372,036,854,775,808" and 10 "`array_fold` size 0 or over
 -- 18,446,744,073,709,551,615", at the number. Without `<` a List is an alias name, and `fold` a variable or a path.
@@ -54,9 +54,9 @@ number_fault ok n draft is = unless (not (sees t.LAngle (sorts is)) || ok (fitte
 -- at `match`. Which of them a shape of kind k may have is in its row.
 abbrev pub faults_by : Refused → List ℕ → Items → List Fault
 faults_by never draft is = []
-faults_by byBound draft is = number_fault bound_ok refusal.Bound draft is
-faults_by byLength draft is = unless (length_ok (fitted (decimal draft is))) refusal.Length (first_of t.DecLiteral (marks is))
-faults_by byFold draft is = cond (eqb (opening (sorts is)) t.array_fold) (number_fault size_ok refusal.Size draft is) (number_fault bound_ok refusal.Bound draft is)
+faults_by byBound draft is = number_fault bound_ok (refusal_number refusal.Bound) draft is
+faults_by byLength draft is = unless (length_ok (fitted (decimal draft is))) (refusal_number refusal.Length) (first_of t.DecLiteral (marks is))
+faults_by byFold draft is = cond (eqb (opening (sorts is)) t.array_fold) (number_fault size_ok (refusal_number refusal.Size) draft is) (number_fault bound_ok (refusal_number refusal.Bound) draft is)
 faults_by byArms draft is = let f = arms_fault (counted (kind.EnumArm ∷ []) (sorts is)) (arm_lows (sorts is)) in unless (eqb f 0) f (first_tok (marks is))
 
 abbrev pub refused_of : ℕ → Refused

@@ -7,10 +7,9 @@ use Rattle.listing.proofs.list.Goals as goal
 
 pub slice_bounds-lines-end : goal.slice_bounds-lines-end
 slice_bounds-lines-end c =
-    let w = used-within c.args.draft.now c.list_draft-used.ensures.used in
-    omega (arith, w, c.line_buffer-lines.ensures, c.list_draft-used.auto.out)
+    omega (arith, used-within c.args.draft.now c.list_draft-used.ensures.used, c.list_draft-used.auto.out)
 
 pub slice_bounds-put-end : goal.slice_bounds-put-end
 slice_bounds-put-end c =
-    let w = used-within c.args.draft.now c.list_draft-used.ensures.used in
-    sym (length-take-le _ _ (omega (arith, w, c.line_buffer-lines.ensures, c.list_draft-used.auto.out)))
+    let h = used-within c.args.draft.now c.list_draft-used.ensures.used in
+    sym (length-take-le _ _ (omega (arith, h, c.list_draft-used.auto.out)))

@@ -1,6 +1,6 @@
 -- What the walk over a record's children finds is what `Right` asks of them, and that they count themselves.
 -- Assumes nothing.
-use Rattle.std.specs.Prelude.{Bool, true, false, cond, List, [], ◌∷◌, map, ◌≢◌, ◌≡◌, ℕ, ◌+◌, ◌-◌, ◌<◌, ◌≤◌, eqb, length, get_or}
+use Rattle.std.specs.Prelude.{Option, Some, None, Bool, true, false, cond, List, [], ◌∷◌, map, ◌≢◌, ◌≡◌, ℕ, ◌+◌, ◌-◌, ◌<◌, ◌≤◌, eqb, length, get_or}
 use Rattle.std.specs.Bool.{beq}
 use Rattle.std.proofs.Math.Path.{refl, subst}
 use Rattle.std.proofs.Common.{sym, ap, ◌∙◌, arith, eq-eqb, eqb-true, lt-ltb, le-leb}
@@ -33,8 +33,6 @@ use Rattle.load.specs.Checks.Parts.{Counts}
 use Rattle.load.specs.Checks.Judge.{sits, one, past, judge, before, verdict}
 use Rattle.load.proofs.Checks.Small.{sat}
 use Rattle.load.specs.declared.walk.Seen.{Seen}
-use Rattle.load.specs.declared.walk.Walked.{Walked}
-use Rattle.load.specs.declared.walk.Walked.TheVariants.{Bad, Done}
 
 -- A child is counted by its cue.
 cues-many : length cue_kinds ≡ cues
@@ -68,26 +66,26 @@ past_all s [] = s
 past_all s (c ∷ cs) = past_all (past s c) cs
 
 -- Children inside the place whose sizes add up are passed,
-judged : (r : Rec) (s : Seen) (cs : List Rec) → All (Inside r) cs → All Counts cs → sizes cs ≡ s.left → judge r s cs ≡ Done (past_all s cs)
+judged : (r : Rec) (s : Seen) (cs : List Rec) → All (Inside r) cs → All Counts cs → sizes cs ≡ s.left → judge r s cs ≡ Some (past_all s cs)
 unfolding judge sits past past_all
-judged r s [] nil nil e = ap (λ (b : Bool). cond b (Done s) Bad) (eq-eqb s.left 0 (sym e))
+judged r s [] nil nil e = ap (λ (b : Bool). cond b (Some s) None) (eq-eqb s.left 0 (sym e))
 judged r s (c ∷ cs) (i & is) (p & ps) e =
     let fit : c.size ≤ s.left = omega arith in
     let t : sits s.left r c ≡ true = simp (lt-ltb 0 c.size p, le-leb c.size s.left fit, le-leb r.start c.start i.from, le-leb c.stop r.stop i.to) in
-    ap (λ (b : Bool). cond b (judge r (past s c) cs) Bad) t ∙ judged r (past s c) cs is ps (omega arith)
+    ap (λ (b : Bool). cond b (judge r (past s c) cs) None) t ∙ judged r (past s c) cs is ps (omega arith)
 
 -- and no others.
-judged-only : (r : Rec) (s : Seen) (cs : List Rec) {x : Seen} → judge r s cs ≡ Done x → All (Inside r) cs × All Counts cs × (sizes cs ≡ s.left)
+judged-only : (r : Rec) (s : Seen) (cs : List Rec) {x : Seen} → judge r s cs ≡ Some x → All (Inside r) cs × All Counts cs × (sizes cs ≡ s.left)
 unfolding judge past
 judged-only r s [] {x} e = (nil, nil, go (eqb s.left 0) refl e)
   where
-    go : (t : Bool) → eqb s.left 0 ≡ t → cond t (Done s) Bad ≡ Done x → 0 ≡ s.left
+    go : (t : Bool) → eqb s.left 0 ≡ t → cond t (Some s) None ≡ Some x → 0 ≡ s.left
     go true z e = sym (eqb-true s.left 0 z)
     go false z e = let y : ◌≡◌ {A = ℕ} 0 1 = cc in absurd (omega arith)
 judged-only r s (c ∷ cs) {x} e = go (sits s.left r c) refl e (λ d. judged-only r (past s c) cs d)
   where
-    go : (t : Bool) → sits s.left r c ≡ t → cond t (judge r (past s c) cs) Bad ≡ Done x
-        → (judge r (past s c) cs ≡ Done x → All (Inside r) cs × All Counts cs × (sizes cs ≡ s.left - c.size)) → All (Inside r) (c ∷ cs) × All Counts (c ∷ cs) × (sizes (c ∷ cs) ≡ s.left)
+    go : (t : Bool) → sits s.left r c ≡ t → cond t (judge r (past s c) cs) None ≡ Some x
+        → (judge r (past s c) cs ≡ Some x → All (Inside r) cs × All Counts cs × (sizes cs ≡ s.left - c.size)) → All (Inside r) (c ∷ cs) × All Counts (c ∷ cs) × (sizes (c ∷ cs) ≡ s.left)
     go true z e f =
         let y = sat s.left r c (subst T (sym z) tt) in
         let (is, ps, d) = f e in
@@ -128,7 +126,7 @@ module _ (r : Rec) (cs : List Rec) where
       agrees (asked_of r.kind) r.low r.high ((t.names ∙ zero-add (counted (kind.Name ∷ []) (map bare cs))) i)
       ((t.parameters ∙ zero-add (counted (kind.Parameter ∷ []) (map bare cs))) i) ((t.patterns ∙ zero-add (counted family.patterns (map bare cs))) i)
 
-  given : Decided r.kind r.low r.high cs → T (verdict r (Done end))
+  given : Decided r.kind r.low r.high cs → T (verdict r (Some end))
   unfolding verdict end q
   given d =
       let t = told (before r q) cs in
@@ -136,7 +134,7 @@ module _ (r : Rec) (cs : List Rec) where
       let b = agrees (asked_of r.kind) r.low r.high end.names end.parameters end.patterns in
       pair a b (subst (λ (x : ℕ). T (ended x)) (sym t.state) d.taken) (subst T (sym counts-are) d.agreeing)
 
-  taken_of : T (verdict r (Done end)) → Decided r.kind r.low r.high cs
+  taken_of : T (verdict r (Some end)) → Decided r.kind r.low r.high cs
   unfolding verdict end q
   taken_of v =
       let t = told (before r q) cs in
@@ -149,7 +147,7 @@ module _ (r : Rec) (cs : List Rec) where
   unfolding end q
   right-found small ok some =
       let sum : sizes cs ≡ r.size - 1 = (let s = ok.adds in omega arith) in
-      subst (λ (w : Walked). T (verdict r w)) (sym (judged r (before r q) cs ok.inside some sum))
+      subst (λ (w : Option Seen). T (verdict r w)) (sym (judged r (before r q) cs ok.inside some sum))
       (given (decided r.low r.high cs r.kind small ok.formed ok.exchanged))
 
   -- and what is found right is right.
@@ -157,11 +155,11 @@ module _ (r : Rec) (cs : List Rec) where
   unfolding end q verdict
   found_right small some place v = go (judge r (before r q) cs) refl v
     where
-      go : (w : Walked) → judge r (before r q) cs ≡ w → T (verdict r w) → All Counts cs × Right r cs
-      go Bad e v = absurd v
-      go (Done x) e v =
+      go : (w : Option Seen) → judge r (before r q) cs ≡ w → T (verdict r w) → All Counts cs × Right r cs
+      go None e v = absurd v
+      go (Some x) e v =
           let (is, ps, sum) = judged-only r (before r q) cs e in
-          let d = taken_of (subst (λ (w : Walked). T (verdict r w)) (sym e ∙ judged r (before r q) cs is ps sum) v) in (
+          let d = taken_of (subst (λ (w : Option Seen). T (verdict r w)) (sym e ∙ judged r (before r q) cs is ps sum) v) in (
             ps,
             record {
               formed = decided-formed r.low r.high cs r.kind small d;

@@ -10,6 +10,8 @@ use Rattle.load.specs.Listing.InForm.{Begins}
 use Rattle.load.specs.Listing.Read.{in_form, values_of, rows_from, lines_read, rec_of, records_in}
 use Rattle.load.specs.Listing.LineForm.{six_fields}
 use Rattle.load.proofs.Listing.LineLaws.{line-then, values-fit, values-long, values-front, line-in}
+use Rattle.load.specs.Checks.Listed.{its_lines, its_records}
+use Rattle.load.specs.declared.record.Listing.{Listing}
 
 rows-long : (ws : List ℕ) (n : ℕ) (bs : List ℕ) → length (rows_from ws n bs) ≡ n
 unfolding rows_from
@@ -32,6 +34,9 @@ lines-long ws text = rows-long ws (length text / wide ws) text
 
 pub records-long : (ws text : List ℕ) → length (records_in ws text) ≡ length text / wide ws
 records-long ws text = length-map (lines_read ws text) rec_of ∙ lines-long ws text
+
+pub records-many : (l : Listing) → length (its_records l) ≡ length (its_lines l)
+records-many l = length-map (its_lines l) rec_of
 
 -- each of its line.
 pub line-at : (ws text : List ℕ) (j : ℕ) → j < length text / wide ws → get_or (lines_read ws text) j [] ≡ values_of ws (drop (wide ws * j) text)

@@ -1,7 +1,7 @@
 -- What the code finds of a record's children, one after the other: whether each has its place, the automaton's state, and how many names, parameters and
 -- patterns there are.
 -- Assumes nothing: these are definitions.
-use Rattle.std.specs.Prelude.{Bool, false, ◌&&◌, cond, List, [], ◌∷◌, ℕ, ◌+◌, ◌-◌, eqb, ltb, leb}
+use Rattle.std.specs.Prelude.{Option, Some, None, Bool, false, ◌&&◌, cond, List, [], ◌∷◌, ℕ, ◌+◌, ◌-◌, eqb, ltb, leb}
 use Rattle.own.specs.Tree.{Rec}
 use Rattle.load.specs.Children.Cue as cue
 use Rattle.load.specs.Children.Cue.{cue}
@@ -9,8 +9,6 @@ use Rattle.load.specs.Children.Run.{next, ended}
 use Rattle.load.specs.Children.Begin.{agrees, asked_of}
 use Rattle.load.specs.declared.record.Record.{Record}
 use Rattle.load.specs.declared.walk.Seen.{Seen}
-use Rattle.load.specs.declared.walk.Walked.{Walked}
-use Rattle.load.specs.declared.walk.Walked.TheVariants.{Bad, Done}
 
 -- A record of the code as the numbers that it is.
 abbrev pub as_rec : Record → Rec
@@ -36,15 +34,15 @@ past s c =
     }
 
 -- and past all of them, which fill what is left.
-unfoldable pub judge : Rec → Seen → List Rec → Walked
-judge r s [] = cond (eqb s.left 0) (Done s) Bad
-judge r s (c ∷ cs) = cond (sits s.left r c) (judge r (past s c) cs) Bad
+unfoldable pub judge : Rec → Seen → List Rec → Option Seen
+judge r s [] = cond (eqb s.left 0) (Some s) None
+judge r s (c ∷ cs) = cond (sits s.left r c) (judge r (past s c) cs) None
 
 -- Before all children of a record, whose automaton begins in this state.
 abbrev pub before : Rec → ℕ → Seen
 before r q = record { left = r.size - 1; state = q; names = 0; parameters = 0; patterns = 0 }
 
 -- What is found of a record is right: the children may end there, and their numbers are what its low and high say.
-unfoldable pub verdict : Rec → Walked → Bool
-verdict r Bad = false
-verdict r (Done s) = ended s.state && agrees (asked_of r.kind) r.low r.high s.names s.parameters s.patterns
+unfoldable pub verdict : Rec → Option Seen → Bool
+verdict r None = false
+verdict r (Some s) = ended s.state && agrees (asked_of r.kind) r.low r.high s.names s.parameters s.patterns

@@ -1,12 +1,10 @@
 -- What has been seen of children stays small: a state of the table, and no more of a sort than records.
 -- Assumes nothing.
-use Rattle.std.specs.Prelude.{ℕ, ◌+◌, ◌<◌, ◌≤◌}
+use Rattle.std.specs.Prelude.{Option, Some, None, ℕ, ◌+◌, ◌<◌, ◌≤◌}
 use Rattle.own.specs.Tree.{Rec}
 use Rattle.kinds.specs.Shape.{half_range}
 use Rattle.load.specs.Children.Table.{state_count}
 use Rattle.load.specs.declared.walk.Seen.{Seen}
-use Rattle.load.specs.declared.walk.Walked.{Walked}
-use Rattle.load.specs.declared.walk.Walked.TheVariants.{Bad, Done}
 
 pub record Small (s : Seen) : Type 0 where
   pub state : s.state < state_count
@@ -15,9 +13,9 @@ pub record Small (s : Seen) : Type 0 where
   pub patterns : s.patterns + s.left < half_range
 
 -- The state that a walk ends in is one of the table's.
-abbrev pub Below : Walked → Type 0
-Below Bad = Unit {0}
-Below (Done s) = s.state < state_count
+abbrev pub Below : Option Seen → Type 0
+Below None = Unit {0}
+Below (Some s) = s.state < state_count
 
 -- what a child that sits has
 pub record Sat (left : ℕ) (r c : Rec) : Type 0 where

@@ -4,7 +4,6 @@
 use Rattle.std.specs.Prelude.{List, ◌≡◌, ℕ, ◌<◌, ◌≤◌, length}
 use Rattle.lines.specs.Form.{wide}
 use Rattle.lines.specs.Lines.{six_widths}
-use Rattle.load.specs.Listing.Read.{records_in}
 use Rattle.load.specs.Listing.DigitLaws.{Short}
 
 -- How many fields the record of a line is read from.
@@ -16,8 +15,3 @@ pub record LineForm (ws : List ℕ) (step : ℕ) : Type 0 where
   pub full : six_fields ≤ length ws
   pub bytes : step ≡ wide ws
   pub some : 0 < step
-
--- A listing with lines of the form, and how many records they are.
-pub record Listed (ws : List ℕ) (step : ℕ) (text : List ℕ) (n : ℕ) : Type 0 where
-  pub form : LineForm ws step
-  pub many : n ≡ length (records_in ws text)

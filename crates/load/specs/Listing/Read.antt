@@ -1,6 +1,6 @@
 -- Lines read back, as antt computes it: which line is the first that is not of the form, and the numbers of the lines. Said of any list of widths.
 -- Assumes nothing: these are definitions. That they undo what crate `lines` writes stands in the laws beside.
-use Rattle.std.specs.Prelude.{Bool, true, ◌&&◌, cond, List, [], ◌∷◌, map, ℕ, zero, suc, ◌+◌, ◌*◌, ◌/◌, ◌%◌, eqb, ltb, length, get_or, drop}
+use Rattle.std.specs.Prelude.{Option, Some, None, Bool, true, ◌&&◌, cond, List, [], ◌∷◌, map, ℕ, zero, suc, ◌+◌, ◌*◌, ◌/◌, ◌%◌, eqb, ltb, length, get_or, drop}
 use Rattle.own.specs.Tree.{Rec}
 use Rattle.own.specs.Flat.{blank}
 use Rattle.own.specs.Words.{recs}
@@ -43,6 +43,11 @@ bad_from ws (suc f) i bs = cond (eqb (length bs) 0) 0 (cond (in_form ws bs) (bad
 -- A line has a byte at least.
 unfoldable pub bad_line : List ℕ → List ℕ → ℕ
 bad_line ws text = bad_from ws (length text) 0 text
+
+-- It as the code says it: nothing where all bytes are lines of the form.
+abbrev pub first_bad : ℕ → Option ℕ
+first_bad zero = None
+first_bad (suc n) = Some (suc n)
 
 -- The numbers of the first n lines, a list for each,
 unfoldable pub rows_from : List ℕ → ℕ → List ℕ → List (List ℕ)

@@ -1,13 +1,9 @@
--- What `digits` says, by the case of its answer.
+-- What `digits` says of how many there are.
 -- Assumes nothing.
-use Rattle.std.proofs.Common.{sym, ◌∙◌, ap}
+use Rattle.std.proofs.Common.{◌∙◌, ap}
 use Rattle.num_speed.specs.Said.{count_of}
 use Rattle.num_speed.proofs.num_speed_digits.Goals as goal
 
-pub returns-in-Written-clause-count : goal.returns-in-Written-clause-count
+pub returns-clause-count : goal.returns-clause-count
 unfolding count_of
-returns-in-Written-clause-count c = ap count_of (sym c.in-Written.is ∙ c.digits-written.ensures.answer)
-
-pub returns-in-Short-clause-count : goal.returns-in-Short-clause-count
-unfolding count_of
-returns-in-Short-clause-count c = ap count_of (sym c.in-Short.is ∙ c.digits-written.ensures.answer)
+returns-clause-count c = c.unwrap_or.ensures ∙ ap count_of c.digits.ensures.answer

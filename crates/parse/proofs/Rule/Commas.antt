@@ -24,7 +24,7 @@ use Rattle.parse.specs.declared.State.{State}
 use Rattle.parse.specs.declared.Step.{Step}
 use Rattle.parse.specs.declared.Step.TheVariants.{Next}
 use Rattle.parse.proofs.Rule.Amid.{inside, Amid, starts, then_turns, then-passed, then-went, went, done}
-use Rattle.parse.proofs.Rule.Chain.{Noded, then-node, advances, onward}
+use Rattle.parse.proofs.Rule.Chain.{Noded, then-node, advances}
 
 -- Any number.
 abbrev pub AnyN : ℕ → Type 0
@@ -96,9 +96,6 @@ module _ {L T A : ℕ} {closes : ℕ → Type 0} (z : Rows L T A closes) {x : Te
   lined-starts q = record { w = []; ms = []; m = 0; amid = starts 0 AnyN (nt L ∷ []) l y.stands; commas = tt; so = q }
 
   module _ {here : State} {l₁ : List ℕ} (v : Lined x L Q st l here l₁) where
-    pub lined-ready : Ready x here
-    lined-ready = onward y v.amid
-
     -- The list ends where it closes,
     pub lined-ends : {I : Info} {a b : ℕ} → closes here.class → ((J K : Items) (m : ℕ) → K ≡ J → Only t.Comma (sorts J) → Q (sorts J) → I J K m a b) → Went x (nt L ∷ []) as_items I st l here l₁ a b
     lined-ends c f =
@@ -117,9 +114,6 @@ module _ {L T A : ℕ} {closes : ℕ → Type 0} (z : Rows L T A closes) {x : Te
       module _ {P : ℕ → Type 0} {l₂ : List ℕ} {r : Step} {st₂ : State} {a b : ℕ} (p : Parsed x (nt A ∷ []) as_items (Node P) here l₁ l₂ r) (e : r ≡ Next st₂ a b) where
         pub item : Noded x 0 AnyN (nt L ∷ []) (nt T ∷ []) st l v.w v.ms v.m P st₂ l₂
         item = then-node into p e
-
-        pub item-ready : Ready x st₂
-        item-ready = onward y item.amid
 
         only_item : Only t.Comma (v.w ++ (child item.kind item.low item.high item.first ∷ []))
         only_item = only-append t.Comma v.w (child item.kind item.low item.high item.first ∷ []) v.commas tt

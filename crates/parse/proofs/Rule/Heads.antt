@@ -1,12 +1,15 @@
 -- The heads that the forms of the shapes decide, and what a record needs to be closed.
 -- Assumes nothing.
-use Rattle.std.proofs.Common.{◌≡◌, ℕ, suc, ◌-◌, ◌*◌, ◌≤◌, Bool, true, false, cond, not, T, eqb, List, [], ◌∷◌, get_or, sym, refl, ap, ◌∙◌, ap₂, arith, ne_eqb}
-use mathlib.Core.Option.{none, some}
+use Rattle.std.proofs.Common.{◌≡◌, ℕ, suc, ◌-◌, ◌*◌, ◌≤◌, Bool, true, false, cond, not, T, eqb, List, [], ◌∷◌, get_or, sym, refl, ap, ◌∙◌, ap₂, arith}
+use mathlib.Core.Option.{none}
+use Rattle.std.specs.Prelude as std
+use Rattle.std.specs.Prelude.{Some, None}
+use Rattle.text.specs.Refusals as numbers
+use Rattle.text.specs.declared.refusal.Refusal.{Refusal}
 use lib.Seq.{sets}
 use Rattle.text.proofs.Table.{not-true}
 use Rattle.text.specs.Part.{part_of}
-use Rattle.num.specs.Value.{decimal_of, fitted, number_of}
-use Rattle.num.specs.declared.Value.{Value}
+use Rattle.num.specs.Value.{Value, decimal_of, fitted, number_of}
 use Rattle.theory.specs.Grammar.{Sym}
 use Rattle.theory.specs.Ebnf as shape
 use Rattle.own.specs.Tree as own
@@ -20,8 +23,9 @@ use Rattle.lexer.specs.Classes as t
 use Rattle.grammar.specs.Records.Records.{head, first_of, text_of}
 use Rattle.grammar.specs.Records.Faults.{unless, faults_by, refused_of, faults_at, earlier, earliest}
 use Rattle.grammar.specs.Shapes.Row.{Refused, never, byBound, byLength, byFold, byArms}
-use Rattle.parse.specs.Contract.{Text, text, classes, tok_at, raw, fault_in, sooner, fault, Judged, kept, Stands, Ready, Put, as_node, Went, Node, value_at}
+use Rattle.parse.specs.Contract.{Text, text, classes, tok_at, raw, fault_in, sooner, fault_at, Judged, kept, Stands, Ready, Put, as_node, Went, Node, value_at}
 use Rattle.parse.specs.declared.State.{State}
+use Rattle.parse.specs.declared.token.Source.{Source}
 use Rattle.parse.proofs.Rule.Amid.{Amid}
 use Rattle.parse.proofs.Rule.Steps.{number_in, decided}
 use Rattle.parse.proofs.Rule.Closing.{Opened, shuts, shuts-in, its-fault}
@@ -89,12 +93,12 @@ number_at {x} {st = st} d =
     ∙ ap₂ (λ (u : List Tok) (v : List Sort). decimal_of (text_of x.draft (get_or u (place t.DecLiteral (words_in v)) blank_tok))) d.marked d.sorted
 
 -- The number of the token where a state stands.
-pub value-is : (d w : List ℕ) (n : ℕ) {st : State} {v : Value} → Stands (text d w n) st → v ≡ number_of (part_of d st.start st.stop) → v ≡ fitted (value_at (text d w n) st.at)
+pub value-is : (x : Source) {st : State} {v : Value} → Stands (text x) st → v ≡ number_of (part_of x.draft.now st.start st.stop) → v ≡ fitted (value_at (text x) st.at)
 unfolding text text_of number_of
-value-is d w n s e = e ∙ ap₂ (λ (a b : ℕ). fitted (decimal_of (part_of d a b))) s.start_is s.stop_is
+value-is x s e = e ∙ ap₂ (λ (a b : ℕ). fitted (decimal_of (part_of x.draft.now a b))) s.start_is s.stop_is
 
 -- The state with a refusal judged stands where it stood.
-judged-stands : {x : Text} {outer inner r : State} {n p : ℕ} → Stands x inner → Judged outer inner n p r → Stands x r
+judged-stands : {x : Text} {outer inner r : State} {n : std.Option Refusal} {p : ℕ} → Stands x inner → Judged outer inner n p r → Stands x r
 judged-stands {x} s j =
     let a = j.at_is in
     record {
@@ -105,10 +109,10 @@ judged-stands {x} s j =
       end_is = λ p e. j.end_is ∙ s.end_is p (sym a ∙ e);
     }
 
-module _ {x : Text} {st r : State} {K : ℕ} {N : ℕ → Type 0} {rhs : List Sym} {l : List ℕ} {w : List Sort} {ms : List Tok} {m : ℕ} {st₁ st₂ : State} {l₁ : List ℕ} {low high number place : ℕ} where
+module _ {x : Text} {st r : State} {K : ℕ} {N : ℕ → Type 0} {rhs : List Sym} {l : List ℕ} {w : List Sort} {ms : List Tok} {m : ℕ} {st₁ st₂ : State} {l₁ : List ℕ} {low high : ℕ} {number : std.Option Refusal} {place : ℕ} where
   -- The earliest refusal is that of all.
   pub judged-kept : (k : ℕ) → Ready x st → (o : Opened x st r none) (d : Amid x K N rhs [] r l w ms m st₁ l₁) → 1 ≤ m → decided x k w ms ≡ head K low high → N (number_in x ms) → Judged st st₁ number place st₂
-      → ((is : Items) → sorts is ≡ w → marks is ≡ ms → earliest (faults_at x.draft k is) ≡ fault number place)
+      → ((is : Items) → sorts is ≡ w → marks is ≡ ms → earliest (faults_at x.draft k is) ≡ fault_at number place)
       → kept st₂ ≡ sooner (kept st) (fault_in x st.at (shape.sub k d.pre shape.nil))
   judged-kept k y o d one hd hn j own =
       j.kept_is
@@ -118,7 +122,7 @@ module _ {x : Text} {st r : State} {K : ℕ} {N : ℕ → Type 0} {rhs : List Sy
   -- A record that may have a refusal of its own: what was read inside was kept apart.
   pub shut-judged : {l' : List ℕ} (k : ℕ) → Ready x st → Opened x st r none → (d : Amid x K N rhs [] r l w ms m st₁ l₁) → 1 ≤ m → decided x k w ms ≡ head K low high → N (number_in x ms) → T (not (eqb K kind.Match))
       → (P : ℕ → Type 0) → P K → Put l₁ st.out K st.start st₁.end low high (st₁.out - st.out) l' → Judged st st₁ number place st₂
-      → ((is : Items) → sorts is ≡ w → marks is ≡ ms → earliest (faults_at x.draft k is) ≡ fault number place) → Went x rhs (as_node k) (Node P) st l st₂ l' 0 0
+      → ((is : Items) → sorts is ≡ w → marks is ≡ ms → earliest (faults_at x.draft k is) ≡ fault_at number place) → Went x rhs (as_node k) (Node P) st l st₂ l' 0 0
   shut-judged k y o d one hd hn t P p put j own =
       shuts-in k y o d one hd hn P p d.lays.long
       (λ n h. d.lays.laid n h ∙ ap (λ b. sets l (rec_wide * r.out) (concat (arrange b (word_groups d.L)))) (sym (unturned K d.L t)))
@@ -126,16 +130,16 @@ module _ {x : Text} {st r : State} {K : ℕ} {N : ℕ → Type 0} {rhs : List Sy
       (judged-kept k y o d one hd hn j own)
 
 -- The text of a number, likewise.
-pub value-text : (d w : List ℕ) (n : ℕ) {st : State} {v : Value} → Stands (text d w n) st → v ≡ number_of (part_of d st.start st.stop) → v ≡ number_of (text_of (text d w n).draft (tok_at (text d w n) st.at))
+pub value-text : (x : Source) {st : State} {v : Value} → Stands (text x) st → v ≡ number_of (part_of x.draft.now st.start st.stop) → v ≡ number_of (text_of (text x).draft (tok_at (text x) st.at))
 unfolding text text_of
-value-text d w n s e = e ∙ ap₂ (λ (a b : ℕ). number_of (part_of d a b)) s.start_is s.stop_is
+value-text x s e = e ∙ ap₂ (λ (a b : ℕ). number_of (part_of x.draft.now a b)) s.start_is s.stop_is
 
 -- The decimal among the tokens, by its place among them.
 pub first-is : (is : Items) {w : List Sort} {ms : List Tok} → sorts is ≡ w → marks is ≡ ms → first_of t.DecLiteral (marks is) ≡ get_or ms (place t.DecLiteral (words_in w)) blank_tok
 first-is is e f = first-place t.DecLiteral is ∙ ap₂ (λ (u : List Tok) (v : List Sort). get_or u (place t.DecLiteral (words_in v)) blank_tok) f e
 
 -- The refusal of a number that fails its test.
-pub unless-is : (y : Tok) (b : Bool) (n : ℕ) → (n ≡ 0 → ⊥) → earliest (unless b n y) ≡ fault (cond b 0 n) y.start
-unfolding unless earliest earlier fault
-unless-is y true n h = refl
-unless-is y false n h = ap (λ (b : Bool). cond b none (some (record { number = n; place = y.start }))) (sym (ne_eqb n 0 h))
+pub unless-is : (y : Tok) (b : Bool) (r : Refusal) → earliest (unless b (numbers.refusal_number r) y) ≡ fault_at (cond b None (Some r)) y.start
+unfolding unless earliest earlier fault_at
+unless-is y true r = refl
+unless-is y false r = refl

@@ -98,7 +98,7 @@ module _ {x : Text} {st st' : State} (h : Stands x st) (i : st.at < length x.ts)
         let o = v.out_is in
         let o₂ : st''.out ≡ (st'.out + 1) % u32_count = ap (λ (y : State). y.out) more in
         let a₂ : st''.at ≡ st'.at = ap (λ (y : State). y.at) more in
-        let k₂ : kept st'' ≡ kept st' = ap₂ (λ a b. fault a b) (ap (λ (y : State). y.fault) more) (ap (λ (y : State). y.place) more) in
+        let k₂ : kept st'' ≡ kept st' = ap (λ (y : State). fault y.fault) more in
         let o₃ : st'.out + 1 < u32_count = omega arith in
         record {
           ends = omega arith;

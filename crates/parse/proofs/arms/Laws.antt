@@ -1,7 +1,7 @@
 -- The order of arms says what they are, and with it the kind and the refusal of their match.
 -- Assumes nothing.
 use Rattle.std.proofs.Common.{◌≡◌, ℕ, ◌+◌, ◌<◌, ◌≤◌, Bool, true, false, cond, ◌||◌, eqb, ltb, ◌⊎◌, List, [], ◌∷◌, ◌++◌, length, sym, refl, ap, ◌∙◌, subst, ap₂, inl, inr, append_assoc, append-nil, arith, length-append, le-ltb, lt-ltb, ne_eqb}
-use mathlib.Core.Option.{none, some}
+use Rattle.std.specs.Prelude.{Option, Some, None}
 use Rattle.own.specs.Tree.{Tok, Items, marks, partner}
 use Rattle.own.specs.Law.{Sort, word, child, sorts}
 use Rattle.own.specs.Arms as arm
@@ -13,9 +13,11 @@ use Rattle.grammar.specs.Shapes.Row.{aMatch}
 use Rattle.grammar.specs.Records.Records.{plain, head_of, first_tok}
 use Rattle.grammar.specs.Records.Faults.{unless, arm_lows, mates, arms_fault, faults_at, earlier, earliest}
 use Rattle.grammar.specs.Shapes.ShapeKind.{MatchShape}
-use Rattle.text.specs.Refusals as refusal
+use Rattle.text.specs.declared.refusal.Refusal.TheVariants as refusal
+use Rattle.text.specs.Refusals.{refusal_number}
+use Rattle.text.specs.declared.refusal.Refusal.{Refusal}
 use Rattle.text.specs.Lists.{has}
-use Rattle.parse.specs.Contract.{fault}
+use Rattle.parse.specs.Contract.{fault_at}
 use Rattle.parse.specs.Infos.{ArmKind, Armed, pair_arm, after_arm, order_from, order_kind, order_fault}
 use Rattle.parse.specs.Orders as order
 
@@ -237,16 +239,21 @@ pub match-kind : (text : List ℕ) (n k l h c : ℕ) (w : List Sort) → (k ≡ 
 unfolding head_of
 match-kind text n k l h c w q a = ap (λ (u : ℕ). cond (ltb 0 u) (plain kind.EnumMatch) (plain kind.Match)) (whole-count k l h c w q) ∙ kind-by (order_from 0 w) w (order-means w a)
 
-mates-are : (a b : ℕ) → cond (mates (a ∷ b ∷ [])) 0 refusal.NoPartners ≡ order_fault (pair_arm a b)
+-- The number of a refusal, 0 for none.
+abbrev number_if : Option Refusal → ℕ
+number_if None = 0
+number_if (Some r) = refusal_number r
+
+mates-are : (a b : ℕ) → cond (mates (a ∷ b ∷ [])) 0 (refusal_number refusal.NoPartners) ≡ number_if (order_fault (pair_arm a b))
 unfolding mates order_fault pair_arm
 mates-are a b = go (partner a b) (partner b a)
   where
-    go : (p q : Bool) → cond (p || q) 0 refusal.NoPartners ≡ order_fault (cond p order.Paired (cond q order.Turned order.Unpaired))
+    go : (p q : Bool) → cond (p || q) 0 (refusal_number refusal.NoPartners) ≡ number_if (order_fault (cond p order.Paired (cond q order.Turned order.Unpaired)))
     go true q = refl
     go false true = refl
     go false false = refl
 
-fault-by : (o : ℕ) (w : List Sort) → Means o w → arms_fault (enum_arm_count w) (arm_lows w) ≡ order_fault o
+fault-by : (o : ℕ) (w : List Sort) → Means o w → arms_fault (enum_arm_count w) (arm_lows w) ≡ number_if (order_fault o)
 unfolding arms_fault order_fault
 fault-by o w (no_arm e f) = rw (e, f, none-nil, lows-nil) refl
 fault-by o w (one_arm h c p q f) =
@@ -257,22 +264,28 @@ fault-by o w (more_arms e f g) = rw (e, f, ne_eqb (length (arm_lows w)) 0 (λ u.
 fault-by o w (both_sorts e f g) = rw (e, ne_eqb (enum_arm_count w) 0 (λ u. omega arith), ne_eqb (length (arm_lows w)) 0 (λ u. omega arith)) refl
 
 -- The refusal of a match, by its pieces,
-pub arms-fault : (k l h c : ℕ) (w : List Sort) → (k ≡ kind.BuiltinArm → ⊥) → (k ≡ kind.EnumArm → ⊥) → Armed w → arms_fault (enum_arm_count (whole_match k l h c w)) (arm_lows (whole_match k l h c w)) ≡ order_fault (order_from 0 w)
+pub arms-fault : (k l h c : ℕ) (w : List Sort) → (k ≡ kind.BuiltinArm → ⊥) → (k ≡ kind.EnumArm → ⊥) → Armed w → arms_fault (enum_arm_count (whole_match k l h c w)) (arm_lows (whole_match k l h c w)) ≡ number_if (order_fault (order_from 0 w))
 arms-fault k l h c w m n a = ap₂ arms_fault (whole-count k l h c w n) (whole-lows k l h c w m) ∙ fault-by (order_from 0 w) w (order-means w a)
 
 -- and as it is kept.
-one-fault : (f : ℕ) (y : Tok) → earliest (unless (eqb f 0) f y) ≡ fault f y.start
-unfolding unless fault earliest earlier
-one-fault f y = go (eqb f 0)
+one-fault : (o : ℕ) (y : Tok) → earliest (unless (eqb (number_if (order_fault o)) 0) (number_if (order_fault o)) y) ≡ fault_at (order_fault o) y.start
+unfolding unless fault_at earliest earlier order_fault
+one-fault o y = go (eqb o 0) (eqb o order.Enums || (eqb o order.Paired || eqb o order.Turned)) (eqb o order.Unpaired) (eqb o order.Mixed)
   where
-    go : (b : Bool) → earliest (cond b [] (record { number = f; place = y.start } ∷ [])) ≡ cond b none (some (record { number = f; place = y.start }))
-    go true = refl
-    go false = refl
+    its : Bool → Bool → Bool → Bool → Option Refusal
+    its a b c d = cond a (Some refusal.NoArms) (cond b None (cond c (Some refusal.NoPartners) (cond d (Some refusal.MixedArms) (Some refusal.ArmCount))))
+
+    go : (a b c d : Bool) → earliest (unless (eqb (number_if (its a b c d)) 0) (number_if (its a b c d)) y) ≡ fault_at (its a b c d) y.start
+    go true b c d = refl
+    go false true c d = refl
+    go false false true d = refl
+    go false false false true = refl
+    go false false false false = refl
 
 pub match-fault : (draft : List ℕ) (is : Items) (k l h c : ℕ) (w : List Sort) {y : Tok} {ms : List Tok} → (k ≡ kind.BuiltinArm → ⊥) → (k ≡ kind.EnumArm → ⊥) → Armed w → sorts is ≡ whole_match k l h c w → marks is ≡ y ∷ ms
-    → earliest (faults_at draft MatchShape is) ≡ fault (order_fault (order_from 0 w)) y.start
+    → earliest (faults_at draft MatchShape is) ≡ fault_at (order_fault (order_from 0 w)) y.start
 unfolding faults_at first_tok
 match-fault draft is k l h c w {y} {ms} m n a e f =
     ap₂ (λ (v : List Sort) (u : List Tok). earliest (unless (eqb (arms_fault (enum_arm_count v) (arm_lows v)) 0) (arms_fault (enum_arm_count v) (arm_lows v)) (first_tok u))) e f
     ∙ ap (λ (u : ℕ). earliest (unless (eqb u 0) u y)) (arms-fault k l h c w m n a)
-    ∙ one-fault (order_fault (order_from 0 w)) y
+    ∙ one-fault (order_from 0 w) y

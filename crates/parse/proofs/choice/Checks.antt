@@ -1,6 +1,6 @@
 -- The constants of src/choice.rt say what grammar's table and the lists of names say, class by class.
 -- Assumes nothing.
-use Rattle.std.proofs.Common.{◌≡◌, ℕ, zero, suc, ◌<◌, ◌≤◌, Bool, true, false, T, eqb, ltb, List, [], ◌∷◌, length, get_or, sym, refl, arith, eqb→eq, ltb→lt, ltb-false, ltb-true}
+use Rattle.std.proofs.Common.{◌≡◌, ℕ, zero, cond, suc, ◌<◌, ◌≤◌, Bool, true, false, T, eqb, ltb, List, [], ◌∷◌, length, get_or, sym, refl, arith, eqb→eq, ltb→lt, ltb-false, ltb-true}
 use Rattle.text.proofs.Table.{table_at, first-of, second-of}
 use Rattle.text.specs.Lists.{has}
 use Rattle.lexer.specs.Classes as t
@@ -9,7 +9,7 @@ use Rattle.theory.specs.Machine.{choose}
 use Rattle.grammar.specs.Shapes.Tables.{table}
 use Rattle.grammar.specs.Shapes.TablesIndex.{n-type, n-pattern, n-single, n-arm, n-alias_name}
 use Rattle.parse.specs.Choice as choice
-use Rattle.parse.specs.Contract.{name_sort, head_sort}
+use Rattle.parse.specs.Contract.{entry_in, name_sort, head_sort}
 use Rattle.parse.proofs.choice.Tables.{type_choices, pattern_choices, single_choices, name_choices, alias_choices, head_choices}
 use Rattle.parse.proofs.Rule.ByClass.{past_classes, run, run_at, low_all, beyond, has-past}
 
@@ -78,20 +78,13 @@ pub alias-at : (c : ℕ) → c < t.bool → get_or alias_choices c 0 ≡ choose 
 unfolding alias_choices choose row look table
 alias-at = table_at (choose table n-alias_name) alias_choices t.bool refl tt
 
-alias-named : (c : ℕ) → t.bool ≤ c → c < past_classes → choice.Absent ≡ choose table n-alias_name c
+pub alias-named : (c : ℕ) → t.bool ≤ c → c < past_classes → choice.Absent ≡ choose table n-alias_name c
 unfolding choose row look table
 alias-named = named (choose table n-alias_name) choice.Absent tt
 
-no-alias : (c : ℕ) → past_classes ≤ c → choice.Absent ≡ choose table n-alias_name c
+pub no-alias : (c : ℕ) → past_classes ≤ c → choice.Absent ≡ choose table n-alias_name c
 unfolding row table
 no-alias c h = sym (beyond n-alias_name c h)
-
-pub alias-past : (c : ℕ) → t.bool ≤ c → choice.Absent ≡ choose table n-alias_name c
-alias-past c l = go (ltb c past_classes) refl
-  where
-    go : (b : Bool) → ltb c past_classes ≡ b → choice.Absent ≡ choose table n-alias_name c
-    go true e = alias-named c l (ltb-true c past_classes e)
-    go false e = no-alias c (ltb-false c past_classes e)
 
 pub head_at : (c : ℕ) → c < t.bool → get_or head_choices c 0 ≡ head_sort c
 unfolding head_choices head_sort choose row look table
@@ -108,3 +101,14 @@ head-named = named (head_sort) choice.NamedHead tt
 pub head-past : (c : ℕ) → past_classes ≤ c → 0 ≡ head_sort c
 unfolding head_sort
 head-past c h = rw (no_arm c h) refl
+
+-- What `entry` gives is what f gives, where the list, the names of types and what is past them do.
+pub entry-is : (f : ℕ → ℕ) (l : List ℕ) (k : ℕ) → ((c : ℕ) → c < t.bool → get_or l c 0 ≡ f c) → ((c : ℕ) → t.bool ≤ c → c < past_classes → k ≡ f c) → ((c : ℕ) → past_classes ≤ c → 0 ≡ f c)
+    → (c : ℕ) → entry_in l c k ≡ f c
+unfolding entry_in
+entry-is f l k listed alike past c = go (ltb c t.bool) (ltb c past_classes) refl refl
+  where
+    go : (a b : Bool) → ltb c t.bool ≡ a → ltb c past_classes ≡ b → cond a (get_or l c 0) (cond b k 0) ≡ f c
+    go true b p q = listed c (ltb-true c t.bool p)
+    go false true p q = alike c (ltb-false c t.bool p) (ltb-true c past_classes q)
+    go false false p q = past c (ltb-false c past_classes q)

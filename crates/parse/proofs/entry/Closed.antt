@@ -18,14 +18,13 @@ use Rattle.parse.specs.declared.State.{State}
 pub record Closed (en : Entry) (len : ℕ) (z : State) (o l : List ℕ) (z' : State) (o' l' : List ℕ) : Type 0 where
   pub at_is : z'.at ≡ z.at
   pub fault_is : z'.fault ≡ z.fault
-  pub place_is : z'.place ≡ z.place
   pub counts : (ns : List Node) → length (records ns) ≡ z.out → length (records_of en len ns) ≡ z'.out
   pub words_are : (ns : List Node) → length (records ns) ≡ z.out → rec_wide * z'.out ≤ length o'
       → (rec_wide * z.out ≤ length o → l ≡ front (rec_words (records ns)) o)
       → l' ≡ front (rec_words (records_of en len ns)) o'
 
 pub closed-function : (len : ℕ) (z : State) (o l : List ℕ) → Closed single_function len z o l z o l
-closed-function len z o l = record { at_is = refl; fault_is = refl; place_is = refl; counts = λ ns e. e; words_are = λ ns e h f. f h }
+closed-function len z o l = record { at_is = refl; fault_is = refl; counts = λ ns e. e; words_are = λ ns e h f. f h }
 
 no_number : (low high : ℕ) → Halved kind.Program low high
 unfolding has
@@ -71,7 +70,6 @@ module _ (len : ℕ) (l l₁ l' : List ℕ) (z : State) (few : z.out ≤ countab
   closed-file = record {
     at_is = refl;
     fault_is = refl;
-    place_is = refl;
     counts = λ ns e. ap suc e ∙ sym out_is;
     words_are = λ ns e h f.
         let room : rec_wide ≤ length l = omega (arith, out_is) in

@@ -1,6 +1,6 @@
 -- The laws of the entry: what the parser says of a whole draft is what grammar's `Answer` says of it.
 -- Assumes nothing.
-use Rattle.std.proofs.Common.{◌≡◌, ℕ, zero, suc, ◌+◌, ◌*◌, ◌/◌, ◌<◌, ◌≤◌, Bool, true, false, cond, eqb, ltb, List, [], ◌∷◌, ◌++◌, length, get_or, drop, sym, refl, ap, ◌∙◌, subst, ap₂, arith, ltb-false, ltb-true, le-ltb, lt-ltb}
+use Rattle.std.proofs.Common.{◌≡◌, ℕ, zero, suc, ◌+◌, ◌*◌, ◌/◌, ◌<◌, ◌≤◌, Bool, true, false, cond, ltb, List, [], ◌∷◌, ◌++◌, length, get_or, take, drop, sym, refl, ap, ◌∙◌, subst, ap₂, arith, length-take-le, ltb-false, ltb-true, le-ltb, lt-ltb}
 use mathlib.Core.Option.{Option, none, some}
 use lib.Seq.{sets, sets-eq}
 use Rattle.own.proofs.WordLaws.{record-words-length}
@@ -18,7 +18,12 @@ use Rattle.own.specs.Flat.{blank_tok}
 use Rattle.text.specs.Widths.{tok_wide, rec_wide}
 use Rattle.text.specs.Front.{front, Held}
 use Rattle.text.specs.Answers as paper
-use Rattle.text.specs.Refusals as refusal
+use Rattle.std.specs.Prelude as std
+use Rattle.std.specs.Prelude.{Some, None, Result, Ok}
+use Rattle.text.specs.declared.refusal.Refusal.TheVariants as refusal
+use Rattle.text.specs.Refusals.{refusal_number}
+use Rattle.text.specs.declared.refusal.Refusal.{Refusal}
+use Rattle.text.specs.declared.refusal.Refused.{Refused}
 use Rattle.own.specs.Words.{toks, word_groups, rec_words}
 use Rattle.own.proofs.WordLaws.{words_are}
 use Rattle.kinds.specs.Class.{class_of}
@@ -30,17 +35,17 @@ use Rattle.grammar.proofs.Spelled.TreeTokens.{length-classes, whole-trees, is_sh
 use Rattle.grammar.proofs.Spelled.RecordLaws.{all-spelled}
 use Rattle.grammar.specs.Records.Records.{record_items}
 use Rattle.grammar.specs.Records.Faults.{Fault, faults, earliest, fault_of}
-use Rattle.grammar.specs.Answers.Answer.{toks_of, start_of, trees_of, records_for, Reading, unread, read, faulty, shaped, fitted, records_in}
+use Rattle.grammar.specs.Answers.Answer.{toks_of, start_of, trees_of, Reading, unread, read, faulty, shaped, fitted, records_in}
 use Rattle.parse.specs.Contract as contract
-use Rattle.parse.specs.Contract.{Text, text, countable, classes, tok_at, Read, Stuck, raw, fault_in, sooner, kept, fault, Holds, Info, as_items, Went}
+use Rattle.parse.specs.Contract.{Text, count_of, text, countable, classes, tok_at, Read, Stuck, raw, fault_in, sooner, kept, fault, Holds, Info, as_items, Went}
 use Rattle.parse.specs.Infos.{file_read, file_stuck}
-use Rattle.parse.specs.Entry.{too_many, too_long, WholeRead, one_read, all_read, reading_of, meant, answered, answer_of, Starts, ended, judged}
+use Rattle.parse.specs.Entry.{too_many, too_long, WholeRead, one_read, all_read, reading_of, meant, refuses, unless_kept, answer_of, Starts, ended, judged}
 use Rattle.parse.specs.declared.State.{State}
 use Rattle.parse.specs.declared.Step.{Step}
-use Rattle.parse.specs.declared.Answer.{Answer}
-use Rattle.parse.specs.declared.Answer.TheVariants.{Records, Refused}
+use Rattle.parse.specs.declared.token.Source.{Source}
+use Rattle.parse.specs.declared.fault.Fault as code
 use Rattle.parse.proofs.Rule.Lists.{length-words}
-use Rattle.parse.proofs.token.Tokens.{length-toks}
+use Rattle.parse.proofs.token.Tokens.{length-text}
 use Rattle.parse.proofs.entry.Holds.{spelled_holds}
 use Rattle.parse.proofs.entry.Closed.{Closed, closed-function, closed-file}
 
@@ -62,38 +67,33 @@ start-toks draft [] i = refl
 start-toks draft (t ∷ ts) zero = refl
 start-toks draft (t ∷ ts) (suc i) = start-toks draft ts i
 
-abbrev taken : Answer → Bool
-taken (Records m) = true
-taken (Refused c p) = false
-
-module _ (draft words' : List ℕ) (n : ℕ) (h : tok_wide * n ≤ length words') where
+module _ (src : Source) where
   abbrev x : Text
-  x = text draft words' n
+  x = text src
+
+  abbrev draft : List ℕ
+  draft = src.draft.now
+
+  abbrev n : ℕ
+  n = count_of src
 
   abbrev ts : List Token
-  ts = tokens_in n words'
-
-  all_held : (b : Bool) → ltb n (length words' / tok_wide) ≡ b → cond b n (length words' / tok_wide) ≡ n
-  all_held true e = refl
-  all_held false e = omega (arith, ltb-false n (length words' / tok_wide) e)
+  ts = tokens_in n src.tokens.now
 
   text-is : x.ts ≡ toks_of draft ts
   unfolding text
-  text-is = ap (λ k. toks (class_of draft) k words') (all_held (ltb n (length words' / tok_wide)) refl) ∙ sym (toks-of draft n words')
-
-  pub length-is : length x.ts ≡ n
-  length-is = ap length (text-is ∙ toks-of draft n words') ∙ length-toks (class_of draft) n words'
+  text-is = sym (toks-of draft n src.tokens.now)
 
   -- Where a token starts, or the length at the end.
-  pub place_in : (at : ℕ) → at < n → (tok_at x at).start ≡ start_of draft ts at
+  pub starts_in : (at : ℕ) → at < n → (tok_at x at).start ≡ start_of draft ts at
   unfolding start_of
-  place_in at i =
+  starts_in at i =
       ap (λ (l : List Tok). (get_or l at blank_tok).start) text-is ∙ sym (start-toks draft ts at)
-      ∙ sym (ap (λ (b : Bool). cond b (get_or ts at no_token).start (length draft)) (lt-ltb at (length ts) (omega (arith, length-in n words'))))
+      ∙ sym (ap (λ (b : Bool). cond b (get_or ts at no_token).start (length draft)) (lt-ltb at (length ts) (omega (arith, length-in n src.tokens.now))))
 
-  pub place_out : (at : ℕ) → n ≤ at → length draft ≡ start_of draft ts at
+  pub starts_out : (at : ℕ) → n ≤ at → length draft ≡ start_of draft ts at
   unfolding start_of
-  place_out at i = sym (ap (λ (b : Bool). cond b (get_or ts at no_token).start (length draft)) (le-ltb at (length ts) (omega (arith, length-in n words'))))
+  starts_out at i = sym (ap (λ (b : Bool). cond b (get_or ts at no_token).start (length draft)) (le-ltb at (length ts) (omega (arith, length-in n src.tokens.now))))
 
   -- What is read of the draft, at any entry.
   module _ (en : Entry) where
@@ -106,14 +106,14 @@ module _ (draft words' : List ℕ) (n : ℕ) (h : tok_wide * n ≤ length words'
 
     module _ (o : List ℕ) where
       -- What a step says, of the buffer that it makes of o.
-      abbrev Says : List ℕ → Answer → Type 0
-      Says l a = (answered (fitted (length o) R) ≡ a) × Held (meant n a) (rec_words (records_in R)) o l
+      abbrev Says : List ℕ → Result ℕ Refused → Type 0
+      Says l a = (meant n a ≡ fitted (length o) R) × Held (meant n a) (rec_words (records_in R)) o l
 
-      refuses : {l : List ℕ} (c p : ℕ) → R ≡ unread c p → Says l (Refused c p)
-      refuses c p e = (ap (λ r. answered (fitted (length o) r)) e, record { holds = λ i m q. absurd (not-both q) })
+      says-refused : {l : List ℕ} (r : Refusal) (p : ℕ) → R ≡ unread (refusal_number r) p → Says l (refuses r p)
+      says-refused r p e = (sym (ap (λ u. fitted (length o) u) e), record { holds = λ i m q. absurd (not-both q) })
 
-      sticks : {l : List ℕ} (p : ℕ) → shape_of en (classes x) ≡ stuck p → Says l (Refused refusal.Misshapen (start_of draft ts p))
-      sticks p e = refuses refusal.Misshapen (start_of draft ts p) (reading-is (stuck p) e)
+      sticks : {l : List ℕ} (p : ℕ) → shape_of en (classes x) ≡ stuck p → Says l (refuses refusal.Misshapen (start_of draft ts p))
+      sticks p e = says-refused refusal.Misshapen (start_of draft ts p) (reading-is (stuck p) e)
 
   -- What is read at an entry from the first state on, into a buffer l; each token of what is laid is as it was.
   module _ (en : Entry) {st : State} (s : Starts x st) {l l' : List ℕ} {I : Info} {z : State} {a b : ℕ} (w : Went x (nt (start_nt en) ∷ []) as_items I st l z l' a b)
@@ -125,7 +125,7 @@ module _ (draft words' : List ℕ) (n : ℕ) (h : tok_wide * n ≤ length words'
     its-read = subst (λ i. Read x (nt (start_nt en) ∷ []) i r z.at) s.at_is w.reads
 
     its-length : length (classes x) ≡ n
-    its-length = length-classes x.ts ∙ length-is
+    its-length = length-classes x.ts ∙ length-text src
 
     -- Read to the end: the shape tree, its refusal and its records.
     module _ (e : z.at ≡ n) where
@@ -164,9 +164,8 @@ module _ (draft words' : List ℕ) (n : ℕ) (h : tok_wide * n ≤ length words'
           w.lays.laid hold g ∙ ap (λ (o : ℕ). sets l (rec_wide * o) ws) s.out_is ∙ sets-eq ws l 0 (omega (arith, w.lays.sized, s.out_is))
           ∙ ap (λ (i : ℕ). ws ++ drop i l) t₀ ∙ ap (λ (u : List ℕ). front u l) its-words
 
-      its-kept : (d : Bool) → eqb z.fault 0 ≡ d → kept z ≡ cond d none (some (record { number = z.fault; place = z.place }))
-      unfolding fault
-      its-kept d f = ap (λ (b : Bool). cond b none (some (record { number = z.fault; place = z.place }))) f
+      its-kept : (f : std.Option code.Fault) → z.fault ≡ f → kept z ≡ fault f
+      its-kept f g = ap fault g
 
       abbrev rs : List Rec
       rs = records_of en (length draft) ns
@@ -175,9 +174,10 @@ module _ (draft words' : List ℕ) (n : ℕ) (h : tok_wide * n ≤ length words'
       reading-faulty o f = reading-is en (found r) its_shape ∙ ap (λ (p : Option Fault). faulty p ts rs) (fault_is ∙ f)
 
       -- No number is too large where nothing is refused.
-      numbers_fit : eqb z.fault 0 ≡ true → Each Holds w.L
+      numbers_fit : z.fault ≡ None → Each Holds w.L
+      unfolding fault
       numbers_fit f =
-          let clear : fault_of draft (toks_of draft ts) r ≡ none = fault_is ∙ its-kept true f in
+          let clear : fault_of draft (toks_of draft ts) r ≡ none = fault_is ∙ its-kept None f in
           subst (Each Holds) (sym laid_is) (each_map (Keeps Spelled) Holds spelled_holds (roots ns) (all-spelled en draft (toks_of draft ts) r shape-of clear))
 
     -- The last state z' and the whole buffer l'', made of o, that are made of these.
@@ -185,22 +185,23 @@ module _ (draft words' : List ℕ) (n : ℕ) (h : tok_wide * n ≤ length words'
       abbrev k : ℕ
       k = length o
 
-      abbrev end_of : Answer
-      end_of = cond (ltb k (rec_wide * z'.out)) (Refused refusal.NoRoom 0) (Records z'.out)
+      abbrev end_of : Result ℕ Refused
+      end_of = cond (ltb k (rec_wide * z'.out)) (refuses refusal.NoRoom 0) (Ok z'.out)
 
-      module _ (e : z.at ≡ n) (f : eqb z.fault 0 ≡ true) where
+      module _ (e : z.at ≡ n) (f : z.fault ≡ None) where
         read_all : R en ≡ read ts (rs e)
-        read_all = reading-faulty e none (its-kept e true f)
+        unfolding fault
+        read_all = reading-faulty e none (its-kept e None f)
 
-        fitted-is : (b : Bool) → ltb k (rec_wide * z'.out) ≡ b → fitted k (R en) ≡ cond b (paper.refused refusal.NoRoom 0) (paper.accepted (length ts) z'.out)
+        fitted-is : (b : Bool) → ltb k (rec_wide * z'.out) ≡ b → fitted k (R en) ≡ cond b (paper.refused (refusal_number refusal.NoRoom) 0) (paper.accepted (length ts) z'.out)
         fitted-is b g =
-            ap (fitted k) read_all ∙ ap (λ (m : ℕ). cond (ltb k (rec_wide * m)) (paper.refused refusal.NoRoom 0) (paper.accepted (length ts) m)) (c.counts (ns e) (its-count e))
-            ∙ ap (λ (b : Bool). cond b (paper.refused refusal.NoRoom 0) (paper.accepted (length ts) z'.out)) g
+            ap (fitted k) read_all ∙ ap (λ (m : ℕ). cond (ltb k (rec_wide * m)) (paper.refused (refusal_number refusal.NoRoom) 0) (paper.accepted (length ts) m)) (c.counts (ns e) (its-count e))
+            ∙ ap (λ (b : Bool). cond b (paper.refused (refusal_number refusal.NoRoom) 0) (paper.accepted (length ts) z'.out)) g
 
-        says-read : (b : Bool) → ltb k (rec_wide * z'.out) ≡ b → Says en o l'' (cond b (Refused refusal.NoRoom 0) (Records z'.out))
-        says-read true g = (ap answered (fitted-is true g), record { holds = λ i m q. absurd (not-both q) })
+        says-read : (b : Bool) → ltb k (rec_wide * z'.out) ≡ b → Says en o l'' (cond b (refuses refusal.NoRoom 0) (Ok z'.out))
+        says-read true g = (sym (fitted-is true g), record { holds = λ i m q. absurd (not-both q) })
         says-read false g = (
-          ap answered (fitted-is false g),
+          ap (λ i. paper.accepted i z'.out) (sym (length-in n src.tokens.now)) ∙ sym (fitted-is false g),
           record {
             holds = λ i m q.
                 c.words_are (ns e) (its-count e) (ltb-false k (rec_wide * z'.out) g) (its-fit e (numbers_fit e f))
@@ -209,81 +210,88 @@ module _ (draft words' : List ℕ) (n : ℕ) (h : tok_wide * n ≤ length words'
         )
 
       its-end : ltb z.at n ≡ false → z.at ≡ n
-      its-end e = omega (arith, ltb-false z.at n e, w.lays.stands.within, length-is)
+      its-end e = omega (arith, ltb-false z.at n e, w.lays.stands.within, length-text src)
 
-      by_state : (b : Bool) → ltb z.at n ≡ b → (d : Bool) → eqb z.fault 0 ≡ d → Says en o l'' (cond b (Refused refusal.Misshapen (start_of draft ts z.at)) (cond d end_of (Refused z.fault z.place)))
+      by_state : (b : Bool) → ltb z.at n ≡ b → (d : std.Option code.Fault) → z.fault ≡ d → Says en o l'' (cond b (refuses refusal.Misshapen (start_of draft ts z.at)) (unless_kept d end_of))
+      unfolding fault
       by_state true e d f = sticks en o z.at (reads-too-few en (classes x) r z.at its-read (omega (arith, ltb-true z.at n e, its-length)))
-      by_state false e true f = says-read (its-end e) f (ltb k (rec_wide * z'.out)) refl
-      by_state false e false f = refuses en o z.fault z.place (reading-faulty (its-end e) (some (record { number = z.fault; place = z.place })) (its-kept (its-end e) false f))
+      by_state false e None f = says-read (its-end e) f (ltb k (rec_wide * z'.out)) refl
+      by_state false e (Some d) f = says-refused en o d.refusal d.place (reading-faulty (its-end e) (some (record { number = refusal_number d.refusal; place = d.place })) (its-kept (its-end e) (Some d) f))
 
-      says-ended : Says en o l'' (ended draft words' n k z')
+      says-ended : Says en o l'' (ended src k z')
       unfolding ended
       says-ended =
-          subst (λ (i : ℕ). Says en o l'' (cond (ltb i n) (Refused refusal.Misshapen (start_of draft ts i)) (cond (eqb z'.fault 0) end_of (Refused z'.fault z'.place)))) (sym c.at_is)
-          (subst (λ (i : ℕ). Says en o l'' (cond (ltb z.at n) (Refused refusal.Misshapen (start_of draft ts z.at)) (cond (eqb i 0) end_of (Refused i z'.place)))) (sym c.fault_is)
-          (subst (λ (i : ℕ). Says en o l'' (cond (ltb z.at n) (Refused refusal.Misshapen (start_of draft ts z.at)) (cond (eqb z.fault 0) end_of (Refused z.fault i)))) (sym c.place_is)
-          (by_state (ltb z.at n) refl (eqb z.fault 0) refl)))
+          subst (λ (i : ℕ). Says en o l'' (cond (ltb i n) (refuses refusal.Misshapen (start_of draft ts i)) (unless_kept z'.fault end_of))) (sym c.at_is)
+          (subst (λ (f : std.Option code.Fault). Says en o l'' (cond (ltb z.at n) (refuses refusal.Misshapen (start_of draft ts z.at)) (unless_kept f end_of))) (sym c.fault_is)
+          (by_state (ltb z.at n) refl z.fault refl))
 
   -- What a whole draft says is the reader's answer, and the buffer holds what the reader says.
   module _ {st : State} (s : Starts x st) (l : List ℕ) (few : n ≤ countable) where
-    stuck_at : (en : Entry) {l' : List ℕ} {p : ℕ} → Stuck x (nt (start_nt en) ∷ []) st.at p → Says en l l' (Refused refusal.Misshapen (start_of draft ts p))
+    stuck_at : (en : Entry) {l' : List ℕ} {p : ℕ} → Stuck x (nt (start_nt en) ∷ []) st.at p → Says en l l' (refuses refusal.Misshapen (start_of draft ts p))
     stuck_at en {p = p} g = sticks en l p (sticks-shape en (classes x) p (subst (λ i. Stuck x (nt (start_nt en) ∷ []) i p) s.at_is g))
 
-    says : {en : Entry} {l' : List ℕ} {p : Step} → WholeRead x (length draft) st l l' p en → Says en l l' (judged draft words' n (length l) p)
+    says : {en : Entry} {l' : List ℕ} {p : Step} → WholeRead x (length draft) st l l' p en → Says en l l' (judged src (length l) p)
     says {l' = l'} (one_read (contract.read {st' = z} w)) = says-ended single_function s w (w.info.laid_is ∙ sym w.info.raw_is) (closed-function (length draft) z l l')
     says (one_read (contract.stuck h g)) = stuck_at single_function (g [])
     says {l' = l'} (all_read (file_read {l₁ = l₁} (contract.read {st' = z} w) p)) =
         says-ended whole_file s w w.info.same
-        (closed-file (length draft) l l₁ l' z (omega (arith, w.lays.few, s.out_is, s.at_is, w.lays.stands.within, length-is)) w.lays.long p)
+        (closed-file (length draft) l l₁ l' z (omega (arith, w.lays.few, s.out_is, s.at_is, w.lays.stands.within, length-text src)) w.lays.long p)
     says (all_read (file_stuck (contract.stuck h g))) = stuck_at whole_file (g [])
 
-    module _ (en : Entry) (most : ℕ) (fewer : too_many most n (length words') ≡ false) (short : too_long en (length draft) ≡ false) {l' : List ℕ} {p : Step} (v : WholeRead x (length draft) st l l' p en)
-        {a : Answer} (e : a ≡ judged draft words' n (length l) p) where
-      pub said-answer : a ≡ answered (answer_of en most draft words' n (length l))
-      unfolding answer_of
-      said-answer =
-          e ∙ sym (says v).0
-          ∙ sym (ap₂ (λ (b c : Bool). answered (cond b (paper.refused refusal.TooMany 0) (cond c (paper.refused refusal.TooLong 0) (fitted (length l) (R en))))) fewer short)
+    module _ (en : Entry) {l' : List ℕ} {p : Step} (v : WholeRead x (length draft) st l l' p en) {a : Result ℕ Refused} (e : a ≡ judged src (length l) p) where
+      pub said-answer : meant n a ≡ fitted (length l) (R en)
+      said-answer = ap (meant n) e ∙ (says v).0
 
       pub said-held : Held (meant n a) (rec_words (records_in (R en))) l l'
-      said-held = subst (λ (a : Answer). Held (meant n a) (rec_words (records_in (R en))) l l') (sym e) (says v).1
+      said-held = subst (λ (a : Result ℕ Refused). Held (meant n a) (rec_words (records_in (R en))) l l') (sym e) (says v).1
+
+-- The words of so many tokens hold so many, and the same ones.
+pub held-count : (n : ℕ) (w : List ℕ) → tok_wide * n ≤ length w → length (take (tok_wide * n) w) / tok_wide ≡ n
+held-count n w h = omega (arith, length-take-le (tok_wide * n) w h)
+
+pub held-tokens : (n : ℕ) (w : List ℕ) → tok_wide * n ≤ length w → tokens_in n (take (tok_wide * n) w) ≡ tokens_in n w
+unfolding tokens_in
+held-tokens zero w h = refl
+held-tokens (suc n) [] h = absurd (omega arith)
+held-tokens (suc n) (a ∷ []) h = absurd (omega arith)
+held-tokens (suc n) (a ∷ b ∷ []) h = absurd (omega arith)
+held-tokens (suc n) (a ∷ b ∷ c ∷ w) h =
+    let e : tok_wide * suc n ≡ suc (suc (suc (tok_wide * n))) = omega arith in
+    ap (λ (k : ℕ). tokens_in (suc n) (take k (a ∷ b ∷ c ∷ w))) e
+    ∙ ap (λ (l : List Token). record { kind = a; start = b; end = c } ∷ l) (held-tokens n w (omega arith))
+
+-- What is read of the source is what is read of the words that it was made of.
+module _ (src : Source) (draft words' : List ℕ) (n : ℕ) (d : src.draft.now ≡ draft) (w : src.tokens.now ≡ take (tok_wide * n) words') (h : tok_wide * n ≤ length words') where
+  pub count-is : count_of src ≡ n
+  count-is = ap (λ (l : List ℕ). length l / tok_wide) w ∙ held-count n words' h
+
+  tokens-are : tokens_in (count_of src) src.tokens.now ≡ tokens_in n words'
+  tokens-are = ap₂ tokens_in count-is w ∙ held-tokens n words' h
+
+  reading-are : (en : Entry) → R src en ≡ reading_of en draft (tokens_in n words')
+  reading-are en = ap₂ (reading_of en) d tokens-are
+
+  -- Neither too many tokens nor too long a file: what is read is the answer.
+  pub read-answer : (en : Entry) (most room : ℕ) (a : Result ℕ Refused) → too_many most n (length words') ≡ false → too_long en (length draft) ≡ false
+      → meant (count_of src) a ≡ fitted room (R src en) → meant n a ≡ answer_of en most draft words' n room
+  unfolding answer_of
+  read-answer en most room a fewer short e =
+      ap (λ (i : ℕ). meant i a) (sym count-is) ∙ e ∙ ap (fitted room) (reading-are en)
+      ∙ sym (ap₂ (λ (b c : Bool). cond b (paper.refused (refusal_number refusal.TooMany) 0) (cond c (paper.refused (refusal_number refusal.TooLong) 0) (fitted room (reading_of en draft (tokens_in n words'))))) fewer short)
+
+  pub read-held : (en : Entry) (a : Result ℕ Refused) {l l' : List ℕ} → Held (meant (count_of src) a) (rec_words (records_in (R src en))) l l'
+      → Held (meant n a) (rec_words (records_in (reading_of en draft (tokens_in n words')))) l l'
+  read-held en a {l} {l'} e =
+      subst (λ (r : Reading). Held (meant n a) (rec_words (records_in r)) l l') (reading-are en) (subst (λ (i : ℕ). Held (meant i a) (rec_words (records_in (R src en))) l l') count-is e)
 
 -- Too many tokens, or a file that is too long.
-pub too-many-answer : (en : Entry) (most : ℕ) (draft words' : List ℕ) (n k : ℕ) → too_many most n (length words') ≡ true → Refused refusal.TooMany 0 ≡ answered (answer_of en most draft words' n k)
+pub too-many-answer : (en : Entry) (most : ℕ) (draft words' : List ℕ) (n k : ℕ) → too_many most n (length words') ≡ true → paper.refused (refusal_number refusal.TooMany) 0 ≡ answer_of en most draft words' n k
 unfolding answer_of
 too-many-answer en most draft words' n k e =
-    sym (ap (λ (b : Bool). answered (cond b (paper.refused refusal.TooMany 0) (cond (too_long en (length draft)) (paper.refused refusal.TooLong 0) (fitted k (reading_of en draft (tokens_in n words')))))) e)
+    sym (ap (λ (b : Bool). cond b (paper.refused (refusal_number refusal.TooMany) 0) (cond (too_long en (length draft)) (paper.refused (refusal_number refusal.TooLong) 0) (fitted k (reading_of en draft (tokens_in n words'))))) e)
 
 pub too-long-answer : (en : Entry) (most : ℕ) (draft words' : List ℕ) (n k : ℕ) → too_many most n (length words') ≡ false → too_long en (length draft) ≡ true
-    → Refused refusal.TooLong 0 ≡ answered (answer_of en most draft words' n k)
+    → paper.refused (refusal_number refusal.TooLong) 0 ≡ answer_of en most draft words' n k
 unfolding answer_of
 too-long-answer en most draft words' n k fewer e =
-    sym (ap₂ (λ (b c : Bool). answered (cond b (paper.refused refusal.TooMany 0) (cond c (paper.refused refusal.TooLong 0) (fitted k (reading_of en draft (tokens_in n words')))))) fewer e)
-
--- What the code's answer means is the paper's, whose tokens are the n that were handed in.
-shaped-count : (en : Entry) (draft : List ℕ) (ts : List Token) (rw' : ℕ) (f : Found) → meant (length ts) (answered (fitted rw' (shaped en draft ts f))) ≡ fitted rw' (shaped en draft ts f)
-shaped-count en draft ts rw' (stuck p) = refl
-shaped-count en draft ts rw' (found r) = go (fault_of draft (toks_of draft ts) r) (records_for en draft ts r)
-  where
-    held : (m : ℕ) (b : Bool) → meant (length ts) (answered (cond b (paper.refused refusal.NoRoom 0) (paper.accepted (length ts) m))) ≡ cond b (paper.refused refusal.NoRoom 0) (paper.accepted (length ts) m)
-    held m true = refl
-    held m false = refl
-
-    go : (o : Option Fault) (rs : List Rec) → meant (length ts) (answered (fitted rw' (faulty o ts rs))) ≡ fitted rw' (faulty o ts rs)
-    go none rs = held (length rs) (ltb rw' (rec_wide * length rs))
-    go (some f) rs = refl
-
-pub means : (en : Entry) (most : ℕ) (draft words' : List ℕ) (n k : ℕ) {a : Answer} → a ≡ answered (answer_of en most draft words' n k) → meant n a ≡ answer_of en most draft words' n k
-unfolding answer_of reading_of
-means en most draft words' n k e = ap (meant n) e ∙ go (too_many most n (length words')) (too_long en (length draft))
-  where
-    ts : List Token
-    ts = tokens_in n words'
-
-    its : paper.Answer
-    its = fitted k (shaped en draft ts (shape_of en (classes_of (toks_of draft ts))))
-
-    go : (b c : Bool) → meant n (answered (cond b (paper.refused refusal.TooMany 0) (cond c (paper.refused refusal.TooLong 0) its))) ≡ cond b (paper.refused refusal.TooMany 0) (cond c (paper.refused refusal.TooLong 0) its)
-    go true c = refl
-    go false true = refl
-    go false false = subst (λ (m : ℕ). meant m (answered its) ≡ its) (length-in n words') (shaped-count en draft ts k (shape_of en (classes_of (toks_of draft ts))))
+    sym (ap₂ (λ (b c : Bool). cond b (paper.refused (refusal_number refusal.TooMany) 0) (cond c (paper.refused (refusal_number refusal.TooLong) 0) (fitted k (reading_of en draft (tokens_in n words'))))) fewer e)

@@ -25,7 +25,6 @@ use Rattle.parse.specs.declared.Step.{Step}
 use Rattle.parse.specs.declared.Step.TheVariants.{Next}
 use Rattle.parse.proofs.Rule.Lists.{joined}
 use Rattle.parse.proofs.Rule.Amid.{Amid, starts, then-passed, went}
-use Rattle.parse.proofs.Rule.Chain.{onward}
 use Rattle.parse.proofs.Rule.Commas.{AnyN, arranged-zero, finish}
 use Rattle.parse.proofs.choice.Chosen.{hit, miss, goes}
 use Rattle.parse.proofs.Rule.SideBySide.{Grown, grows, grown-turns}
@@ -89,9 +88,6 @@ module _ {x : Text} {st : State} {l : List ℕ} (y : Ready x st) where
       record { w = []; amid = d; armed = tt; order_is = refl; mid_is = omega arith }
 
   module _ {here : State} {l₁ : List ℕ} {order mid : ℕ} (v : ArmsInv x st l here l₁ order mid) where
-    pub arms-ready : Ready x here
-    arms-ready = onward y v.amid
-
     -- The arms end at the brace,
     pub arms-ends : here.class ≡ t.RBrace → Went x (nt n-many-arm ∷ []) as_items (Arms st) st l here l₁ order mid
     arms-ends c =

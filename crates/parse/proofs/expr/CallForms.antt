@@ -2,10 +2,11 @@
 -- Assumes nothing.
 use Rattle.std.proofs.Common.{◌≡◌, ℕ, suc, ◌+◌, ◌≤◌, Bool, true, false, cond, not, ◌&&◌, ◌||◌, T, eqb, ◌⊎◌, List, [], ◌∷◌, ◌++◌, sym, refl, ap, ◌∙◌, subst, ap₂, inl, inr, arith, eqb→eq, eq-eqb, ne_eqb}
 use Rattle.text.proofs.Same.{differ}
-use Rattle.text.specs.Refusals as refusal
+use Rattle.std.specs.Prelude.{None}
+use Rattle.text.specs.Refusals.{refusal_number}
+use Rattle.text.specs.declared.refusal.Refusal.TheVariants as refusal
 use Rattle.text.specs.Lists.{has}
-use Rattle.num.specs.Value.{fitted, number_of}
-use Rattle.num.specs.declared.Value.{Value}
+use Rattle.num.specs.Value.{Value, fitted, number_of}
 use Rattle.num.specs.Bound.{bound_ok, size_ok}
 use Rattle.kinds.specs.Rules.{wrappers}
 use Rattle.lexer.specs.Classes as t
@@ -20,7 +21,7 @@ use Rattle.grammar.specs.Records.Faults.{Fault, unless, faults_at, earliest}
 use Rattle.grammar.specs.Shapes.ShapeKind.{BareShape, CastCallShape, FoldingShape, ForWhileShape, NamedShape, SimpleCallShape, TypedShape}
 use Rattle.parse.specs.declared.State.{State}
 use Rattle.parse.proofs.Rule.Amid.{Amid}
-use Rattle.parse.specs.Contract.{Text, fault, bound_fault, size_fault, ExprKind, Only, callees}
+use Rattle.parse.specs.Contract.{Text, fault_at, bound_fault, size_fault, ExprKind, Only, callees}
 use Rattle.parse.proofs.Rule.Marks.{keeping, keeps-between}
 use Rattle.parse.proofs.Rule.Steps.{number_in, decided}
 use Rattle.parse.proofs.Rule.Heads.{unless-is}
@@ -299,17 +300,6 @@ pub alone-kind : {k : ℕ} → (k ≡ kind.None) ⊎ (k ≡ kind.Variable) → E
 alone-kind (inl e) = (omega arith, omega arith, (λ f. omega (arith, e, f)), (λ f. omega (arith, e, f)))
 alone-kind (inr e) = (omega arith, omega arith, (λ f. omega (arith, e, f)), (λ f. omega (arith, e, f)))
 
--- What `wrapper` says.
-wrapper-place : (c : ℕ) (a b d : Bool) → eqb c t.Left ≡ a → eqb c t.Right ≡ b → eqb c t.Some ≡ d → place_in 0 1 wrappers c ≡ cond a 1 (cond b 2 (cond d 3 0))
-unfolding place_in
-wrapper-place c a b d p q r = λ i. cond (p i) 1 (cond (q i) 2 (cond (r i) 3 0))
-
-has-three : (c : ℕ) → (c ≡ t.Left) ⊎ (c ≡ t.Right) ⊎ (c ≡ t.Some) → has wrappers c ≡ true
-unfolding has
-has-three c (inl e) = subst (λ k. has wrappers k ≡ true) (sym e) refl
-has-three c (inr (inl e)) = subst (λ k. has wrappers k ≡ true) (sym e) refl
-has-three c (inr (inr e)) = subst (λ k. has wrappers k ≡ true) (sym e) refl
-
 has-none : (c : ℕ) → (c ≡ t.Left → ⊥) → (c ≡ t.Right → ⊥) → (c ≡ t.Some → ⊥) → has wrappers c ≡ false
 unfolding has
 has-none c f g h = rw (ne_eqb t.Left c (λ e. f (sym e)), ne_eqb t.Right c (λ e. g (sym e)), ne_eqb t.Some c (λ e. h (sym e))) refl
@@ -319,24 +309,6 @@ eqb_is c k e = eqb→eq c k (rw e tt)
 
 eqb-not : (c k : ℕ) → eqb c k ≡ false → c ≡ k → ⊥
 eqb-not c k e f = differ (sym e ∙ eq-eqb c k f)
-
-pub is-wrapper : (c : ℕ) {r : ℕ} → r ≡ place_in 0 1 wrappers c → (r ≡ 0 → ⊥) → has wrappers c ≡ true
-is-wrapper c {r} e n = go (eqb c t.Left) (eqb c t.Right) (eqb c t.Some) refl refl refl
-  where
-    go : (a b d : Bool) → eqb c t.Left ≡ a → eqb c t.Right ≡ b → eqb c t.Some ≡ d → has wrappers c ≡ true
-    go true b d p q k = has-three c (inl (eqb_is c t.Left p))
-    go false true d p q k = has-three c (inr (inl (eqb_is c t.Right q)))
-    go false false true p q k = has-three c (inr (inr (eqb_is c t.Some k)))
-    go false false false p q k = absurd (n (e ∙ wrapper-place c false false false p q k))
-
-pub no-wrapper : (c : ℕ) {r : ℕ} → r ≡ place_in 0 1 wrappers c → r ≡ 0 → has wrappers c ≡ false
-no-wrapper c {r} e n = go (eqb c t.Left) (eqb c t.Right) (eqb c t.Some) refl refl refl
-  where
-    go : (a b d : Bool) → eqb c t.Left ≡ a → eqb c t.Right ≡ b → eqb c t.Some ≡ d → has wrappers c ≡ false
-    go true b d p q k = absurd (omega (arith, n, e, wrapper-place c true b d p q k))
-    go false true d p q k = absurd (omega (arith, n, e, wrapper-place c false true d p q k))
-    go false false true p q k = absurd (omega (arith, n, e, wrapper-place c false false true p q k))
-    go false false false p q k = has-none c (eqb-not c t.Left p) (eqb-not c t.Right q) (eqb-not c t.Some k)
 
 -- The class of a wrapper.
 wrapper-class : (c : ℕ) → has wrappers c ≡ true → (c ≡ t.Left) ⊎ (c ≡ t.Right) ⊎ (c ≡ t.Some)
@@ -397,39 +369,39 @@ other-is c W h p o f g =
 
 -- The refusal of a fold's number.
 module _ (draft : List ℕ) where
-  fold-cases : (b : Bool) (v : Value) (y : Tok) → earliest (cond b (unless (size_ok v) refusal.Size y) (unless (bound_ok v) refusal.Bound y)) ≡ fault (cond b (size_fault v) (bound_fault v)) y.start
+  fold-cases : (b : Bool) (v : Value) (y : Tok) → earliest (cond b (unless (size_ok v) (refusal_number refusal.Size) y) (unless (bound_ok v) (refusal_number refusal.Bound) y)) ≡ fault_at (cond b (size_fault v) (bound_fault v)) y.start
   unfolding bound_fault size_fault
-  fold-cases true v y = unless-is y (size_ok v) refusal.Size (λ e. omega arith)
-  fold-cases false v y = unless-is y (bound_ok v) refusal.Bound (λ e. omega arith)
+  fold-cases true v y = unless-is y (size_ok v) refusal.Size
+  fold-cases false v y = unless-is y (bound_ok v) refusal.Bound
 
   abbrev folding : List Sort → Value → Tok → List Fault
-  folding w v y = cond (eqb (opening w) t.array_fold) (unless (not (sees t.LAngle w) || size_ok v) refusal.Size y) (unless (not (sees t.LAngle w) || bound_ok v) refusal.Bound y)
+  folding w v y = cond (eqb (opening w) t.array_fold) (unless (not (sees t.LAngle w) || size_ok v) (refusal_number refusal.Size) y) (unless (not (sees t.LAngle w) || bound_ok v) (refusal_number refusal.Bound) y)
 
   fold_at : (is : Items) → faults_at draft FoldingShape is ≡ folding (sorts is) (fitted (decimal draft is)) (first_of t.DecLiteral (marks is))
   unfolding faults_at
   fold_at is = refl
 
-  fold-opens : (c : ℕ) (w : List Sort) (v : Value) (y : Tok) → folding (word c ∷ word t.DoubleColon ∷ word t.LAngle ∷ w) v y ≡ cond (eqb c t.array_fold) (unless (size_ok v) refusal.Size y) (unless (bound_ok v) refusal.Bound y)
+  fold-opens : (c : ℕ) (w : List Sort) (v : Value) (y : Tok) → folding (word c ∷ word t.DoubleColon ∷ word t.LAngle ∷ w) v y ≡ cond (eqb c t.array_fold) (unless (size_ok v) (refusal_number refusal.Size) y) (unless (bound_ok v) (refusal_number refusal.Bound) y)
   unfolding sees opening
-  fold-opens c w v y = ap (λ (b : Bool). cond (eqb c t.array_fold) (unless (not b || size_ok v) refusal.Size y) (unless (not b || bound_ok v) refusal.Bound y)) (or-true (eqb c t.LAngle))
+  fold-opens c w v y = ap (λ (b : Bool). cond (eqb c t.array_fold) (unless (not b || size_ok v) (refusal_number refusal.Size) y) (unless (not b || bound_ok v) (refusal_number refusal.Bound) y)) (or-true (eqb c t.LAngle))
 
   pub fold-fault : (is : Items) (c : ℕ) {w : List Sort} (v : Value) (y : Tok) → sorts is ≡ word c ∷ word t.DoubleColon ∷ word t.LAngle ∷ w → first_of t.DecLiteral (marks is) ≡ y → v ≡ number_of (text_of draft y)
-      → earliest (faults_at draft FoldingShape is) ≡ fault (cond (eqb c t.array_fold) (size_fault v) (bound_fault v)) y.start
+      → earliest (faults_at draft FoldingShape is) ≡ fault_at (cond (eqb c t.array_fold) (size_fault v) (bound_fault v)) y.start
   unfolding decimal number_of
   fold-fault is c {w} v y e f g =
       ap earliest (fold_at is ∙ (λ i. folding (e i) (number_of (text_of draft (f i))) (f i)) ∙ (λ i. folding (word c ∷ word t.DoubleColon ∷ word t.LAngle ∷ w) (sym g i) y) ∙ fold-opens c w v y)
       ∙ fold-cases (eqb c t.array_fold) v y
 
   -- Without `<` it has none.
-  both-none : (b : Bool) (v : Value) (y : Tok) → earliest (cond b (unless true refusal.Size y) (unless true refusal.Bound y)) ≡ fault 0 0
-  unfolding unless earliest fault
+  both-none : (b : Bool) (v : Value) (y : Tok) → earliest (cond b (unless true (refusal_number refusal.Size) y) (unless true (refusal_number refusal.Bound) y)) ≡ fault_at None 0
+  unfolding unless earliest fault_at
   both-none true v y = refl
   both-none false v y = refl
 
-  pub fold-faultless : (is : Items) {w : List Sort} → sorts is ≡ w → sees t.LAngle w ≡ false → earliest (faults_at draft FoldingShape is) ≡ fault 0 0
+  pub fold-faultless : (is : Items) {w : List Sort} → sorts is ≡ w → sees t.LAngle w ≡ false → earliest (faults_at draft FoldingShape is) ≡ fault_at None 0
   fold-faultless is {w} e f =
       ap earliest (fold_at is ∙ ap (λ (u : List Sort). folding u (fitted (decimal draft is)) (first_of t.DecLiteral (marks is))) e
-      ∙ ap (λ (b : Bool). cond (eqb (opening w) t.array_fold) (unless (not b || size_ok (fitted (decimal draft is))) refusal.Size (first_of t.DecLiteral (marks is))) (unless (not b || bound_ok (fitted (decimal draft is))) refusal.Bound (first_of t.DecLiteral (marks is)))) f)
+      ∙ ap (λ (b : Bool). cond (eqb (opening w) t.array_fold) (unless (not b || size_ok (fitted (decimal draft is))) (refusal_number refusal.Size) (first_of t.DecLiteral (marks is))) (unless (not b || bound_ok (fitted (decimal draft is))) (refusal_number refusal.Bound) (first_of t.DecLiteral (marks is)))) f)
       ∙ both-none (eqb (opening w) t.array_fold) (fitted (decimal draft is)) (first_of t.DecLiteral (marks is))
 
 -- No `<` in a name alone and in a path.

@@ -2,6 +2,8 @@
 -- Assumes nothing.
 use Rattle.std.proofs.Common.{◌≡◌, ℕ, suc, ◌+◌, ◌*◌, ◌%◌, ◌<◌, ◌≤◌, Bool, true, false, cond, ◌||◌, eqb, List, [], ◌∷◌, ◌++◌, length, get_or, sym, refl, ap, ◌∙◌, subst, ap₂, arith, ne_eqb}
 use mathlib.Core.Option.{Option, some}
+use Rattle.std.specs.Prelude as std
+use Rattle.text.specs.declared.refusal.Refusal.{Refusal}
 use lib.Seq.{sets, length-sets}
 use Rattle.text.proofs.Same.{differ}
 use Rattle.num.specs.Value.{decimal_of}
@@ -350,7 +352,7 @@ module _ {x : Text} {a b z : State} {l l₁ l₃ l₄ : List ℕ} {u v s e : ℕ
       let near = y.few in
       let o : z.out ≡ (b.out + 1) % u32_count = ap (λ (w : State). w.out) more in
       let t : z.at ≡ b.at = ap (λ (w : State). w.at) more in
-      let k : kept z ≡ kept b = ap₂ (λ i j. fault i j) (ap (λ (w : State). w.fault) more) (ap (λ (w : State). w.place) more) in
+      let k : kept z ≡ kept b = ap (λ (w : State). fault w.fault) more in
       let o₁ : z.out ≡ b.out + 1 = omega arith in
       let o₂ : (a.out + 1) % u32_count ≡ a.out + 1 = omega arith in
       let n : length before ≡ length l = length-sets l (rec_wide * a.out) name in
@@ -386,5 +388,5 @@ pub went-args : {x : Text} {σ : List Sym} {I : Info} {st : State} {l l' : List 
 went-args p e = went e p
 
 -- The refusal of a number stands at its token.
-pub judged-at : {outer inner r : State} {n n' p p' : ℕ} → Judged outer inner n p r → n ≡ n' → p ≡ p' → Judged outer inner n' p' r
+pub judged-at : {outer inner r : State} {n n' : std.Option Refusal} {p p' : ℕ} → Judged outer inner n p r → n ≡ n' → p ≡ p' → Judged outer inner n' p' r
 judged-at {outer} {inner} {r} {n' = n'} {p = p} j e f = subst (λ q. Judged outer inner n' q r) f (subst (λ q. Judged outer inner q p r) e j)

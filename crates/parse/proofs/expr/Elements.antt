@@ -24,7 +24,7 @@ use Rattle.parse.specs.declared.Step.TheVariants.{Next}
 use Rattle.parse.proofs.choice.Chosen.{hit, miss, goes}
 use Rattle.parse.proofs.Rule.Marks.{sign-mark}
 use Rattle.parse.proofs.Rule.Amid.{inside, Amid, starts, then_turns, then-passed, then-went, went}
-use Rattle.parse.proofs.Rule.Chain.{Noded, then-node, advances, then-eats, then-lacks, onward}
+use Rattle.parse.proofs.Rule.Chain.{Noded, then-node, advances, then-eats, then-lacks}
 use Rattle.parse.proofs.Rule.Commas.{AnyN, arranged-zero, arranged-only, comma-mark, semi-mark, only-append, finish, went-ahead}
 use Rattle.parse.proofs.Rule.Pieces.{seen_first, seen-second}
 
@@ -94,9 +94,6 @@ module _ {x : Text} {st : State} {l : List ℕ} (y : Ready x st) where
   module _ {here : State} {l₁ : List ℕ} (v : Elemed x st l here l₁) where
     here-is : here.class ≡ get_or (classes x) here.at 0
     here-is = v.amid.lays.stands.class_is
-
-    pub elems-ready : Ready x here
-    elems-ready = onward y v.amid
 
     pub elems-end : here.class ≡ t.RBrace → Went x (nt n-elements ∷ []) as_items Elements st l here l₁ 0 0
     elems-end c =

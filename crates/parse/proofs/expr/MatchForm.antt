@@ -2,6 +2,8 @@
 -- Assumes nothing.
 use Rattle.std.proofs.Common.{◌≡◌, ℕ, ◌+◌, ◌-◌, ◌*◌, ◌≤◌, Bool, true, false, cond, ◌||◌, T, eqb, List, [], ◌∷◌, length, get_or, sym, refl, ap, ◌∙◌, subst, ap₂, arith, eqb→eq}
 use mathlib.Core.Option.{none}
+use Rattle.std.specs.Prelude.{Option}
+use Rattle.text.specs.declared.refusal.Refusal.{Refusal}
 use lib.Seq.{sets}
 use Rattle.theory.specs.Grammar.{Sym, tok, nt, look, row, alt, pick}
 use Rattle.theory.specs.Machine.{choose}
@@ -20,7 +22,7 @@ use Rattle.grammar.specs.Records.Faults.{faults_at, earliest}
 use Rattle.grammar.specs.Shapes.ShapeKind.{MatchShape}
 use Rattle.grammar.specs.Shapes.TablesIndex.{n-expression, n-many-arm, n-single}
 use Rattle.lexer.specs.Classes as t
-use Rattle.parse.specs.Contract.{Text, classes, tok_at, raw, fault, Stands, Ready, Moved, Eaten, ate, Holds, Put, Judged, as_items, as_node, Went, Parsed, Node, ExprKind}
+use Rattle.parse.specs.Contract.{Text, classes, tok_at, raw, fault_at, Stands, Ready, Moved, Eaten, ate, Holds, Put, Judged, as_items, as_node, Went, Parsed, Node, ExprKind}
 use Rattle.parse.specs.Infos.{Armed, Arms, order_from, order_kind, order_fault, first_node, Arranged}
 use Rattle.parse.specs.declared.State.{State}
 use Rattle.parse.specs.declared.Step.{Step}
@@ -94,7 +96,7 @@ is-ate (ate e v) = (e, v)
 pub eaten : {x : Text} {st : State} {c : ℕ} {s : Step} {st₂ : State} {a b : ℕ} → Eaten x st c s → s ≡ Next st₂ a b → (st.class ≡ c) × Moved x st st₂
 eaten {x} {st} {c} e q = is-ate (subst (λ s. Eaten x st c s) q e)
 
-judged-stands : {x : Text} {outer inner r : State} {n p : ℕ} → Stands x inner → Judged outer inner n p r → Stands x r
+judged-stands : {x : Text} {outer inner r : State} {n : Option Refusal} {p : ℕ} → Stands x inner → Judged outer inner n p r → Stands x r
 judged-stands {x} s j =
     let a = j.at_is in
     record {
@@ -172,12 +174,12 @@ module _ {x : Text} {st r a b d f : State} {l l₁ l₂ : List ℕ} {s₁ s₂ s
         match-kind _ _ inner.kind inner.low inner.high inner.first (sorts J) inner.its_kind.3 q.info.armed
         ∙ ap (λ (u : ℕ). plain (order_kind u)) (sym q.info.order_is)
 
-    pub match-refuses : Ready x st → (is : Items) → sorts is ≡ pieces → marks is ≡ tok_at x r.at ∷ tok_at x b.at ∷ tok_at x f.at ∷ [] → earliest (faults_at x.draft MatchShape is) ≡ fault (order_fault order) st.start
+    pub match-refuses : Ready x st → (is : Items) → sorts is ≡ pieces → marks is ≡ tok_at x r.at ∷ tok_at x b.at ∷ tok_at x f.at ∷ [] → earliest (faults_at x.draft MatchShape is) ≡ fault_at (order_fault order) st.start
     match-refuses y is e₁' e₂' =
         match-fault x.draft is inner.kind inner.low inner.high inner.first (sorts J)
         inner.its_kind.2 inner.its_kind.3 q.info.armed e₁' e₂'
-        ∙ ap₂ (λ (u i : ℕ). fault (order_fault u) (tok_at x i).start) (sym q.info.order_is) o.at_is
-        ∙ ap (fault (order_fault order)) (sym y.stands.start_is)
+        ∙ ap₂ (λ (u i : ℕ). fault_at (order_fault u) (tok_at x i).start) (sym q.info.order_is) o.at_is
+        ∙ ap (fault_at (order_fault order)) (sym y.stands.start_is)
 
     -- The words of the match, as `arrange` leaves them.
     module _ {l₃ : List ℕ} (u : Arranged order l₂ b.out mid g.out l₃) where

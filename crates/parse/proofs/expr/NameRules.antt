@@ -23,7 +23,7 @@ use Rattle.grammar.specs.Records.Records.{head, form_of, sees, name_head}
 use Rattle.grammar.specs.Records.Faults.{Fault, faults_at, earliest}
 use Rattle.parse.specs.declared.State.{State}
 use Rattle.parse.specs.Choice as choice
-use Rattle.parse.specs.Contract.{Text, tok_at, raw, fault_in, sooner, kept, fault, Ready, Moved, Put, as_node, Went, Node, reserved, cleaned}
+use Rattle.parse.specs.Contract.{Text, tok_at, raw, fault_in, sooner, kept, fault_at, Ready, Moved, Put, as_node, Went, Node, reserved, cleaned}
 use Rattle.parse.specs.Infos.{Begun, Generic, Leads, named_leads, bare_leads, generic_leads}
 use Rattle.parse.proofs.Rule.Amid.{Amid, then_turns}
 use Rattle.parse.proofs.Rule.Steps.{decided}
@@ -67,7 +67,7 @@ unfolding earliest
 never k h draft is w e f = ap earliest (no_fault draft k is h)
 
 no_bound : Quiet FoldingShape
-unfolding fault
+unfolding fault_at
 no_bound draft is w e f = call.fold-faultless draft is e f
 
 module _ {c : ℕ} where

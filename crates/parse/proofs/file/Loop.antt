@@ -22,7 +22,7 @@ use Rattle.parse.specs.declared.State.{State}
 use Rattle.parse.specs.declared.Step.{Step}
 use Rattle.parse.specs.declared.Step.TheVariants.{Next}
 use Rattle.parse.proofs.Rule.Amid.{Amid, starts, then_turns, then-passed, went}
-use Rattle.parse.proofs.Rule.Chain.{onward, then-node}
+use Rattle.parse.proofs.Rule.Chain.{then-node}
 use Rattle.parse.proofs.Rule.Commas.{AnyN, arranged-zero, finish}
 use Rattle.parse.proofs.choice.Chosen.{hit, miss, goes}
 
@@ -55,9 +55,6 @@ module _ {x : Text} {st : State} {l : List ℕ} (y : Ready x st) where
   module _ {here : State} {l₁ : List ℕ} (v : ItemsInv x st l here l₁) where
     at_here : {rhs : List Sym} → expand table n-file here.class ≡ some rhs → Amid x 0 AnyN (nt n-file ∷ []) (rhs ++ []) st l v.w [] 0 here l₁
     at_here {rhs} e = then_turns rhs v.amid flat-file (ap (expand table n-file) (sym v.amid.lays.stands.class_is) ∙ e)
-
-    pub items-ready : Ready x here
-    items-ready = onward y v.amid
 
     -- They end at the end,
     pub items-ends : here.class ≡ 0 → Went x (nt n-file ∷ []) as_items FileItems st l here l₁ 0 0

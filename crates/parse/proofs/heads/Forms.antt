@@ -22,7 +22,7 @@ use Rattle.grammar.specs.Shapes.Tables.{means, table}
 use Rattle.grammar.specs.Shapes.TablesIndex.{n-arm, n-head, n-head-choice, n-head-optional, n-head-word, n-head_path, n-head_path-optional-LParen, n-identifier, n-other_name, n-pair, n-path-many-DoubleColon}
 use Rattle.grammar.specs.Records.Records.{sees, opening, name_count, place_in, arm_head, arm_words}
 use Rattle.parse.specs.Contract.{Text, classes, tok_at, raw, Ready, Moved, Put, Info, as_items, Went, Parsed, read, stuck, reserved, Named, head_sort}
-use Rattle.parse.specs.Infos.{ManyPairs, HeadPath, ArmHead, arm_kind, arm_low, arm_high}
+use Rattle.parse.specs.Infos.{Leading, none_begins, word_begins, name_begins, ManyPairs, HeadPath, ArmHead, arm_kind, arm_low, arm_high}
 use Rattle.parse.specs.declared.State.{State}
 use Rattle.parse.specs.declared.Step.{Step}
 use Rattle.parse.specs.declared.Step.TheVariants.{Next, Refused}
@@ -35,6 +35,7 @@ use Rattle.parse.proofs.Rule.Steps.{child-went, reads-tok}
 use Rattle.parse.proofs.Rule.Commas.{AnyN, finish}
 use Rattle.parse.proofs.names.Chain.{NamesOn, then-named}
 use Rattle.parse.proofs.names.Rows.{name-role}
+use Rattle.parse.proofs.names.Steps.{child-nt}
 use Rattle.parse.proofs.Rule.Pieces.{name_count-append, counted-append, unseen-append, seen_first, seen-second, name_count-name, name_count-other, sign-no-name}
 
 -- The rules: a head,
@@ -323,3 +324,19 @@ wrapper-low {b} c e = go (eqb c t.Left) (eqb c t.Right) e
     go true v e = (omega arith, omega arith)
     go false true e = (omega arith, omega arith)
     go false false e = (omega arith, omega arith)
+
+-- The first name of an enum path, whichever name it is.
+pub path-begins : {x : Text} {st a c : State} {l l₁ : List ℕ} → Ready x st → Leading st.class a.class → Moved x st a → Put l a.out kind.Name st.start st.stop 0 0 1 l₁ → c ≡ reserved a
+    → (has t.identifiers st.class ≡ true) × Amid x kind.EnumArm AnyN (nt n-head ∷ []) (nt n-head_path ∷ []) st l (word st.class ∷ []) (tok_at x st.at ∷ []) 0 c l₁
+path-begins {st = st} {a} {c} y (none_begins e n) v put more =
+    let k = at_none st.class e in
+    let p = named-token t.None (omega arith) y k v put more in
+    let b0 = named-first (tok t.None) (nt n-head-optional) y (none_row st.class e) (none-name k) p in
+    (none-name k, turns (nt n-head_path ∷ []) b0 flat-optional (optional-row c.class (reserved-class a more ∙ n)))
+path-begins {st = st} {a} {c} y (word_begins e n) v put more =
+    let p = child-nt y (word-pos st.class e) v put more flat_word (word_row st.class e) in
+    let b0 = named-first (nt n-head-word) (nt n-head-choice) y (wrapped-row st.class e) (word-name st.class e) p in
+    (word-name st.class e, turns (nt n-head_path ∷ []) b0 flat-choice (other-choice-row c.class (λ h. n (sym (reserved-class a more) ∙ h))))
+path-begins {st = st} y (name_begins e) v put more =
+    let p = child-nt y (other-pos st.class e) v put more flat-other (other_row st.class e) in
+    (other_name st.class e, named-first (nt n-other_name) (nt n-head_path) y (named-row st.class e) (other_name st.class e) p)

@@ -1,6 +1,6 @@
 -- What grammar's table has for a name, and which tokens are records where every name is one.
 -- Assumes nothing.
-use Rattle.std.proofs.Common.{◌≡◌, ℕ, zero, suc, ◌<◌, ◌≤◌, Bool, true, false, cond, not, ◌||◌, T, eqb, ltb, List, [], ◌∷◌, sym, refl, ap, ◌∙◌, ap₂, arith, ltb-false, ltb-true, ne_eqb}
+use Rattle.std.proofs.Common.{◌≡◌, ℕ, zero, suc, ◌<◌, ◌≤◌, Bool, true, false, cond, not, ◌||◌, T, eqb, ltb, List, [], ◌∷◌, sym, refl, ap, ◌∙◌, ap₂, arith, ltb-false, ltb-true, ne_eqb, eq-eqb, eqb→eq}
 use mathlib.Core.Option.{Option, none, some}
 use Rattle.text.proofs.Same.{differ}
 use Rattle.text.proofs.Table.{is_true, implied}
@@ -18,7 +18,9 @@ use Rattle.own.specs.Tree as own
 use Rattle.own.specs.Tree.{Items, mark, sub}
 use Rattle.own.specs.Kinds as kind
 use Rattle.grammar.specs.Records.Records.{Role, aMark, asName, as_number, role_of, placed, arranged}
-use Rattle.parse.specs.Contract.{name_sort, callees}
+use Rattle.parse.specs.declared.names.NameSort.{NameSort}
+use Rattle.parse.specs.declared.names.NameSort.TheVariants as name
+use Rattle.parse.specs.Contract.{name_sort, name_nt, is_name, callees}
 use Rattle.parse.specs.Choice as choice
 use Rattle.parse.proofs.Rule.ByClass.{run, sweep, beyond, past_classes}
 use Rattle.parse.proofs.choice.Checks.{name-past}
@@ -226,3 +228,34 @@ call-role c e = go (eqb t.Jet c) refl
     go : (b : Bool) → eqb t.Jet c ≡ b → role_of kind.Call c ≡ asName
     go true q = rw q refl
     go false q = rw (q, e) refl
+
+-- Each name that is a record of its own: its class is not 0, and the table has it for the token, or has nothing.
+zero-of : (n : ℕ) → not (eqb n 0) ≡ false → n ≡ 0
+zero-of n e = go (eqb n 0) refl e
+  where
+    go : (b : Bool) → eqb n 0 ≡ b → not b ≡ false → n ≡ 0
+    go true p q = eqb→eq n 0 (rw p tt)
+    go false p q = absurd (differ (sym q))
+
+not-zero : (n : ℕ) → not (eqb n 0) ≡ true → n ≡ 0 → ⊥
+not-zero n e f = differ (sym (ap not (eq-eqb n 0 f)) ∙ e)
+
+pub no-name : (s : NameSort) (c : ℕ) → is_name s c ≡ false → expand table (name_nt s) c ≡ none
+no-name name.Identifier c e = no-identifier c (zero-of (name_sort c) e)
+no-name name.Function c e = no-function-name c (λ f. differ (sym e ∙ eq-eqb (name_sort c) choice.FunctionName f))
+no-name name.Alias c e = no-alias-name c (zero-of (choose table n-alias_name c) e)
+
+pub a-name : (s : NameSort) (c : ℕ) → is_name s c ≡ true → expand table (name_nt s) c ≡ some (tok c ∷ [])
+a-name name.Identifier c e = is-identifier c (not-zero (name_sort c) e)
+a-name name.Function c e = is-function-name c (eqb→eq (name_sort c) choice.FunctionName (rw e tt))
+a-name name.Alias c e = is-alias-name c (not-zero (choose table n-alias_name c) e)
+
+pub named-pos : (s : NameSort) (c : ℕ) → is_name s c ≡ true → 0 < c
+named-pos name.Identifier c e = name-pos c (not-zero (name_sort c) e)
+named-pos name.Function c e = name-pos c (λ f. let g : name_sort c ≡ choice.FunctionName = eqb→eq (name_sort c) choice.FunctionName (rw e tt) in omega arith)
+named-pos name.Alias c e = alias-pos c (not-zero (choose table n-alias_name c) e)
+
+pub flat-name : (s : NameSort) → sort_of (ex means (nt (name_nt s))) ≡ shape.flat
+flat-name name.Identifier = flat-identifier
+flat-name name.Function = flat-function-name
+flat-name name.Alias = flat-alias-name

@@ -2,8 +2,7 @@
 -- Assumes nothing.
 use Rattle.std.proofs.Common.{◌≡◌, ℕ, ◌<◌, ◌≤◌, List, [], ◌∷◌, length, sym, ap, ◌∙◌, arith}
 use mathlib.Core.Option.{none, some}
-use Rattle.num.specs.Value.{decimal_of, fitted, number_of}
-use Rattle.num.specs.declared.Value.{Value}
+use Rattle.num.specs.Value.{Value, decimal_of, fitted, number_of}
 use Rattle.text.specs.Part.{part_of}
 use Rattle.theory.specs.Grammar.{tok, nt}
 use Rattle.theory.specs.Machine.{expand}

@@ -22,6 +22,7 @@ use Rattle.grammar.specs.Shapes.ShapeKind.{ArrayPatternShape, NamePatternShape, 
 use Rattle.grammar.specs.Shapes.TablesIndex.{n-identifier, n-list-pattern, n-pattern, n-tail-pattern}
 use Rattle.parse.specs.Contract.{Text, text, tok_at, Stands}
 use Rattle.parse.specs.declared.State.{State}
+use Rattle.parse.specs.declared.token.Source.{Source}
 use Rattle.parse.specs.Choice as choice
 use Rattle.parse.proofs.choice.Chosen.{where-chosen, alone, is-alone, hit, miss, goes}
 use Rattle.parse.proofs.Rule.Marks.{keeping, keeping-mark, keeps-between}
@@ -179,9 +180,9 @@ module _ {k : ℕ} (p : List ℕ) (c : ℕ) (e : plain k ≡ pattern_name_head p
   pub named-role : (d : ℕ) → role_of k d ≡ aMark
   named-role d = keeping-mark k d keeping-kind
 
-pub named-head : (d w : List ℕ) (n : ℕ) {st : State} (r : State) {k : ℕ} → Stands (text d w n) st → r.at ≡ st.at → plain k ≡ pattern_name_head (part_of d st.start st.stop) st.class
-    → decided (text d w n) NamePatternShape (word st.class ∷ []) (tok_at (text d w n) r.at ∷ []) ≡ head k 0 0
+pub named-head : (x : Source) {st : State} (r : State) {k : ℕ} → Stands (text x) st → r.at ≡ st.at → plain k ≡ pattern_name_head (part_of x.draft.now st.start st.stop) st.class
+    → decided (text x) NamePatternShape (word st.class ∷ []) (tok_at (text x) r.at ∷ []) ≡ head k 0 0
 unfolding head_of form_of opening text_of first_tok text
-named-head d w n {st} r s a e =
-    ap (λ (i : ℕ). pattern_name_head (part_of d (tok_at (text d w n) i).start (tok_at (text d w n) i).stop) st.class) a
-    ∙ ap₂ (λ (i j : ℕ). pattern_name_head (part_of d i j) st.class) (sym s.start_is) (sym s.stop_is) ∙ sym e
+named-head x {st} r s a e =
+    ap (λ (i : ℕ). pattern_name_head (part_of x.draft.now (tok_at (text x) i).start (tok_at (text x) i).stop) st.class) a
+    ∙ ap₂ (λ (i j : ℕ). pattern_name_head (part_of x.draft.now i j) st.class) (sym s.start_is) (sym s.stop_is) ∙ sym e

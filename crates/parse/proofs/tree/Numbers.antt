@@ -3,9 +3,8 @@
 use Rattle.std.proofs.Common.{◌≡◌, ℕ, ◌/◌, ◌%◌, ◌≤◌, T, ltb, List, length, ap, subst, arith, ltb→lt}
 use Rattle.text.specs.Lists.{has}
 use Rattle.text.proofs.Table.{second-of}
-use Rattle.num.specs.Value.{largest, fitted}
+use Rattle.num.specs.Value.{Value, largest, fitted}
 use Rattle.num.proofs.ValueLaws.{Held, whole, lost, held}
-use Rattle.num.specs.declared.Value.{Value}
 use Rattle.own.specs.Kinds as kind
 use Rattle.kinds.specs.Shape.{half_range}
 use Rattle.kinds.specs.Fields.{halves}

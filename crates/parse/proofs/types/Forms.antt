@@ -3,11 +3,11 @@
 use Rattle.std.proofs.Common.{◌≡◌, ℕ, zero, suc, ◌-◌, ◌^◌, ◌<◌, ◌≤◌, Bool, true, false, cond, not, ◌&&◌, ◌||◌, T, eqb, ltb, leb, List, [], ◌∷◌, length, take, drop, sym, refl, ap, ◌∙◌, subst, ap₂, arith, eqb→eq, ltb→lt, ne_eqb}
 use mathlib.Core.Option.{none, some}
 use Rattle.text.specs.Part.{part_of}
-use Rattle.text.specs.Refusals as refusal
+use Rattle.text.specs.Refusals.{refusal_number}
+use Rattle.text.specs.declared.refusal.Refusal.TheVariants as refusal
 use Rattle.text.specs.Lists.{has}
 use Rattle.num.specs.Digits as digits
-use Rattle.num.specs.Value.{decimal_from, decimal_of, number_of}
-use Rattle.num.specs.declared.Value.{Value}
+use Rattle.num.specs.Value.{Value, decimal_from, decimal_of, number_of}
 use Rattle.num.specs.Bound.{bound_ok, length_ok}
 use Rattle.lexer.specs.Classes as t
 use Rattle.theory.specs.Grammar.{Sym, tok, nt, look, row, alt, pick}
@@ -23,9 +23,11 @@ use Rattle.grammar.specs.Shapes.Shapes.{shapes}
 use Rattle.grammar.specs.Shapes.Tables.{means, table}
 use Rattle.grammar.specs.Records.Records.{Head, head, wide, plain, sees, head_of, form_of, low_half, high_half, type_name_head, text_of, first_of, opening, decimal, place_in, aMark, role_of}
 use Rattle.grammar.specs.Records.Faults.{unless, faults_at, earliest}
+use Rattle.std.specs.Prelude.{Option, None}
+use Rattle.text.specs.declared.refusal.Refusal.{Refusal}
 use Rattle.grammar.specs.Shapes.ShapeKind.{ArrayTypeShape, EitherTypeShape, ListTypeShape, NamedTypeShape, OptionTypeShape, TupleTypeShape}
 use Rattle.grammar.specs.Shapes.TablesIndex.{n-either_type-optional-LAngle, n-list-type, n-list_type-optional-LAngle, n-named_type, n-option_type-optional-LAngle, n-tail-type, n-type}
-use Rattle.parse.specs.Contract.{Text, fault, bound_fault, length_fault, Judged}
+use Rattle.parse.specs.Contract.{Text, fault_at, bound_fault, length_fault, Judged}
 use Rattle.parse.specs.declared.State.{State}
 use Rattle.parse.specs.Choice as choice
 use Rattle.parse.proofs.choice.Chosen.{where-chosen, alone, is-alone, hit, miss, goes}
@@ -232,24 +234,24 @@ zero_high = refl
 
 -- The refusals of a List's bound and of an array's length.
 module _ (draft : List ℕ) where
-  pub list-fault : (is : Items) {w : List Sort} (v : Value) (y : Tok) → sorts is ≡ word t.List ∷ word t.LAngle ∷ w → first_of t.DecLiteral (marks is) ≡ y → v ≡ number_of (text_of draft y) → earliest (faults_at draft ListTypeShape is) ≡ fault (bound_fault v) y.start
+  pub list-fault : (is : Items) {w : List Sort} (v : Value) (y : Tok) → sorts is ≡ word t.List ∷ word t.LAngle ∷ w → first_of t.DecLiteral (marks is) ≡ y → v ≡ number_of (text_of draft y) → earliest (faults_at draft ListTypeShape is) ≡ fault_at (bound_fault v) y.start
   unfolding faults_at sees decimal number_of bound_fault
   list-fault is {w} v y e f g =
-      (λ i. earliest (unless (not (sees t.LAngle (e i)) || bound_ok (number_of (text_of draft (f i)))) refusal.Bound (f i))) ∙ (λ i. earliest (unless (bound_ok (sym g i)) refusal.Bound y))
-      ∙ unless-is y (bound_ok v) refusal.Bound (λ q. omega arith)
+      (λ i. earliest (unless (not (sees t.LAngle (e i)) || bound_ok (number_of (text_of draft (f i)))) (refusal_number refusal.Bound) (f i))) ∙ (λ i. earliest (unless (bound_ok (sym g i)) (refusal_number refusal.Bound) y))
+      ∙ unless-is y (bound_ok v) refusal.Bound
 
-  pub list-alone-fault : (is : Items) → sorts is ≡ word t.List ∷ [] → earliest (faults_at draft ListTypeShape is) ≡ fault 0 0
-  unfolding faults_at sees decimal number_of unless earliest fault
-  list-alone-fault is e = λ i. earliest (unless (not (sees t.LAngle (e i)) || bound_ok (number_of (text_of draft (first_of t.DecLiteral (marks is))))) refusal.Bound (first_of t.DecLiteral (marks is)))
+  pub list-alone-fault : (is : Items) → sorts is ≡ word t.List ∷ [] → earliest (faults_at draft ListTypeShape is) ≡ fault_at None 0
+  unfolding faults_at sees decimal number_of unless earliest fault_at
+  list-alone-fault is e = λ i. earliest (unless (not (sees t.LAngle (e i)) || bound_ok (number_of (text_of draft (first_of t.DecLiteral (marks is))))) (refusal_number refusal.Bound) (first_of t.DecLiteral (marks is)))
 
-  pub array-fault : (is : Items) (v : Value) (y : Tok) → first_of t.DecLiteral (marks is) ≡ y → v ≡ number_of (text_of draft y) → earliest (faults_at draft ArrayTypeShape is) ≡ fault (length_fault v) y.start
+  pub array-fault : (is : Items) (v : Value) (y : Tok) → first_of t.DecLiteral (marks is) ≡ y → v ≡ number_of (text_of draft y) → earliest (faults_at draft ArrayTypeShape is) ≡ fault_at (length_fault v) y.start
   unfolding faults_at decimal number_of length_fault
   array-fault is v y f g =
-      (λ i. earliest (unless (length_ok (number_of (text_of draft (f i)))) refusal.Length (f i))) ∙ (λ i. earliest (unless (length_ok (sym g i)) refusal.Length y))
-      ∙ unless-is y (length_ok v) refusal.Length (λ q. omega arith)
+      (λ i. earliest (unless (length_ok (number_of (text_of draft (f i)))) (refusal_number refusal.Length) (f i))) ∙ (λ i. earliest (unless (length_ok (sym g i)) (refusal_number refusal.Length) y))
+      ∙ unless-is y (length_ok v) refusal.Length
 
 -- The refusal of a number stands at its token.
-pub judged-at : {outer inner r : State} {n n' p p' : ℕ} → Judged outer inner n p r → n ≡ n' → p ≡ p' → Judged outer inner n' p' r
+pub judged-at : {outer inner r : State} {n n' : Option Refusal} {p p' : ℕ} → Judged outer inner n p r → n ≡ n' → p ≡ p' → Judged outer inner n' p' r
 judged-at {outer} {inner} {r} {n' = n'} {p = p} j e f = subst (λ q. Judged outer inner n' q r) f (subst (λ q. Judged outer inner q p r) e j)
 
 -- A name of a type: its class is not 0, and the head of its record.

@@ -1,125 +1,121 @@
 // Calls, wrappers and enum constructions: what begins with a name, a macro, a jet or `<`, within the cycle of expressions.
-ghost use Rattle.std.specs.Prelude.{◌≡◌, true, [], ◌∷◌};
-ghost use Rattle.text.specs.Lists.{has};
+ghost use Rattle.std.specs.Prelude.{◌≡◌, Some};
 ghost use Rattle.lexer.specs.Classes as t;
 ghost use Rattle.theory.specs.Machine.{choose};
 ghost use Rattle.grammar.specs.Shapes.Tables.{table};
 ghost use Rattle.grammar.specs.Shapes.TablesIndex.{n-single, n-arguments, n-path};
 ghost use Rattle.parse.specs.Choice as choice;
-ghost use Rattle.parse.specs.Contract.{text, Ready, Near, Moved, reserved, Parses, Node, ExprKind};
+ghost use Rattle.parse.specs.Contract.{text, Ready, Near, Moved, reserved, Parses, Node, ExprKind, Wraps};
 ghost use Rattle.parse.specs.Infos.{Begun, Generic, Leads, Args, Path};
 
-use crate::{State, Step, choice, expr, fault, names, token, tree, types};
+use crate::names::NameSort;
+use crate::token::Source;
+use crate::{State, Step, choice, expr, fault, names, tree, types};
 use lexer::classes as class;
-use own::{call, kind};
+use own::call::CallName;
+use own::kind::Kind;
 
 // `(e, …)`; and 1 if it is one expression without a comma.
 #[cycle(expression)]
 #[inline(always)]
-fn arguments(draft: &[u8], tokens: &[u32], count: usize, tree: &mut [u32], st: State) -> Step
-    requires { Near (text draft.now tokens.now count) st }
-    ensures { Parses n-arguments Args draft.now tokens.now count st tree.old tree.new result }
+fn arguments(source: &Source, tree: &mut [u32], st: State) -> Step
+    requires { Near (text source.now) st }
+    ensures { Parses n-arguments Args (text source.now) st tree.old tree.new result }
 {
-    let open = token::eat(draft, tokens, count, st, class::LPAREN);
+    let open = source.eat(st, class::LPAREN);
     let Step::Next(a, _, _) = open else {
         return open;
     };
-    let inner = expr::exprs(draft, tokens, count, tree, a);
+    let inner = expr::exprs(source, tree, a);
     let Step::Next(b, lone, _) = inner else {
         return inner;
     };
-    let paren = token::eat(draft, tokens, count, b, class::RPAREN);
+    let paren = source.eat(b, class::RPAREN);
     let Step::Next(z, _, _) = paren else {
         return paren;
     };
     Step::Next(z, lone, 0)
 }
 
-// The same, apart: for what is called less often than a function by its name.
+// The same, apart, for what is read less often than the call of a function by its name: a copy of its own that is not inlined.
 #[cycle(expression)]
 #[inline(never)]
-fn args(draft: &[u8], tokens: &[u32], count: usize, tree: &mut [u32], st: State) -> Step
-    requires { Near (text draft.now tokens.now count) st }
-    ensures { Parses n-arguments Args draft.now tokens.now count st tree.old tree.new result }
+fn args(source: &Source, tree: &mut [u32], st: State) -> Step
+    requires { Near (text source.now) st }
+    ensures { Parses n-arguments Args (text source.now) st tree.old tree.new result }
 {
-    arguments(draft, tokens, count, tree, st)
+    arguments(source, tree, st)
 }
 
 // A macro or a jet, called.
 #[cycle(expression)]
 #[inline(never)]
-pub(crate) fn simple(
-    draft: &[u8],
-    tokens: &[u32],
-    count: usize,
-    tree: &mut [u32],
-    st: State,
-) -> Step
-    requires ready { Ready (text draft.now tokens.now count) st }
+pub(crate) fn simple(source: &Source, tree: &mut [u32], st: State) -> Step
+    requires ready { Ready (text source.now) st }
     requires class_value { choose table n-single st.class ≡ choice.SimpleCall }
-    ensures { Parses n-single (Node ExprKind) draft.now tokens.now count st tree.old tree.new result }
+    ensures { Parses n-single (Node ExprKind) (text source.now) st tree.old tree.new result }
 {
-    let a = token::advance(draft, tokens, count, tree::reserve(st));
+    let a = source.advance(tree::reserve(st));
     let b = names::callee(tree, st, a);
-    let inner = args(draft, tokens, count, tree, b);
+    let inner = args(source, tree, b);
     let Step::Next(z, _, _) = inner else {
         return inner;
     };
-    tree::close(tree, st, z, kind::CALL, names::call(st.class), 0);
+    tree::close(tree, st, z, Kind::Call, u32::from(names::call(st.class)), 0);
     Step::Next(z, 0, 0)
 }
 
 // `<T>::into(e, …)`
 #[cycle(expression)]
 #[inline(never)]
-pub(crate) fn cast(draft: &[u8], tokens: &[u32], count: usize, tree: &mut [u32], st: State) -> Step
-    requires ready { Ready (text draft.now tokens.now count) st }
+pub(crate) fn cast(source: &Source, tree: &mut [u32], st: State) -> Step
+    requires ready { Ready (text source.now) st }
     requires class_value { choose table n-single st.class ≡ choice.CastCall }
-    ensures { Parses n-single (Node ExprKind) draft.now tokens.now count st tree.old tree.new result }
+    ensures { Parses n-single (Node ExprKind) (text source.now) st tree.old tree.new result }
 {
-    let a = token::advance(draft, tokens, count, tree::reserve(st));
-    let inner = types::ty(draft, tokens, count, tree, a);
+    let a = source.advance(tree::reserve(st));
+    let inner = types::ty(source, tree, a);
     let Step::Next(b, _, _) = inner else {
         return inner;
     };
-    let angle = token::eat(draft, tokens, count, b, class::RANGLE);
+    let angle = source.eat(b, class::RANGLE);
     let Step::Next(d, _, _) = angle else {
         return angle;
     };
-    let colons = token::eat(draft, tokens, count, d, class::DOUBLE_COLON);
+    let colons = source.eat(d, class::DOUBLE_COLON);
     let Step::Next(f, _, _) = colons else {
         return colons;
     };
-    let into = token::eat(draft, tokens, count, f, class::INTO);
+    let into = source.eat(f, class::INTO);
     let Step::Next(g, _, _) = into else {
         return into;
     };
-    let rest = args(draft, tokens, count, tree, g);
+    let rest = args(source, tree, g);
     let Step::Next(z, _, _) = rest else {
         return rest;
     };
-    tree::close(tree, st, z, kind::CALL, call::TYPE_CAST, 0);
+    tree::close(tree, st, z, Kind::Call, u32::from(CallName::TypeCast), 0);
     Step::Next(z, 0, 0)
 }
 
 // A name: a call, a wrapper, an enum construction or a variable. For the variable `step` see `expr::single`.
 #[cycle(expression)]
 #[inline(always)]
-pub(crate) fn named(draft: &[u8], tokens: &[u32], count: usize, tree: &mut [u32], st: State) -> Step
-    requires ready { Ready (text draft.now tokens.now count) st }
+pub(crate) fn named(source: &Source, tree: &mut [u32], st: State) -> Step
+    requires ready { Ready (text source.now) st }
     requires class_value { choose table n-single st.class ≡ choice.Named }
-    ensures { Parses n-single (Node ExprKind) draft.now tokens.now count st tree.old tree.new result }
+    ensures { Parses n-single (Node ExprKind) (text source.now) st tree.old tree.new result }
 {
-    let a = token::advance(draft, tokens, count, tree::reserve(st));
+    let a = source.advance(tree::reserve(st));
     let class = a.class;
     let step = match class {
-        class::LPAREN => called(draft, tokens, count, tree, st, a),
+        class::LPAREN => called(source, tree, st, a),
         class::DOUBLE_COLON => {
-            let b = token::advance(draft, tokens, count, a);
-            built(draft, tokens, count, tree, st, b)
+            let b = source.advance(a);
+            built(source, tree, st, b)
         }
         _ => {
-            tree::close(tree, st, a, kind::VARIABLE, 0, 0);
+            tree::close(tree, st, a, Kind::Variable, 0, 0);
             return Step::Next(a, 0, 0);
         }
     };
@@ -129,81 +125,81 @@ pub(crate) fn named(draft: &[u8], tokens: &[u32], count: usize, tree: &mut [u32]
 // A call of a name, from its arguments on; a wrapper where it is one expression and no comma.
 #[cycle(expression)]
 #[inline(never)]
-fn called(draft: &[u8], tokens: &[u32], count: usize, tree: &mut [u32], st: State, a: State) -> Step
-    requires ready { Ready (text draft.now tokens.now count) st }
+fn called(source: &Source, tree: &mut [u32], st: State, a: State) -> Step
+    requires ready { Ready (text source.now) st }
     requires class_value { choose table n-single st.class ≡ choice.Named }
-    requires moved { Moved (text draft.now tokens.now count) (reserved st) a }
+    requires moved { Moved (text source.now) (reserved st) a }
     requires class_value_2 { a.class ≡ t.LParen }
-    ensures { Parses n-single (Node ExprKind) draft.now tokens.now count st tree.old tree.new result }
+    ensures { Parses n-single (Node ExprKind) (text source.now) st tree.old tree.new result }
 {
-    if names::wrapper(st.class) != 0 {
-        return wrap(draft, tokens, count, tree, st, a);
+    if let Some(kind) = names::wrapper(st.class) {
+        return wrap(source, tree, st, a, kind);
     }
     let b = names::callee(tree, st, a);
-    let inner = arguments(draft, tokens, count, tree, b);
+    let inner = arguments(source, tree, b);
     let Step::Next(z, _, _) = inner else {
         return inner;
     };
-    tree::close(tree, st, z, kind::CALL, names::call(st.class), 0);
+    tree::close(tree, st, z, Kind::Call, u32::from(names::call(st.class)), 0);
     Step::Next(z, 0, 0)
 }
 
 // `Left(e)` and kin; or a call of that name, whose record is put before the arguments.
 #[cycle(expression)]
-fn wrap(draft: &[u8], tokens: &[u32], count: usize, tree: &mut [u32], st: State, a: State) -> Step
-    requires ready { Ready (text draft.now tokens.now count) st }
+fn wrap(source: &Source, tree: &mut [u32], st: State, a: State, kind: Kind) -> Step
+    requires ready { Ready (text source.now) st }
     requires class_value { choose table n-single st.class ≡ choice.Named }
-    requires class_value_2 { has (t.Left ∷ t.Right ∷ t.Some ∷ []) st.class ≡ true }
-    requires moved { Moved (text draft.now tokens.now count) (reserved st) a }
+    requires class_value_2 { Wraps st.class (Some kind) }
+    requires moved { Moved (text source.now) (reserved st) a }
     requires class_value_3 { a.class ≡ t.LParen }
-    ensures { Parses n-single (Node ExprKind) draft.now tokens.now count st tree.old tree.new result }
+    ensures { Parses n-single (Node ExprKind) (text source.now) st tree.old tree.new result }
 {
-    let inner = args(draft, tokens, count, tree, a);
+    let inner = args(source, tree, a);
     let Step::Next(b, lone, _) = inner else {
         return inner;
     };
     if lone == 1 {
-        tree::close(tree, st, b, names::wrapping(st.class), 0, 0);
+        tree::close(tree, st, b, kind, 0, 0);
         return Step::Next(b, 0, 0);
     }
-    let z = tree::child(tree, st, b, kind::NAME, 0, 0);
+    let z = tree::child(tree, st, b, Kind::Name, 0, 0);
     tree::exchange(tree, a.out, b.out, z.out);
-    tree::close(tree, st, z, kind::CALL, call::CUSTOM, 0);
+    tree::close(tree, st, z, Kind::Call, u32::from(CallName::Custom), 0);
     Step::Next(z, 0, 0)
 }
 
 // An enum construction, from behind its first `::` on: the name before that is a record too.
 #[cycle(expression)]
 #[inline(never)]
-fn built(draft: &[u8], tokens: &[u32], count: usize, tree: &mut [u32], st: State, b: State) -> Step
-    requires ready { Ready (text draft.now tokens.now count) st }
+fn built(source: &Source, tree: &mut [u32], st: State, b: State) -> Step
+    requires ready { Ready (text source.now) st }
     requires leads { Leads st.class b.class }
-    requires begun { Begun (text draft.now tokens.now count) (reserved st) b }
-    ensures { Parses n-single (Node ExprKind) draft.now tokens.now count st tree.old tree.new result }
+    requires begun { Begun (text source.now) (reserved st) b }
+    ensures { Parses n-single (Node ExprKind) (text source.now) st tree.old tree.new result }
 {
-    let d = tree::child(tree, st, b, kind::NAME, 0, 0);
-    let rest = path(draft, tokens, count, tree, d);
+    let d = tree::child(tree, st, b, Kind::Name, 0, 0);
+    let rest = path(source, tree, d);
     let Step::Next(z, number, _) = rest else {
         return rest;
     };
-    tree::close(tree, st, z, kind::ENUM_CONSTRUCTION, number + 1, 0);
+    tree::close(tree, st, z, Kind::EnumConstruction, number + 1, 0);
     Step::Next(z, 0, 0)
 }
 
 // What follows the first `::` of an enum construction; and how many names.
 #[cycle(expression)]
-fn path(draft: &[u8], tokens: &[u32], count: usize, tree: &mut [u32], st: State) -> Step
-    requires { Ready (text draft.now tokens.now count) st }
-    ensures { Parses n-path Path draft.now tokens.now count st tree.old tree.new result }
+fn path(source: &Source, tree: &mut [u32], st: State) -> Step
+    requires { Ready (text source.now) st }
+    ensures { Parses n-path Path (text source.now) st tree.old tree.new result }
 {
-    let inner = names::names(draft, tokens, count, tree, st);
+    let inner = names::names(source, tree, st);
     let Step::Next(a, number, _) = inner else {
         return inner;
     };
     if a.class != class::LPAREN {
         return Step::Next(a, number, 0);
     }
-    let rest = args(draft, tokens, count, tree, a);
+    let rest = args(source, tree, a);
     let Step::Next(z, _, _) = rest else {
         return rest;
     };
@@ -213,142 +209,128 @@ fn path(draft: &[u8], tokens: &[u32], count: usize, tree: &mut [u32], st: State)
 // A name that is no call: `None`, a variable or the beginning of an enum construction.
 #[cycle(expression)]
 #[inline(never)]
-pub(crate) fn bare(draft: &[u8], tokens: &[u32], count: usize, tree: &mut [u32], st: State) -> Step
-    requires ready { Ready (text draft.now tokens.now count) st }
+pub(crate) fn bare(source: &Source, tree: &mut [u32], st: State) -> Step
+    requires ready { Ready (text source.now) st }
     requires class_value { choose table n-single st.class ≡ choice.Bare }
-    ensures { Parses n-single (Node ExprKind) draft.now tokens.now count st tree.old tree.new result }
+    ensures { Parses n-single (Node ExprKind) (text source.now) st tree.old tree.new result }
 {
-    let a = token::advance(draft, tokens, count, tree::reserve(st));
+    let a = source.advance(tree::reserve(st));
     if a.class != class::DOUBLE_COLON {
         tree::close(tree, st, a, names::alone(st.class), 0, 0);
         return Step::Next(a, 0, 0);
     }
-    let b = token::advance(draft, tokens, count, a);
-    built(draft, tokens, count, tree, st, b)
+    let b = source.advance(a);
+    built(source, tree, st, b)
 }
 
 // A name that `::<..>` may follow, by its rule: a call with that, an enum construction or a variable.
 #[cycle(expression)]
 #[inline(never)]
-pub(crate) fn generic(
-    draft: &[u8],
-    tokens: &[u32],
-    count: usize,
-    tree: &mut [u32],
-    st: State,
-    rule: u32,
-) -> Step
-    requires ready { Ready (text draft.now tokens.now count) st }
+pub(crate) fn generic(source: &Source, tree: &mut [u32], st: State, rule: u32) -> Step
+    requires ready { Ready (text source.now) st }
     requires generic { Generic st.class rule }
-    ensures { Parses n-single (Node ExprKind) draft.now tokens.now count st tree.old tree.new result }
+    ensures { Parses n-single (Node ExprKind) (text source.now) st tree.old tree.new result }
 {
-    let a = token::advance(draft, tokens, count, tree::reserve(st));
+    let a = source.advance(tree::reserve(st));
     if a.class != class::DOUBLE_COLON {
-        tree::close(tree, st, a, kind::VARIABLE, 0, 0);
+        tree::close(tree, st, a, Kind::Variable, 0, 0);
         return Step::Next(a, 0, 0);
     }
-    let b = token::advance(draft, tokens, count, a);
+    let b = source.advance(a);
     if b.class != class::LANGLE {
-        return built(draft, tokens, count, tree, st, b);
+        return built(source, tree, st, b);
     }
     match rule {
-        choice::TYPED => of_type(draft, tokens, count, tree, st, b),
-        choice::FOLDING => bound(draft, tokens, count, tree, st, b),
-        _ => loops(draft, tokens, count, tree, st, b),
+        choice::TYPED => of_type(source, tree, st, b),
+        choice::FOLDING => bound(source, tree, st, b),
+        _ => loops(source, tree, st, b),
     }
 }
 
 // `unwrap_left::<T>(e, …)` and kin, from `<` on.
 #[cycle(expression)]
-fn of_type(
-    draft: &[u8],
-    tokens: &[u32],
-    count: usize,
-    tree: &mut [u32],
-    st: State,
-    b: State,
-) -> Step
-    requires ready { Ready (text draft.now tokens.now count) st }
+fn of_type(source: &Source, tree: &mut [u32], st: State, b: State) -> Step
+    requires ready { Ready (text source.now) st }
     requires class_value { choose table n-single st.class ≡ choice.Typed }
-    requires begun { Begun (text draft.now tokens.now count) (reserved st) b }
+    requires begun { Begun (text source.now) (reserved st) b }
     requires class_value_2 { b.class ≡ t.LAngle }
-    ensures { Parses n-single (Node ExprKind) draft.now tokens.now count st tree.old tree.new result }
+    ensures { Parses n-single (Node ExprKind) (text source.now) st tree.old tree.new result }
 {
-    let d = token::advance(draft, tokens, count, b);
-    let inner = types::ty(draft, tokens, count, tree, d);
+    let d = source.advance(b);
+    let inner = types::ty(source, tree, d);
     let Step::Next(f, _, _) = inner else {
         return inner;
     };
-    let angle = token::eat(draft, tokens, count, f, class::RANGLE);
+    let angle = source.eat(f, class::RANGLE);
     let Step::Next(g, _, _) = angle else {
         return angle;
     };
-    let rest = args(draft, tokens, count, tree, g);
+    let rest = args(source, tree, g);
     let Step::Next(z, _, _) = rest else {
         return rest;
     };
-    tree::close(tree, st, z, kind::CALL, names::call(st.class), 0);
+    tree::close(tree, st, z, Kind::Call, u32::from(names::call(st.class)), 0);
     Step::Next(z, 0, 0)
 }
 
 // `fold::<f, n>(e, …)` and `array_fold::<f, n>(e, …)`, from `<` on. What is refused inside is kept apart.
 #[cycle(expression)]
-fn bound(draft: &[u8], tokens: &[u32], count: usize, tree: &mut [u32], st: State, b: State) -> Step
-    requires ready { Ready (text draft.now tokens.now count) st }
+fn bound(source: &Source, tree: &mut [u32], st: State, b: State) -> Step
+    requires ready { Ready (text source.now) st }
     requires class_value { choose table n-single st.class ≡ choice.Folding }
-    requires begun { Begun (text draft.now tokens.now count) (reserved st) b }
+    requires begun { Begun (text source.now) (reserved st) b }
     requires class_value_2 { b.class ≡ t.LAngle }
-    ensures { Parses n-single (Node ExprKind) draft.now tokens.now count st tree.old tree.new result }
+    ensures { Parses n-single (Node ExprKind) (text source.now) st tree.old tree.new result }
 {
-    let d = token::advance(draft, tokens, count, fault::clean(b));
-    let inner = names::function_name(draft, tokens, count, tree, d);
+    let d = source.advance(fault::clean(b));
+    let inner = names::name(source, tree, d, NameSort::Function);
     let Step::Next(f, _, _) = inner else {
         return inner;
     };
-    let comma = token::eat(draft, tokens, count, f, class::COMMA);
+    let comma = source.eat(f, class::COMMA);
     let Step::Next(g, _, _) = comma else {
         return comma;
     };
-    let size = names::decimal(draft, tokens, count, tree, g);
+    let size = names::decimal(source, tree, g);
     let Step::Next(h, _, _) = size else {
         return size;
     };
-    let angle = token::eat(draft, tokens, count, h, class::RANGLE);
+    let angle = source.eat(h, class::RANGLE);
     let Step::Next(i, _, _) = angle else {
         return angle;
     };
-    let rest = args(draft, tokens, count, tree, i);
+    let rest = args(source, tree, i);
     let Step::Next(y, _, _) = rest else {
         return rest;
     };
-    tree::close(tree, st, y, kind::CALL, names::call(st.class), 0);
-    let n = names::number(draft, g);
+    tree::close(tree, st, y, Kind::Call, u32::from(names::call(st.class)), 0);
+    let n = names::number(source.draft, g);
     let z = fault::judged(st, y, names::size_fault(st.class, n), g.start);
     Step::Next(z, 0, 0)
 }
 
 // `for_while::<f>(e, …)`, from `<` on.
 #[cycle(expression)]
-fn loops(draft: &[u8], tokens: &[u32], count: usize, tree: &mut [u32], st: State, b: State) -> Step
-    requires ready { Ready (text draft.now tokens.now count) st }
+fn loops(source: &Source, tree: &mut [u32], st: State, b: State) -> Step
+    requires ready { Ready (text source.now) st }
     requires class_value { choose table n-single st.class ≡ choice.ForWhile }
-    requires begun { Begun (text draft.now tokens.now count) (reserved st) b }
+    requires begun { Begun (text source.now) (reserved st) b }
     requires class_value_2 { b.class ≡ t.LAngle }
-    ensures { Parses n-single (Node ExprKind) draft.now tokens.now count st tree.old tree.new result }
+    ensures { Parses n-single (Node ExprKind) (text source.now) st tree.old tree.new result }
 {
-    let d = token::advance(draft, tokens, count, b);
-    let inner = names::function_name(draft, tokens, count, tree, d);
+    let d = source.advance(b);
+    let inner = names::name(source, tree, d, NameSort::Function);
     let Step::Next(f, _, _) = inner else {
         return inner;
     };
-    let angle = token::eat(draft, tokens, count, f, class::RANGLE);
+    let angle = source.eat(f, class::RANGLE);
     let Step::Next(g, _, _) = angle else {
         return angle;
     };
-    let rest = args(draft, tokens, count, tree, g);
+    let rest = args(source, tree, g);
     let Step::Next(z, _, _) = rest else {
         return rest;
     };
-    tree::close(tree, st, z, kind::CALL, call::FOR_WHILE, 0);
+    tree::close(tree, st, z, Kind::Call, u32::from(CallName::ForWhile), 0);
     Step::Next(z, 0, 0)
 }

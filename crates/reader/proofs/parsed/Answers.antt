@@ -1,25 +1,29 @@
 -- The parser's answer is the definition's, and its records are given their ways up.
 -- Assumes nothing.
 use Rattle.std.specs.Prelude.{refl, length}
-use Rattle.std.proofs.Common.{sym, ◌∙◌}
+use Rattle.std.proofs.Common.{sym, ap, ◌∙◌}
+use Rattle.std.proofs.lemmas.Result.{err_from_is_err_and}
+use Rattle.text.specs.Refusals.{refused_by}
 use Rattle.parse.specs.Entry.{entry_of}
+use Rattle.reader.specs.Read.{meant}
 use Rattle.reader.proofs.Laws as law
 use Rattle.reader.proofs.parsed.Goals as goal
 
-pub returns-in-Records-clause-answer : goal.returns-in-Records-clause-answer
-returns-in-Records-clause-answer c =
-    c.in-Records.ensures.answer
-    ∙ law.parsed-answer (entry_of c.args.file) c.args.draft.now c.args.tokens.now c.args.count (length c.args.tree.now) c.requires.lexed c.requires.held
+pub returns-clause-answer : goal.returns-clause-answer
+returns-clause-answer c =
+    c.in_ok-records.ensures.answer
+    ∙ law.parsed-answer (entry_of c.args.what) c.args.lexed.now.draft.now c.args.lexed.now.words.now c.args.lexed.now.count (length c.args.tree.now) c.args.lexed.now.counted c.args.lexed.now.held
 
-pub returns-in-Records-clause-tree : goal.returns-in-Records-clause-tree
-returns-in-Records-clause-tree c = record {
+pub returns-clause-tree : goal.returns-clause-tree
+returns-clause-tree c = record {
   holds = λ n m e.
       c.way_up.ensures
-      ∙ law.parsed-raised (entry_of c.args.file) c.args.draft.now c.args.tokens.now c.args.count (length c.args.tree.now) c.requires.lexed c.requires.held
-      c.args.tree.now (sym (returns-in-Records-clause-answer c)) (c.in-Records.ensures.held.holds _ _ refl);
+      ∙ law.parsed-raised (entry_of c.args.what) c.args.lexed.now.draft.now c.args.lexed.now.words.now c.args.lexed.now.count (length c.args.tree.now) c.args.lexed.now.counted c.args.lexed.now.held
+      c.args.tree.now (sym (returns-clause-answer c)) (c.in_ok-records.ensures.held.holds _ _ refl);
 }
 
-pub returns-in-Refused-clause-answer : goal.returns-in-Refused-clause-answer
-returns-in-Refused-clause-answer c =
-    c.in-Refused.ensures.answer
-    ∙ law.parsed-answer (entry_of c.args.file) c.args.draft.now c.args.tokens.now c.args.count (length c.args.tree.now) c.requires.lexed c.requires.held
+pub returns-in_err-records-clause-answer : goal.returns-in_err-records-clause-answer
+returns-in_err-records-clause-answer c =
+    let p = err_from_is_err_and c.from_residual.result c.from_residual.ensures.1 in
+    ap meant p.1 ∙ ap refused_by p.2 ∙ c.in_err-records.ensures.answer
+    ∙ law.parsed-answer (entry_of c.args.what) c.args.lexed.now.draft.now c.args.lexed.now.words.now c.args.lexed.now.count (length c.args.tree.now) c.args.lexed.now.counted c.args.lexed.now.held

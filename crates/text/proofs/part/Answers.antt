@@ -1,18 +1,24 @@
--- The tests pick the case.
+-- The range is there just where both tests pass.
 -- Assumes nothing.
-use Rattle.std.proofs.Common.{le-leb}
+use Rattle.std.proofs.Common.{◌≡◌, ℕ, ◌+◌, ◌<◌, ◌≤◌, Bool, true, false, cond, ◌&&◌, List, [], length, ap, refl, ◌∙◌, inl, inr, le-leb, Bor}
 use Rattle.std.proofs.lemmas.Bool.{lt-leb}
+use Rattle.std.specs.Prelude.{Option, None, Some, unwrap_or, ◌⊎◌}
+use Rattle.std.specs.Option.{MatchOption}
+use Rattle.std.specs.List.{slice_range}
 use Rattle.text.specs.Part.{part_of}
 use Rattle.text.proofs.part.Goals as goal
 
-pub returns-then-end-draft : goal.returns-then-end-draft
-unfolding part_of
-returns-then-end-draft c = simp (le-leb _ _ c.if-start-end.true, le-leb _ _ c.if-end-draft.true)
+no-part : (b : Bool) (bytes : List ℕ) → [] ≡ cond (b && false) bytes []
+no-part true bytes = refl
+no-part false bytes = refl
 
-pub returns-else-end-draft : goal.returns-else-end-draft
+picked : (draft : List ℕ) (start end : ℕ) (none : Bor (List ℕ)) → none.now ≡ [] → (o : Option (Bor (List ℕ)))
+    → MatchOption o ((end < start) ⊎ (length draft < end)) (λ x. (start ≤ end) × (end ≤ length draft) × (x.now ≡ slice_range draft start end) × (length x.now + start ≡ end))
+    → (unwrap_or o none).now ≡ part_of draft start end
 unfolding part_of
-returns-else-end-draft c = simp (le-leb _ _ c.if-start-end.true, lt-leb _ _ c.if-end-draft.false)
+picked draft start end none e None (inl h) = simp (e, lt-leb _ _ h)
+picked draft start end none e None (inr h) = simp (e, lt-leb _ _ h) (no-part _ _)
+picked draft start end none e (Some x) h = simp (h.2, le-leb _ _ h.0, le-leb _ _ h.1)
 
-pub returns-else-start-end : goal.returns-else-start-end
-unfolding part_of
-returns-else-start-end c = simp (lt-leb _ _ c.if-start-end.false)
+pub returns : goal.returns
+returns c = ap (λ (r : Bor (List ℕ)). r.now) c.unwrap_or.ensures ∙ picked _ _ _ _ refl _ c.get.ensures.lookup.0

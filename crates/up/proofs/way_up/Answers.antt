@@ -10,16 +10,16 @@ pub returns-then-records-eq0 : goal.returns-then-records-eq0
 returns-then-records-eq0 c = raise-nothing _ _ c.if-records-eq0.true
 
 pub above-p-requires-clause-i_nonzero : goal.above-p-requires-clause-i_nonzero
-above-p-requires-clause-i_nonzero c = c.loop-i.invariant.0.some
+above-p-requires-clause-i_nonzero c = c.loop-i.invariant.some
 
 pub above-p-requires-clause-before_value : goal.above-p-requires-clause-before_value
-above-p-requires-clause-before_value c = raised-at c.loop-i.invariant.0
+above-p-requires-clause-before_value c = raised-at c.loop-i.invariant
 
 pub above-p-requires-clause-raised : goal.above-p-requires-clause-raised
-above-p-requires-clause-raised c = raised c.loop-i.invariant.0
+above-p-requires-clause-raised c = raised c.loop-i.invariant
 
 pub loop-i-preserved : goal.loop-i-preserved
-loop-i-preserved c = raise-more c.loop-i.invariant.0 c.loop-i.invariant.1 c.above-p.ensures.is c.loop-i-test.true
+loop-i-preserved c = raise-more c.loop-i.invariant c.above-p.ensures.is c.loop-i-test.true
 
 pub returns : goal.returns
-returns c = raise-end c.loop-i.invariant.0 c.loop-i-test.false
+returns c = raise-end c.loop-i.invariant c.loop-i-test.false

@@ -1,12 +1,7 @@
 -- Each record in turn: those before it have their way up.
 -- Assumes nothing.
-use Rattle.std.proofs.Common.{◌≡◌, ◌-◌, ◌*◌}
-use Rattle.text.specs.Widths.{rec_wide}
 use Rattle.up.proofs.Raise.{Raised}
 use Rattle.up.proofs.way_up.Given as goal
 
 abbrev pub invariant-loop-i : goal.invariant-loop-i
-invariant-loop-i l = Raised l.fn.tree l.records l.tree l.p l.i × (l.w ≡ rec_wide * l.i)
-
-abbrev pub decreases-loop-i : goal.decreases-loop-i
-decreases-loop-i l = l.records - l.i
+invariant-loop-i l = Raised l.fn.tree l.records l.tree l.p l.i

@@ -6,4 +6,4 @@ use Rattle.words.proofs.begin.Goals as goal
 
 pub returns : goal.returns
 unfolding starts
-returns c = start-at _ c.requires
+returns c = rw c.from.ensures (start-at _ c.requires)

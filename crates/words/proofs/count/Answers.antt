@@ -7,4 +7,4 @@ use Rattle.words.proofs.count.Goals as goal
 
 pub returns : goal.returns
 unfolding counts
-returns c = c.wide.ensures ∙ count_at _ c.requires
+returns c = c.from.ensures ∙ count_at _ c.requires

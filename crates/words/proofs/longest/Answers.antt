@@ -6,4 +6,4 @@ use Rattle.words.proofs.longest.Goals as goal
 
 pub returns : goal.returns
 unfolding longest
-returns c = rw c.wide.ensures (longest_few _ c.requires, longest-at _ c.requires)
+returns c = rw c.from.ensures (longest_few _ c.requires, longest-at _ c.requires)

@@ -1,26 +1,21 @@
 -- The tables stand in the order of the enum.
 -- Assumes nothing.
-use Rattle.std.proofs.Common.{sym, ap, arith}
+use Rattle.std.proofs.Common.{◌≡◌, ◌<◌, refl, arith, get_or, []}
+use denote.Enum.Declared.{tag_of}
 use Rattle.words.specs.Words.{words_of}
 use Rattle.words.specs.Layout.{tables}
+use Rattle.words.specs.contracts.Table.{the_type}
+use Rattle.words.specs.declared.Table.{Table}
+use Rattle.words.specs.declared.Table.TheVariants.{FunctionReserved, Keywords, Macros, ModuleReserved, RuleWords}
 use Rattle.words.proofs.number.Goals as goal
 
-pub returns-in-FunctionReserved : goal.returns-in-FunctionReserved
+in_order : (t : Table) → (tag_of the_type t < 5) × (get_or tables (tag_of the_type t) [] ≡ words_of t)
 unfolding words_of tables
-returns-in-FunctionReserved c = (omega arith, ap words_of (sym c.in-FunctionReserved.is))
+in_order FunctionReserved = (omega arith, refl)
+in_order Keywords = (omega arith, refl)
+in_order Macros = (omega arith, refl)
+in_order ModuleReserved = (omega arith, refl)
+in_order RuleWords = (omega arith, refl)
 
-pub returns-in-Keywords : goal.returns-in-Keywords
-unfolding words_of tables
-returns-in-Keywords c = (omega arith, ap words_of (sym c.in-Keywords.is))
-
-pub returns-in-Macros : goal.returns-in-Macros
-unfolding words_of tables
-returns-in-Macros c = (omega arith, ap words_of (sym c.in-Macros.is))
-
-pub returns-in-ModuleReserved : goal.returns-in-ModuleReserved
-unfolding words_of tables
-returns-in-ModuleReserved c = (omega arith, ap words_of (sym c.in-ModuleReserved.is))
-
-pub returns-in-RuleWords : goal.returns-in-RuleWords
-unfolding words_of tables
-returns-in-RuleWords c = (omega arith, ap words_of (sym c.in-RuleWords.is))
+pub returns : goal.returns
+returns c = in_order c.args.table

@@ -7,4 +7,4 @@ use Rattle.words.proofs.size.Goals as goal
 
 pub returns : goal.returns
 unfolding sizes
-returns c = c.wide.ensures ∙ size-at _ c.requires
+returns c = c.from.ensures ∙ size-at _ c.requires

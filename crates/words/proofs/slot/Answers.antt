@@ -6,4 +6,4 @@ use Rattle.words.proofs.slot.Goals as goal
 
 pub returns : goal.returns
 unfolding slot_of
-returns c = rw (c.wide-a.ensures, c.wide-b.ensures, c.wide-c.ensures) refl
+returns c = rw (c.from.ensures, c.from-2.ensures, c.from-3.ensures) refl

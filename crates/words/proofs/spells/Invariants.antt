@@ -1,11 +1,8 @@
 -- The loop keeps whether the rests are equal.
 -- Assumes nothing.
-use Rattle.std.proofs.Common.{length, ◌-◌, ◌≡◌, ◌≤◌, drop}
+use Rattle.std.proofs.Common.{drop, ◌≡◌}
 use Rattle.text.specs.Same.{same}
 use Rattle.words.proofs.spells.Given as goal
 
 abbrev pub invariant-loop-j : goal.invariant-loop-j
-invariant-loop-j l = (l.j ≤ length l.p) × (same (drop l.j l.p) (drop l.j l.w) ≡ same l.p l.w)
-
-abbrev pub decreases-loop-j : goal.decreases-loop-j
-decreases-loop-j l = length l.p - l.j
+invariant-loop-j l = same (drop l.j l.p) (drop l.j l.w) ≡ same l.p l.w

@@ -1,41 +1,40 @@
 -- Each bracket and `match` by its kind; every other token ends a row and leaves the depth.
 -- Assumes nothing.
-use Rattle.std.proofs.Common.{◌≡◌, ◌∙◌, false, eqb, rules, tests}
+use mathlib.Core.Logic.{◌⊎◌, inl, inr}
+use Rattle.std.proofs.Common.{◌≡◌, ◌∙◌, ◌+◌, ◌-◌, ℕ, refl, false, eqb, rules, tests}
+use Rattle.lexer.specs.Classes as t
 use Rattle.lexer.specs.Limits.{depth_after, row_after}
 use Rattle.lexer.proofs.Nesting.{closes, row_ends}
 use Rattle.lexer.proofs.depth.count_one.Goals as goal
 
+-- what a token of a kind does to both counts
+record Counts (k d' m' d m : ℕ) : Type 0 where
+  depth : depth_after k d ≡ d'
+  row : row_after k m ≡ m'
+
+opens : (k d m : ℕ) → (k ≡ t.LParen) ⊎ ((k ≡ t.LBracket) ⊎ ((k ≡ t.LBrace) ⊎ (k ≡ t.LAngle))) → Counts k (d + 1) 0 d m
+unfolding depth_after row_after
+opens k d m (inl e) = record { depth = rw e refl; row = rw e refl }
+opens k d m (inr (inl e)) = record { depth = rw e refl; row = rw e refl }
+opens k d m (inr (inr (inl e))) = record { depth = rw e refl; row = rw e refl }
+opens k d m (inr (inr (inr e))) = record { depth = rw e refl; row = rw e refl }
+
+shuts : (k d m : ℕ) → (k ≡ t.RParen) ⊎ ((k ≡ t.RBracket) ⊎ ((k ≡ t.RBrace) ⊎ (k ≡ t.RAngle))) → Counts k (d - 1) 0 d m
+unfolding depth_after row_after
+shuts k d m (inl e) = record { depth = rw e refl; row = rw e refl }
+shuts k d m (inr (inl e)) = record { depth = rw e refl; row = rw e refl }
+shuts k d m (inr (inr (inl e))) = record { depth = rw e refl; row = rw e refl }
+shuts k d m (inr (inr (inr e))) = record { depth = rw e refl; row = rw e refl }
+
 pub returns-in-20 : goal.returns-in-20
-unfolding depth_after row_after
-returns-in-20 c = (rw c.in-20.is c.opened.ensures)
-
-pub returns-in-22 : goal.returns-in-22
-unfolding depth_after row_after
-returns-in-22 c = (rw c.in-22.is c.opened-in-22.ensures)
-
-pub returns-in-24 : goal.returns-in-24
-unfolding depth_after row_after
-returns-in-24 c = (rw c.in-24.is c.opened-in-24.ensures)
-
-pub returns-in-26 : goal.returns-in-26
-unfolding depth_after row_after
-returns-in-26 c = (rw c.in-26.is c.opened-in-26.ensures)
+returns-in-20 c =
+    let k = opens _ c.args.nest.depth c.args.nest.row c.in-20.is in
+    rw (k.depth, k.row) c.opened.ensures
 
 pub returns-in-21 : goal.returns-in-21
-unfolding depth_after row_after
-returns-in-21 c = (rw c.in-21.is (c.closed.ensures ∙ closes _ _ _ c.requires))
-
-pub returns-in-23 : goal.returns-in-23
-unfolding depth_after row_after
-returns-in-23 c = (rw c.in-23.is (c.closed-in-23.ensures ∙ closes _ _ _ c.requires))
-
-pub returns-in-25 : goal.returns-in-25
-unfolding depth_after row_after
-returns-in-25 c = (rw c.in-25.is (c.closed-in-25.ensures ∙ closes _ _ _ c.requires))
-
-pub returns-in-27 : goal.returns-in-27
-unfolding depth_after row_after
-returns-in-27 c = (rw c.in-27.is (c.closed-in-27.ensures ∙ closes _ _ _ c.requires))
+returns-in-21 c =
+    let k = shuts _ c.args.nest.depth c.args.nest.row c.in-21.is in
+    rw (k.depth, k.row) (c.closed.ensures ∙ closes _ _ _ c.requires)
 
 pub returns-in-9 : goal.returns-in-9
 unfolding depth_after row_after

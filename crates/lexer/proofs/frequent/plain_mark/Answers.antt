@@ -8,7 +8,8 @@ use Rattle.lexer.proofs.frequent.plain_mark.Goals as goal
 pub returns-then-c-ge-LPAREN : goal.returns-then-c-ge-LPAREN
 returns-then-c-ge-LPAREN c =
     let r = c.requires in
-    at_alone _ _ _ _ r.0 r.1 refl (omega arith) (omega arith) (λ z. absurd (omega arith)) (λ z. absurd (omega arith)) (λ z. absurd (omega arith)) c.if-c-eq-OTHER.false
+    rw c.from.ensures
+    (at_alone _ _ _ _ r.0 r.1 refl (omega arith) (omega arith) (λ z. absurd (omega arith)) (λ z. absurd (omega arith)) (λ z. absurd (omega arith)) c.if-c-eq-OTHER.false)
 
 pub returns-then-c-eq-COMMA : goal.returns-then-c-eq-COMMA
 returns-then-c-eq-COMMA c =

@@ -9,7 +9,7 @@ use Rattle.lexer.proofs.frequent.plain_name.Goals as goal
 
 pub word-requires : goal.word-requires
 word-requires c =
-    let v = named _ _ _ c.requires.i_in_bounds.0 c.requires.i_in_bounds.1 c.rest_end-e.ensures in
+    let v = named _ _ _ c.requires.0 c.requires.1 c.rest_end-e.ensures in
     let q : qualified (drop c.args.i c.args.s.now) ≡ none =
     elim c.if-b-eq58.branch [
       | then-b-eq58+else-peek-eq58 w ↦ not-path _ _ _ v (λ z. w.if-peek-eq58.false (w.peek.ensures ∙ z))

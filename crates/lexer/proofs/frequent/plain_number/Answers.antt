@@ -8,11 +8,11 @@ use Rattle.lexer.proofs.ByteClasses.{starts_run}
 use Rattle.lexer.proofs.Bytes.{at-decimal}
 use Rattle.lexer.proofs.frequent.plain_number.Goals as goal
 
-pub rest_end-e-requires-clause-i_in_run : goal.rest_end-e-requires-clause-i_in_run
-rest_end-e-requires-clause-i_in_run c = (c.requires.i_in_bounds.0, starts_run _ c.requires.i_in_bounds.1)
+pub rest_end-e-requires : goal.rest_end-e-requires
+rest_end-e-requires c = (c.requires.0, starts_run _ c.requires.1)
 
 pub returns : goal.returns
 returns c =
     let n = c.if-s-i-eq48.false in
     ap (Token t.DecLiteral) c.rest_end-e.ensures
-    ∙ at-decimal _ _ c.requires.i_in_bounds.0 c.requires.i_in_bounds.1 (simp (ne_eqb _ _ n)) (simp (ne_eqb _ _ n))
+    ∙ at-decimal _ _ c.requires.0 c.requires.1 (simp (ne_eqb _ _ n)) (simp (ne_eqb _ _ n))

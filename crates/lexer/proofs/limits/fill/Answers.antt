@@ -41,7 +41,7 @@ loop-kind-preserved c = fill-trivia c.loop-kind.invariant _ (sym c.step_with-fou
 
 pub returns-in-Refused-clause-result_value : goal.returns-in-Refused-clause-result_value
 returns-in-Refused-clause-result_value c =
-    sym (ap (judged_in _) (fill-refused c.loop-kind.invariant _ _ (sym c.step_with-found.ensures ∙ c.in-Refused.is)))
+    sym (ap (judged_in _) (fill-refused c.loop-kind.invariant _ (sym c.step_with-found.ensures ∙ c.in-Refused.is)))
 
 pub returns-in-Nothing-clause-result_value : goal.returns-in-Nothing-clause-result_value
 returns-in-Nothing-clause-result_value c =

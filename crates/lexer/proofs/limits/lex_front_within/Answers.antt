@@ -8,4 +8,4 @@ pub returns-then-draft-bytes-clause-result_value : goal.returns-then-draft-bytes
 returns-then-draft-bytes-clause-result_value c = too_long _ _ _ _ c.if-draft-bytes.true
 
 pub returns-clause-result_value : goal.returns-clause-result_value
-returns-clause-result_value c = c.fill.ensures.result_value ∙ not-too-long _ _ _ _ c.if-draft-bytes.false _ c.least-room.ensures
+returns-clause-result_value c = c.fill.ensures.result_value ∙ not-too-long _ _ _ _ c.if-draft-bytes.false _ c.min-room.ensures

@@ -4,7 +4,7 @@ use Rattle.lexer.proofs.Bytes.{at-space, at-over}
 use Rattle.lexer.proofs.scan.blank.Goals as goal
 
 pub returns-then-c-gt-LINE_END : goal.returns-then-c-gt-LINE_END
-returns-then-c-gt-LINE_END c = at-over _ _ _ c.requires.i_in_bounds.0 c.requires.i_in_bounds.1 c.if-c-gt-LINE_END.true
+returns-then-c-gt-LINE_END c = at-over _ _ _ c.requires.0 c.requires.1 c.if-c-gt-LINE_END.true
 
 pub returns : goal.returns
-returns c = at-space _ _ _ c.requires.i_in_bounds.0 c.requires.i_in_bounds.1 c.requires.i_in_bounds.2 c.if-c-gt-LINE_END.false _ c.run_end-e.ensures
+returns c = at-space _ _ _ c.requires.0 c.requires.1 c.requires.2 c.if-c-gt-LINE_END.false _ c.run_end-e.ensures

@@ -8,21 +8,21 @@ use Rattle.lexer.proofs.Rest.{there}
 use Rattle.lexer.proofs.scan.number.Goals as goal
 
 pub returns-then-b-ne48 : goal.returns-then-b-ne48
-returns-then-b-ne48 c = c.decimal.ensures ∙ at-decimal _ _ c.requires.i_in_bounds.0 c.requires.i_in_bounds.1 (simp (ne_eqb _ _ c.if-b-ne48.true)) (simp (ne_eqb _ _ c.if-b-ne48.true))
+returns-then-b-ne48 c = c.decimal.ensures ∙ at-decimal _ _ c.requires.0 c.requires.1 (simp (ne_eqb _ _ c.if-b-ne48.true)) (simp (ne_eqb _ _ c.if-b-ne48.true))
 
-pub based-requires-clause-based : goal.based-requires-clause-based
-based-requires-clause-based c =
+pub based-requires : goal.based-requires
+based-requires c =
     let e = sym c.peek-x.ensures ∙ c.if-x-eq120.true in
     let h = there c.args.s.now (c.args.i + 1) 119 e in
-    at-hex _ _ c.requires.i_in_bounds.0 c.requires.i_in_bounds.1 c.if-b-ne48.false e (omega arith)
+    at-hex _ _ c.requires.0 c.requires.1 c.if-b-ne48.false e (omega arith)
 
-pub based-requires-then-x-eq98-clause-based : goal.based-requires-then-x-eq98-clause-based
-based-requires-then-x-eq98-clause-based c =
+pub based-requires-then-x-eq98 : goal.based-requires-then-x-eq98
+based-requires-then-x-eq98 c =
     let e = sym c.peek-x.ensures ∙ c.if-x-eq98.true in
     let h = there c.args.s.now (c.args.i + 1) 97 e in
-    at-binary _ _ c.requires.i_in_bounds.0 c.requires.i_in_bounds.1 c.if-b-ne48.false e (omega arith)
+    at-binary _ _ c.requires.0 c.requires.1 c.if-b-ne48.false e (omega arith)
 
 pub returns : goal.returns
 returns c =
     c.decimal-2.ensures
-    ∙ at-decimal _ _ c.requires.i_in_bounds.0 c.requires.i_in_bounds.1 (simp (ne_eqb _ _ (λ z. c.if-x-eq120.false (c.peek-x.ensures ∙ z)), and-false)) (simp (ne_eqb _ _ (λ z. c.if-x-eq98.false (c.peek-x.ensures ∙ z)), and-false))
+    ∙ at-decimal _ _ c.requires.0 c.requires.1 (simp (ne_eqb _ _ (λ z. c.if-x-eq120.false (c.peek-x.ensures ∙ z)), and-false)) (simp (ne_eqb _ _ (λ z. c.if-x-eq98.false (c.peek-x.ensures ∙ z)), and-false))

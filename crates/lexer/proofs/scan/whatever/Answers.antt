@@ -6,9 +6,9 @@ use Rattle.lexer.proofs.ByteClasses.{slash-is, class-gap}
 use Rattle.lexer.proofs.scan.whatever.Goals as goal
 
 pub slash-requires : goal.slash-requires
-slash-requires c = (c.requires.i_in_bounds, slash-is _ _ c.byte_class-c.ensures c.if-c-eq-SLASH.true)
+slash-requires c = (c.requires, slash-is _ _ c.of-c.ensures c.if-c-eq-SLASH.true)
 
 pub mark-requires : goal.mark-requires
 mark-requires c =
-    let n : byte.Slash < c.byte_class-c.result = omega (arith, c.if-c-le-LETTER.false, c.if-c-eq-SLASH.false) in
-    (c.requires.i_in_bounds, c.byte_class-c.ensures, class-gap _ _ c.byte_class-c.ensures n, omega (arith, c.if-c-ge-SPACE.false))
+    let n : byte.Slash < c.of-c.result = omega (arith, c.if-c-le-LETTER.false, c.if-c-eq-SLASH.false) in
+    (c.requires, c.of-c.ensures, class-gap _ _ c.of-c.ensures n, omega (arith, c.if-c-ge-SPACE.false))

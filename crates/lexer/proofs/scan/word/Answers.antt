@@ -14,14 +14,14 @@ slice_bounds-which-end c = c.requires.0.within
 
 pub keyword-requires : goal.keyword-requires
 unfolding words_of
-keyword-requires c = below KEYWORDS _ _ (sym c.which.ensures ∙ c.in-Word.is)
+keyword-requires c = below KEYWORDS _ _ (sym c.which.ensures ∙ c.in-Some.is)
 
-pub returns-in-Word : goal.returns-in-Word
+pub returns-in-Some : goal.returns-in-Some
 unfolding words_of
-returns-in-Word c =
-    c.keyword.ensures ∙ at-keyword _ _ _ c.requires.0 _ c.requires.1 c.requires.2 (ap (word_of KEYWORDS) (sym (sliced _ _ _ c.requires.0)) ∙ sym c.which.ensures ∙ c.in-Word.is)
+returns-in-Some c =
+    c.keyword.ensures ∙ at-keyword _ _ _ c.requires.0 _ c.requires.1 c.requires.2 (ap (word_of KEYWORDS) (sym (sliced _ _ _ c.requires.0)) ∙ sym c.which.ensures ∙ c.in-Some.is)
 
-pub returns-in-Plain : goal.returns-in-Plain
+pub returns-in-None : goal.returns-in-None
 unfolding words_of
-returns-in-Plain c =
-    at_plain _ _ _ c.requires.0 c.requires.1 c.requires.2 (ap (word_of KEYWORDS) (sym (sliced _ _ _ c.requires.0)) ∙ sym c.which.ensures ∙ c.in-Plain.is)
+returns-in-None c =
+    at_plain _ _ _ c.requires.0 c.requires.1 c.requires.2 (ap (word_of KEYWORDS) (sym (sliced _ _ _ c.requires.0)) ∙ sym c.which.ensures ∙ c.in-None.is)

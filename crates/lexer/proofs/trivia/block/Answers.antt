@@ -2,6 +2,7 @@
 -- Assumes nothing.
 use Rattle.std.proofs.Common.{◌+◌, ◌<◌, length, get_or, refl, sym, ◌∙◌, arith}
 use Rattle.utf8.proofs.Parts.{good_start, good-next, sequence-within}
+use Rattle.utf8.proofs.Founds.{found-length, found-some, none-length}
 use Rattle.lexer.proofs.Closings.{two-within, two-inside, past-neither, first-neither, place-opens, place-closes, place-last, place-neither, place-never}
 use Rattle.lexer.proofs.Comments.{block-plain, good-one, good-two, good-opens, good-closes, block-next, block-broken, block-whole, block-unclosed}
 use Rattle.lexer.proofs.trivia.block.Goals as goal
@@ -15,14 +16,14 @@ loop-j-init c = (
   good-two _ _ _ (good_start _ _) c.requires.0 (omega (arith, c.requires.1)) (omega (arith, c.requires.2)),
 )
 
-pub loop-j-preserved-then-plain_in_block : goal.loop-j-preserved-then-plain_in_block
-loop-j-preserved-then-plain_in_block c =
+pub loop-j-preserved-then-plain : goal.loop-j-preserved-then-plain
+loop-j-preserved-then-plain c =
     let v = c.loop-j.invariant in
     let s = c.args.s.now in
     let j = c.loop-j.j in
     let t = c.loop-j-test.true in
     let h : j < length s = omega arith in
-    let q = block-plain (get_or s j 0) (sym c.plain_in_block.ensures ∙ c.if-plain_in_block.true) in
+    let q = block-plain (get_or s j 0) (sym c.plain.ensures ∙ c.if-plain.true) in
     let l = v.1 in
     let d = v.2 in (
       omega arith,
@@ -32,15 +33,15 @@ loop-j-preserved-then-plain_in_block c =
       good-one s _ j v.4 h q.0,
     )
 
-pub returns-then-n-eq0 : goal.returns-then-n-eq0
-returns-then-n-eq0 c =
+pub returns-in_default : goal.returns-in_default
+returns-in_default c =
     let v = c.loop-j.invariant in
     let p = c.requires in
     let s = c.args.s.now in
     let j = c.loop-j.j in
     let t = c.loop-j-test.true in
     let h : j < length s = omega arith in
-    c.broken.ensures ∙ block-broken s _ p.0 p.1 p.2 j _ v.4 h (sym c.if-n-eq0.true ∙ c.sequence-n.ensures.answer) v.3
+    c.broken.ensures ∙ block-broken s _ p.0 p.1 p.2 j _ v.4 h (none-length _ (sym c.in_default.is ∙ c.sequence.ensures.answer)) v.3
 
 pub loop-j-preserved-then-b-gt-LAST_ASCII : goal.loop-j-preserved-then-b-gt-LAST_ASCII
 loop-j-preserved-then-b-gt-LAST_ASCII c =
@@ -52,11 +53,11 @@ loop-j-preserved-then-b-gt-LAST_ASCII c =
     let o = past-neither (get_or s j 0) (get_or s (j + 1) 0) (omega (arith, c.if-b-gt-LAST_ASCII.true)) in
     let l = v.1 in
     let d = v.2 in (
-      sequence-within s j 0 _ c.sequence-n.ensures.answer v.0,
+      sequence-within s j 0 _ (found-length _ _ (sym c.in-Some.is ∙ c.sequence.ensures.answer)) v.0,
       omega arith,
       omega arith,
-      block-next s j _ c.sequence-n.ensures.answer c.if-n-eq0.false _ h o ∙ v.3,
-      good-next _ _ _ _ v.4 c.sequence-n.ensures.answer c.if-n-eq0.false,
+      block-next s j _ (found-length _ _ (sym c.in-Some.is ∙ c.sequence.ensures.answer)) (found-some _ _ (sym c.in-Some.is ∙ c.sequence.ensures.answer)) _ h o ∙ v.3,
+      good-next _ _ _ _ v.4 (found-length _ _ (sym c.in-Some.is ∙ c.sequence.ensures.answer)) (found-some _ _ (sym c.in-Some.is ∙ c.sequence.ensures.answer)),
     )
 
 pub loop-j-preserved-in-Opens : goal.loop-j-preserved-in-Opens

@@ -9,10 +9,10 @@ pub returns-clause-bytes : goal.returns-clause-bytes
 unfolding line_of
 returns-clause-bytes c =
     let next = field-then widths c.args.words.now in
-    next 6 _ _ _ _ (omega arith) c.place.ensures.bytes c.place.ensures.end
-    ∙ next 5 _ _ _ _ (omega arith) c.place-way.ensures.bytes c.place-way.ensures.end
-    ∙ next 4 _ _ _ _ (omega arith) c.half-size.ensures.bytes c.half-size.ensures.end
-    ∙ next 3 _ _ _ _ (omega arith) c.half-high.ensures.bytes c.half-high.ensures.end
-    ∙ next 2 _ _ _ _ (omega arith) c.place-low.ensures.bytes c.place-low.ensures.end
-    ∙ next 1 _ _ _ _ (omega arith) c.place-end.ensures.bytes c.place-end.ensures.end
-    ∙ next 0 _ _ _ _ (omega arith) c.kind-start.ensures.bytes c.kind-start.ensures.end
+    next 6 _ _ _ _ (omega arith) c.field.ensures.bytes c.field.ensures.end
+    ∙ next 5 _ _ _ _ (omega arith) c.field-way.ensures.bytes c.field-way.ensures.end
+    ∙ next 4 _ _ _ _ (omega arith) c.field-size.ensures.bytes c.field-size.ensures.end
+    ∙ next 3 _ _ _ _ (omega arith) c.field-high.ensures.bytes c.field-high.ensures.end
+    ∙ next 2 _ _ _ _ (omega arith) c.field-low.ensures.bytes c.field-low.ensures.end
+    ∙ next 1 _ _ _ _ (omega arith) c.field-end.ensures.bytes c.field-end.ensures.end
+    ∙ next 0 _ _ _ _ (omega arith) c.field-start.ensures.bytes c.field-start.ensures.end

@@ -10,7 +10,7 @@ unfolding spec.verdict
 returns-in_default c = search rules
 
 pub returns-then-ends : goal.returns-then-ends
-returns-then-ends c = verdict-end _ _ c.in-Done.is c.ends.ensures c.if-ends.true c.agreed.ensures
+returns-then-ends c = verdict-end _ _ c.in-Some.is c.ends.ensures c.if-ends.true c.agreed.ensures
 
 pub returns : goal.returns
-returns c = verdict-not _ _ c.in-Done.is c.ends.ensures c.if-ends.false
+returns c = verdict-not _ _ c.in-Some.is c.ends.ensures c.if-ends.false

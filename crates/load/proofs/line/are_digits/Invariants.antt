@@ -1,11 +1,7 @@
 -- The loop ends at the first byte that is no digit.
 -- Assumes nothing.
-use Rattle.std.proofs.Common.{◌-◌}
 use Rattle.load.proofs.LineLaws.{Digits}
 use Rattle.load.proofs.line.are_digits.Given as goal
 
 abbrev pub invariant-loop-i : goal.invariant-loop-i
 invariant-loop-i l = Digits l.text l.at l.n l.i
-
-abbrev pub decreases-loop-i : goal.decreases-loop-i
-decreases-loop-i l = l.n - l.i

@@ -8,4 +8,4 @@ pub loop-i-init : goal.loop-i-init
 loop-i-init c = valued-start _ _ _
 
 pub loop-i-preserved : goal.loop-i-preserved
-loop-i-preserved c = valued-more c.loop-i.invariant (omega (arith, valued-small c.loop-i.invariant c.requires.n_le_half_digits c.loop-i-test.true)) c.digit.ensures c.loop-i-test.true
+loop-i-preserved c = valued-more c.loop-i.invariant (omega (arith, valued-small c.loop-i.invariant c.requires.n_le_half_digits (omega arith))) c.digit.ensures (omega arith)

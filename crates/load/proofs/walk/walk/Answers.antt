@@ -3,23 +3,20 @@
 use Rattle.std.proofs.Common.{sym, ◌∙◌, arith}
 use Rattle.load.proofs.Walking.{walking_start, walking-bad, walking-end}
 use Rattle.load.proofs.Told.{told-so}
-use Rattle.load.proofs.WalkLines.{in-listing, line_at, child-is, child-room, child-small, past-less, past-state, walking_on}
+use Rattle.load.proofs.WalkLines.{in-listing, child-room, child-small, past-less, past-state, walking_on}
 use Rattle.load.proofs.walk.walk.Goals as goal
 
 pub overflow_add-i : goal.overflow_add-i
-overflow_add-i c = omega (arith, in-listing _ _ c.requires.line_form _ _ c.requires.size_in_bounds, c.requires.size_nonzero)
+overflow_add-i c = omega (arith, in-listing _ _ _ _ c.requires.size_in_bounds, c.requires.size_nonzero)
 
 pub loop-seen-init : goal.loop-seen-init
-loop-seen-init c = walking_start _ _ _ _ c.requires.state_lt_state_count c.requires.parent_value c.requires.size_nonzero (omega arith) c.requires.size_in_bounds (omega (arith, in-listing _ _ c.requires.line_form _ _ c.requires.size_in_bounds))
+loop-seen-init c = walking_start _ _ _ _ c.requires.state_lt_state_count c.requires.parent_value c.requires.size_nonzero (omega arith) c.requires.size_in_bounds (omega (arith, in-listing _ _ _ _ c.requires.size_in_bounds))
 
-pub overflow_mul-step : goal.overflow_mul-step
-overflow_mul-step c = omega (arith, line_at _ _ c.requires.line_form c.loop-seen.invariant c.loop-seen-test.true)
-
-pub record_at-child-requires-clause-widths_in_bounds : goal.record_at-child-requires-clause-widths_in_bounds
-record_at-child-requires-clause-widths_in_bounds c = line_at _ _ c.requires.line_form c.loop-seen.invariant c.loop-seen-test.true
+pub record-child-requires : goal.record-child-requires
+record-child-requires c = omega (arith, c.loop-seen.invariant.room)
 
 pub returns-then-not-sits-clause-is : goal.returns-then-not-sits-clause-is
-returns-then-not-sits-clause-is c = walking-bad c.loop-seen.invariant c.loop-seen-test.true _ (child-is _ _ c.requires.line_form c.loop-seen.invariant c.loop-seen-test.true c.record_at-child.ensures) (sym c.sits.ensures ∙ c.if-not-sits.true)
+returns-then-not-sits-clause-is c = walking-bad c.loop-seen.invariant c.loop-seen-test.true _ c.record-child.ensures (sym c.sits.ensures ∙ c.if-not-sits.true)
 
 pub overflow_add-i-in-loop-seen : goal.overflow_add-i-in-loop-seen
 overflow_add-i-in-loop-seen c = omega (arith, child-room c.loop-seen.invariant _ (told-so _ c.if-not-sits.false c.sits.ensures))
@@ -34,7 +31,7 @@ pub loop-seen-smaller : goal.loop-seen-smaller
 loop-seen-smaller c = past-less _ _ _ (told-so _ c.if-not-sits.false c.sits.ensures) c.past-seen.ensures
 
 pub loop-seen-preserved : goal.loop-seen-preserved
-loop-seen-preserved c = walking_on _ _ c.requires.line_form c.loop-seen.invariant c.loop-seen-test.true _ (child-is _ _ c.requires.line_form c.loop-seen.invariant c.loop-seen-test.true c.record_at-child.ensures) (told-so _ c.if-not-sits.false c.sits.ensures) c.past-seen.ensures (past-state _ _ c.loop-seen.invariant.small.state c.past-seen.ensures)
+loop-seen-preserved c = walking_on c.loop-seen.invariant c.loop-seen-test.true _ c.record-child.ensures (told-so _ c.if-not-sits.false c.sits.ensures) c.past-seen.ensures (past-state _ _ c.loop-seen.invariant.small.state c.past-seen.ensures)
 
 pub returns-clause-is : goal.returns-clause-is
 returns-clause-is c = walking-end c.loop-seen.invariant c.loop-seen-test.false

@@ -1,12 +1,8 @@
 -- Each line in turn: those before it give their ways up rightly.
 -- Assumes nothing.
-use Rattle.std.proofs.Common.{◌-◌}
 use Rattle.lines.specs.Lines.{widths}
 use Rattle.load.proofs.WaysLaws.{Agreeing}
 use Rattle.load.proofs.ways.right.Given as goal
 
 abbrev pub invariant-loop-i : goal.invariant-loop-i
 invariant-loop-i l = Agreeing widths l.text l.n l.p l.i
-
-abbrev pub decreases-loop-i : goal.decreases-loop-i
-decreases-loop-i l = l.n - l.i

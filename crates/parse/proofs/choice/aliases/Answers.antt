@@ -1,12 +1,14 @@
 -- The table's rule, computed over all classes, and past them.
 -- Assumes nothing.
+use Rattle.std.proofs.Common.{◌∙◌}
+use Rattle.theory.specs.Machine.{choose}
+use Rattle.grammar.specs.Shapes.Tables.{table}
+use Rattle.grammar.specs.Shapes.TablesIndex.{n-alias_name}
+use Rattle.parse.specs.Choice as choice
 use Rattle.parse.proofs.choice.Tables.{alias_choices}
-use Rattle.parse.proofs.choice.Checks.{alias-at, alias-past}
+use Rattle.parse.proofs.choice.Checks.{entry-is, alias-at, alias-named, no-alias}
 use Rattle.parse.proofs.choice.aliases.Goals as goal
 
-pub returns-then-class-lt-TYPE_NAMES : goal.returns-then-class-lt-TYPE_NAMES
-unfolding alias_choices
-returns-then-class-lt-TYPE_NAMES c = alias-at _ c.if-class-lt-TYPE_NAMES.true
-
 pub returns : goal.returns
-returns c = alias-past _ c.if-class-lt-TYPE_NAMES.false
+unfolding alias_choices
+returns c = c.entry.ensures ∙ entry-is (choose table n-alias_name) alias_choices choice.Absent alias-at alias-named no-alias c.args.class

@@ -1,15 +1,12 @@
 -- The table's rule, computed over all classes, and past them.
 -- Assumes nothing.
+use Rattle.std.proofs.Common.{◌∙◌}
+use Rattle.parse.specs.Choice as choice
+use Rattle.parse.specs.Contract.{name_sort}
 use Rattle.parse.proofs.choice.Tables.{name_choices}
-use Rattle.parse.proofs.choice.Checks.{name-at, name-named, name-past}
+use Rattle.parse.proofs.choice.Checks.{entry-is, name-at, name-named, name-past}
 use Rattle.parse.proofs.choice.names.Goals as goal
 
-pub returns-then-class-lt-TYPE_NAMES : goal.returns-then-class-lt-TYPE_NAMES
-unfolding name_choices
-returns-then-class-lt-TYPE_NAMES c = name-at _ c.if-class-lt-TYPE_NAMES.true
-
-pub returns-then-class-lt-CLASSES : goal.returns-then-class-lt-CLASSES
-returns-then-class-lt-CLASSES c = name-named _ c.if-class-lt-TYPE_NAMES.false c.if-class-lt-CLASSES.true
-
 pub returns : goal.returns
-returns c = name-past _ c.if-class-lt-CLASSES.false
+unfolding name_choices
+returns c = c.entry.ensures ∙ entry-is name_sort name_choices choice.FunctionName name-at name-named name-past c.args.class

@@ -1,15 +1,14 @@
+-- Records that the buffer has no room for.
 -- Assumes nothing.
-use Rattle.parse.proofs.entry.Ends as ends
+use Rattle.std.proofs.Common.{◌*◌, ◌≤◌, refl, subst, le-ltb, lt-ltb}
+use Rattle.text.specs.Widths.{rec_wide}
+use Rattle.parse.specs.Contract.{count_of}
+use Rattle.parse.specs.Entry.{ended}
 use Rattle.parse.proofs.entry.end.Goals as goal
 
-pub returns-then-z-count : goal.returns-then-z-count
-returns-then-z-count c = ends.end-left c.args.draft.now c.args.tokens.now c.args.count c.args.room c.args.z c.if-z-count.true c.place.ensures
-
-pub returns-then-z-ne0 : goal.returns-then-z-ne0
-returns-then-z-ne0 c = ends.end-fault c.args.draft.now c.args.tokens.now c.args.count c.args.room c.args.z c.if-z-count.false c.if-z-ne0.true
-
 pub returns-then-room-records : goal.returns-then-room-records
-returns-then-room-records c = ends.end-small c.args.draft.now c.args.tokens.now c.args.count c.args.room c.args.z c.if-z-count.false c.if-z-ne0.false c.if-room-records.true
-
-pub returns : goal.returns
-returns c = ends.end-all c.args.draft.now c.args.tokens.now c.args.count c.args.room c.args.z c.if-z-count.false c.if-z-ne0.false c.if-room-records.false
+unfolding ended
+returns-then-room-records c =
+    let a = c.args in
+    let read : count_of a.source.now ≤ a.z.at = subst (λ n. n ≤ a.z.at) c.count.ensures c.if-z-count.false in
+    rw (le-ltb a.z.at (count_of a.source.now) read, c.in_default.is, lt-ltb a.room (rec_wide * a.z.out) c.if-room-records.true) refl

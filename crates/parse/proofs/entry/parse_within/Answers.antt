@@ -1,25 +1,26 @@
 -- Every refusal clears the buffer, and so does what is accepted, behind the records.
 -- Assumes nothing.
-use Rattle.std.proofs.Common.{arith, replicate, sym, ap, ◌∙◌}
-use Rattle.parse.specs.Entry.{entry_of}
+use Rattle.std.proofs.Common.{◌≡◌, arith, rules, length, replicate, sym, ap, ◌∙◌}
+use Rattle.parse.specs.Entry.{entry_of, meant}
 use Rattle.parse.proofs.entry.Cleared as law
 use Rattle.parse.proofs.entry.parse_within.Goals as goal
 
 pub returns-in_default-clause-tree_after : goal.returns-in_default-clause-tree_after
 returns-in_default-clause-tree_after c =
     let a = c.parse_front_within-answer in
-    c.clear.ensures ∙ ap (λ m. replicate m 0) a.auto.tree ∙ law.refused-tree (entry_of c.args.file) c.args.most c.args.draft.now c.args.tokens.now c.args.tree.now c.args.count a.ensures.value c.in_default.is
+    let zeros : c.fill.new.self ≡ replicate (length a.new.tree) 0 = search rules in
+    zeros ∙ ap (λ m. replicate m 0) a.auto.tree ∙ law.refused-tree (entry_of c.args.what) c.args.most c.args.draft.now c.args.tokens.now c.args.tree.now c.args.count a.ensures.answer c.in_default.is
 
-pub returns-clause-value : goal.returns-clause-value
-returns-clause-value c = sym c.in-Records.is ∙ c.parse_front_within-answer.ensures.value
+pub returns-clause-answer : goal.returns-clause-answer
+returns-clause-answer c = ap (meant c.args.count) (sym c.in-Ok.is) ∙ c.parse_front_within-answer.ensures.answer
 
 pub returns-clause-tree_after : goal.returns-clause-tree_after
 returns-clause-tree_after c =
     let a = c.parse_front_within-answer in
-    c.clear_from.ensures ∙ law.cleared-tree (entry_of c.args.file) c.args.most c.args.draft.now c.args.tokens.now c.args.tree.now c.args.count a.ensures.value c.in-Records.is a.new.tree a.ensures.held
+    c.clear_from.ensures ∙ law.cleared-tree (entry_of c.args.what) c.args.most c.args.draft.now c.args.tokens.now c.args.tree.now c.args.count a.ensures.answer c.in-Ok.is a.new.tree a.ensures.held
 
 pub overflow_mul-used : goal.overflow_mul-used
 overflow_mul-used c =
     let a = c.parse_front_within-answer in
-    let h = law.records-fit (entry_of c.args.file) c.args.most c.args.draft.now c.args.tokens.now c.args.tree.now c.args.count a.ensures.value c.in-Records.is in
+    let h = law.records-fit (entry_of c.args.what) c.args.most c.args.draft.now c.args.tokens.now c.args.tree.now c.args.count a.ensures.answer c.in-Ok.is in
     omega (arith, h, a.auto.tree)

@@ -4,4 +4,4 @@ use Rattle.parse.proofs.entry.Ends as ends
 use Rattle.parse.proofs.entry.start.Goals as goal
 
 pub returns : goal.returns
-returns c = ends.starts-at (text c.args.draft.now c.args.tokens.now c.args.count) c.token-t.ensures
+returns c = ends.starts-at (text c.args.source.now) c.token-t.ensures

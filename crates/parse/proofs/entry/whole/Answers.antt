@@ -4,10 +4,10 @@ use Rattle.parse.proofs.entry.Ends as ends
 use Rattle.parse.proofs.entry.whole.Goals as goal
 
 pub file-requires-clause-draft_len_bound : goal.file-requires-clause-draft_len_bound
-file-requires-clause-draft_len_bound c = ends.short-file (length c.args.draft.now) c.if-file.true c.requires.draft_value
+file-requires-clause-draft_len_bound c = ends.short-file (length c.args.source.now.draft.now) c.in-File.is c.requires.draft_value
 
-pub returns-then-file : goal.returns-then-file
-returns-then-file c = ends.at-file c.if-file.true c.file.ensures
+pub returns-in-File : goal.returns-in-File
+returns-in-File c = ends.at-file c.in-File.is c.file.ensures
 
-pub returns : goal.returns
-returns c = ends.at-function c.if-file.false c.function.ensures
+pub returns-in-Function : goal.returns-in-Function
+returns-in-Function c = ends.at-function c.in-Function.is c.function.ensures

@@ -10,8 +10,10 @@ use Rattle.grammar.specs.Records.Records.{lone}
 use Rattle.grammar.specs.Shapes.Tables.{table}
 use Rattle.grammar.specs.Shapes.TablesIndex.{n-arguments, n-arm-choice, n-arm-choice-optional-Comma, n-bare-optional-DoubleColon, n-block, n-function_name, n-list-expression, n-named-optional, n-single, n-type}
 use Rattle.grammar.specs.Shapes.ShapeKind.{ArrayShape, AssignmentShape, BareShape, BlockShape, CastCallShape, FoldingShape, ForWhileShape, ListShape, NamedShape, ParensShape, SimpleCallShape, TypedShape}
+use Rattle.own.specs.Numbers.{kind_number}
 use Rattle.parse.specs.Contract.{text, classes, tok_at, reserved, read, stuck, ExprKind}
 use Rattle.parse.specs.Infos as info
+use Rattle.parse.proofs.names.Steps.{ready-near}
 use Rattle.parse.proofs.Rule.Amid.{starts, then_turns, then-passed}
 use Rattle.parse.proofs.Rule.Closing.{opens, opens-clean, as-nonterminal, enters}
 use Rattle.parse.proofs.Rule.Chain.{further, onward-ahead, advances, then-eats, then-lacks, then-node}
@@ -19,7 +21,6 @@ use Rattle.parse.proofs.Rule.Marks.{sign-mark, keeping-mark, word-mark}
 use Rattle.parse.proofs.Rule.Commas.{AnyN}
 use Rattle.parse.proofs.Rule.Commas as lined
 use Rattle.parse.proofs.Rule.Heads.{shut, shut-judged, value-text}
-use Rattle.parse.proofs.token.Tokens.{length-text}
 use Rattle.parse.proofs.names.Chain as chain2
 use Rattle.parse.proofs.pattern.Forms as pattern
 use Rattle.parse.proofs.expr.Elements as elem
@@ -64,8 +65,7 @@ arm-body-rest-requires t c =
     let d1 = armed.then-head d0 c.head-head.ensures c.in-Next.is in
     let d2 = then-eats d1.amid (omega arith) c.eat-arrow.ensures c.in-Next-arrow.is (sign-mark (info.arm_kind n) class.FatArrow tt) in
     let f2 = further y o d2 (omega arith) in
-    let q = length-text c.args.draft.now c.args.tokens.now c.args.count in
-    (omega (arith, f2.ahead, f2.within, q, c.decreases), f2.ready)
+    (omega (arith, f2.ahead, f2.within, c.decreases), f2.ready)
 
 pub arm-returns-in_default-rest : goal.arm-returns-in_default-rest
 arm-returns-in_default-rest t c =
@@ -88,7 +88,7 @@ arm-returns t c =
     let d1 = armed.then-head d0 c.head-head.ensures c.in-Next.is in
     let d2 = then-eats d1.amid (omega arith) c.eat-arrow.ensures c.in-Next-arrow.is (sign-mark (info.arm_kind n) class.FatArrow tt) in
     let d3 = armed.then-body d2 c.body-rest.ensures c.in-Next-rest.is in
-    as-nonterminal armed.arm_is y b (read (armed.arm-shut n c.in-Next.other d1.W d3.W y o (armed.shifted d1.W d3.W d3.amid) (omega arith) d1.so d3.so (armed.head-low c.head-head.ensures c.in-Next.is) c.head-h.ensures c.close.ensures))
+    rw c.from.ensures (as-nonterminal armed.arm_is y b (read (armed.arm-shut n c.in-Next.other d1.W d3.W y o (armed.shifted d1.W d3.W d3.amid) (omega arith) d1.so d3.so (armed.head-low c.head-head.ensures c.in-Next.is) c.head-h.ensures c.close.ensures)))
 
 pub arms-loop-here-init : goal.arms-loop-here-init
 arms-loop-here-init t c =
@@ -105,9 +105,8 @@ pub arms-loop-here-smaller : goal.arms-loop-here-smaller
 arms-loop-here-smaller t c =
     let y = c.requires.ready in
     let v = c.loop-here.invariant in
-    let q = length-text c.args.draft.now c.args.tokens.now c.args.count in
     let n = arm-loop.arms-again y v c.loop-here-test.true c.arm-inner.ensures c.in-Next.is c.after-order.ensures c.first_end-mid.ensures in
-    omega (arith, arm-loop.arm-ahead c.arm-inner.ensures c.in-Next.is, q, n.amid.lays.stands.within)
+    omega (arith, arm-loop.arm-ahead c.arm-inner.ensures c.in-Next.is, n.amid.lays.stands.within)
 
 pub arms-loop-here-preserved : goal.arms-loop-here-preserved
 arms-loop-here-preserved t c =
@@ -130,8 +129,7 @@ array-exprs-inner-requires t c =
     let k = o.class_is ∙ form.at-array c.args.st.class e in
     let d1 = advances d0 k (omega arith) c.advance-a.ensures (sign-mark kind.Array class.LBracket tt) in
     let f1 = further y o d1 (omega arith) in
-    let q = length-text c.args.draft.now c.args.tokens.now c.args.count in
-    (omega (arith, f1.ahead, f1.within, q, c.decreases), f1.ready)
+    (omega (arith, f1.ahead, f1.within, c.decreases), f1.ready)
 
 pub array-returns-in_default : goal.array-returns-in_default
 array-returns-in_default t c =
@@ -242,8 +240,7 @@ assign-expr-right-requires t c =
     let d4 = then-node d3 c.ty-middle.ensures c.in-Next-middle.is in
     let d5 = then-eats d4.amid (omega arith) c.eat-equal.ensures c.in-Next-equal.is (sign-mark kind.Let class.Eq tt) in
     let f5 = further y o d5 (omega arith) in
-    let q = length-text c.args.draft.now c.args.tokens.now c.args.count in
-    (omega (arith, f5.ahead, f5.within, q, c.decreases), f5.ready)
+    (omega (arith, f5.ahead, f5.within, c.decreases), f5.ready)
 
 pub assign-returns-in_default-right : goal.assign-returns-in_default-right
 assign-returns-in_default-right t c =
@@ -280,8 +277,7 @@ block-elems-inner-requires t c =
     let d0 = starts kind.Block AnyN form.block_rhs c.args.tree.now o.stands in
     let d1 = advances d0 (o.class_is ∙ c.requires.class_value) (omega arith) c.advance-a.ensures (sign-mark kind.Block class.LBrace tt) in
     let f1 = further y o d1 (omega arith) in
-    let q = length-text c.args.draft.now c.args.tokens.now c.args.count in
-    (omega (arith, f1.ahead, f1.within, q, c.decreases), f1.ready)
+    (omega (arith, f1.ahead, f1.within, c.decreases), f1.ready)
 
 pub block-returns-in_default : goal.block-returns-in_default
 block-returns-in_default t c =
@@ -364,23 +360,22 @@ body-returns t c =
 
 pub c::arguments-returns-in_default : goal.c::arguments-returns-in_default
 c::arguments-returns-in_default t c =
-    let x = text c.args.draft.now c.args.tokens.now c.args.count in
+    let x = text c.args.source.now in
     let y = c.requires in
     let d0 = then_turns (tok class.LParen ∷ nt n-list-expression ∷ tok class.RParen ∷ []) (starts 0 AnyN (nt n-arguments ∷ []) c.args.tree.now y.stands) armed.flat-args (armed.args-rule (get_or (classes x) c.args.st.at 0)) in
     then-lacks d0 (refusal c.in_default.is) (λ τ p h. h) c.eat-open.ensures
 
 pub c::arguments-exprs-inner-requires : goal.c::arguments-exprs-inner-requires
 c::arguments-exprs-inner-requires t c =
-    let x = text c.args.draft.now c.args.tokens.now c.args.count in
+    let x = text c.args.source.now in
     let y = c.requires in
     let d0 = then_turns (tok class.LParen ∷ nt n-list-expression ∷ tok class.RParen ∷ []) (starts 0 AnyN (nt n-arguments ∷ []) c.args.tree.now y.stands) armed.flat-args (armed.args-rule (get_or (classes x) c.args.st.at 0)) in
     let d1 = then-eats d0 (omega arith) c.eat-open.ensures c.in-Next.is (sign-mark 0 class.LParen tt) in
-    let q = length-text c.args.draft.now c.args.tokens.now c.args.count in
-    (omega (arith, onward-ahead d1 (omega arith), d1.lays.stands.within, q, c.decreases), armed.near-onward y d1 (omega arith))
+    (omega (arith, onward-ahead d1 (omega arith), d1.lays.stands.within, c.decreases), armed.near-onward y d1 (omega arith))
 
 pub c::arguments-returns-in_default-inner : goal.c::arguments-returns-in_default-inner
 c::arguments-returns-in_default-inner t c =
-    let x = text c.args.draft.now c.args.tokens.now c.args.count in
+    let x = text c.args.source.now in
     let y = c.requires in
     let d0 = then_turns (tok class.LParen ∷ nt n-list-expression ∷ tok class.RParen ∷ []) (starts 0 AnyN (nt n-arguments ∷ []) c.args.tree.now y.stands) armed.flat-args (armed.args-rule (get_or (classes x) c.args.st.at 0)) in
     let d1 = then-eats d0 (omega arith) c.eat-open.ensures c.in-Next.is (sign-mark 0 class.LParen tt) in
@@ -388,7 +383,7 @@ c::arguments-returns-in_default-inner t c =
 
 pub c::arguments-returns-in_default-paren : goal.c::arguments-returns-in_default-paren
 c::arguments-returns-in_default-paren t c =
-    let x = text c.args.draft.now c.args.tokens.now c.args.count in
+    let x = text c.args.source.now in
     let y = c.requires in
     let d0 = then_turns (tok class.LParen ∷ nt n-list-expression ∷ tok class.RParen ∷ []) (starts 0 AnyN (nt n-arguments ∷ []) c.args.tree.now y.stands) armed.flat-args (armed.args-rule (get_or (classes x) c.args.st.at 0)) in
     let d1 = then-eats d0 (omega arith) c.eat-open.ensures c.in-Next.is (sign-mark 0 class.LParen tt) in
@@ -397,7 +392,7 @@ c::arguments-returns-in_default-paren t c =
 
 pub c::arguments-returns : goal.c::arguments-returns
 c::arguments-returns t c =
-    let x = text c.args.draft.now c.args.tokens.now c.args.count in
+    let x = text c.args.source.now in
     let y = c.requires in
     let d0 = then_turns (tok class.LParen ∷ nt n-list-expression ∷ tok class.RParen ∷ []) (starts 0 AnyN (nt n-arguments ∷ []) c.args.tree.now y.stands) armed.flat-args (armed.args-rule (get_or (classes x) c.args.st.at 0)) in
     let d1 = then-eats d0 (omega arith) c.eat-open.ensures c.in-Next.is (sign-mark 0 class.LParen tt) in
@@ -412,13 +407,13 @@ c::bare-returns-then-a-ne-DOUBLE_COLON t c =
     let o = opens y c.reserve.ensures in
     let n = call.bare-name c.args.st.class e in
     let z = call.for-bare c.args.st.class e in
-    let ks = call.alone-kinds c.args.st.class c.alone.result c.alone.ensures in
-    let a1 = law.first-mark y o z c.alone.result AnyN (nt n-bare-optional-DoubleColon ∷ []) c.args.tree.now c.advance-a.ensures (keeping-mark c.alone.result c.args.st.class (call.alone-keeps ks)) in
+    let ks = call.alone-kinds c.args.st.class (kind_number c.alone.result) c.alone.ensures in
+    let a1 = law.first-mark y o z (kind_number c.alone.result) AnyN (nt n-bare-optional-DoubleColon ∷ []) c.args.tree.now c.advance-a.ensures (keeping-mark (kind_number c.alone.result) c.args.st.class (call.alone-keeps ks)) in
     let a2 = then_turns [] a1 call.flat-bare (call.bare-alone (λ h. c.if-a-ne-DOUBLE_COLON.true (a1.lays.stands.class_is ∙ h))) in
     as-nonterminal call.bare-rule y e (read (shut BareShape tt y o a2 (omega arith) (call.form-bare a2 ∙ call.alone-is c.args.st.class n ∙ sym c.alone.ensures) (call.alone-unturned ks) ExprKind (call.alone-kind ks) c.close.ensures))
 
-pub c::bound-function_name-inner-requires : goal.c::bound-function_name-inner-requires
-c::bound-function_name-inner-requires t c =
+pub c::bound-name-inner-requires : goal.c::bound-name-inner-requires
+c::bound-name-inner-requires t c =
     let y = c.requires.ready in
     let e = c.requires.class_value in
     let o = opens-clean y refl refl in
@@ -426,7 +421,7 @@ c::bound-function_name-inner-requires t c =
     let h = rule.apart-class c.args.b c.clean.ensures c.requires.class_value_2 in
     let a1 = law.angled y o (call.for-folding c.args.st.class e) AnyN (nt n-function_name ∷ tok class.Comma ∷ tok class.DecLiteral ∷ tok class.RAngle ∷ nt n-arguments ∷ []) c.args.tree.now call.flat-folding (λ i h. call.folding-colons h) call.flat-bounded (λ i h. call.folding-angle h) (call.folding-mark c.args.st.class e) g h c.advance-d.ensures in
     let f1 = further y o a1 (omega arith) in
-    f1.ready
+    ready-near f1.ready
 
 pub c::bound-returns-in_default : goal.c::bound-returns-in_default
 c::bound-returns-in_default t c =
@@ -436,7 +431,7 @@ c::bound-returns-in_default t c =
     let g = rule.begun-apart c.args.st c.args.b c.requires.begun c.clean.ensures in
     let h = rule.apart-class c.args.b c.clean.ensures c.requires.class_value_2 in
     let a1 = law.angled y o (call.for-folding c.args.st.class e) AnyN (nt n-function_name ∷ tok class.Comma ∷ tok class.DecLiteral ∷ tok class.RAngle ∷ nt n-arguments ∷ []) c.args.tree.now call.flat-folding (λ i h. call.folding-colons h) call.flat-bounded (λ i h. call.folding-angle h) (call.folding-mark c.args.st.class e) g h c.advance-d.ensures in
-    then-passed a1 (refusal c.in_default.is) (enters call.folding-rule y e o) c.function_name-inner.ensures
+    then-passed a1 (refusal c.in_default.is) (enters call.folding-rule y e o) c.name-inner.ensures
 
 pub c::bound-returns-in_default-comma : goal.c::bound-returns-in_default-comma
 c::bound-returns-in_default-comma t c =
@@ -446,12 +441,12 @@ c::bound-returns-in_default-comma t c =
     let g = rule.begun-apart c.args.st c.args.b c.requires.begun c.clean.ensures in
     let h = rule.apart-class c.args.b c.clean.ensures c.requires.class_value_2 in
     let a1 = law.angled y o (call.for-folding c.args.st.class e) AnyN (nt n-function_name ∷ tok class.Comma ∷ tok class.DecLiteral ∷ tok class.RAngle ∷ nt n-arguments ∷ []) c.args.tree.now call.flat-folding (λ i h. call.folding-colons h) call.flat-bounded (λ i h. call.folding-angle h) (call.folding-mark c.args.st.class e) g h c.advance-d.ensures in
-    let a2 = law.then-function-name a1 c.function_name-inner.ensures c.in-Next.is in
+    let a2 = law.then-function-name a1 c.name-inner.ensures c.in-Next.is in
     then-lacks a2 (refusal c.in_default-comma.is) (enters call.folding-rule y e o) c.eat-comma.ensures
 
 pub c::bound-decimal-size-requires : goal.c::bound-decimal-size-requires
 c::bound-decimal-size-requires t c =
-    let x = text c.args.draft.now c.args.tokens.now c.args.count in
+    let x = text c.args.source.now in
     let y = c.requires.ready in
     let e = c.requires.class_value in
     let o = opens-clean y refl refl in
@@ -459,14 +454,14 @@ c::bound-decimal-size-requires t c =
     let h = rule.apart-class c.args.b c.clean.ensures c.requires.class_value_2 in
     let N = law.Valued x c.in-Next-comma.g.at in
     let d1 = law.angled y o (call.for-folding c.args.st.class e) N (nt n-function_name ∷ tok class.Comma ∷ tok class.DecLiteral ∷ tok class.RAngle ∷ nt n-arguments ∷ []) c.args.tree.now call.flat-folding (λ i h. call.folding-colons h) call.flat-bounded (λ i h. call.folding-angle h) (call.folding-mark c.args.st.class e) g h c.advance-d.ensures in
-    let d2 = law.then-function-name d1 c.function_name-inner.ensures c.in-Next.is in
+    let d2 = law.then-function-name d1 c.name-inner.ensures c.in-Next.is in
     let d3 = then-eats d2 (omega arith) c.eat-comma.ensures c.in-Next-comma.is (sign-mark kind.Call class.Comma tt) in
     let f3 = further y o d3 (omega arith) in
     f3.ready
 
 pub c::bound-returns-in_default-size : goal.c::bound-returns-in_default-size
 c::bound-returns-in_default-size t c =
-    let x = text c.args.draft.now c.args.tokens.now c.args.count in
+    let x = text c.args.source.now in
     let y = c.requires.ready in
     let e = c.requires.class_value in
     let o = opens-clean y refl refl in
@@ -474,13 +469,13 @@ c::bound-returns-in_default-size t c =
     let h = rule.apart-class c.args.b c.clean.ensures c.requires.class_value_2 in
     let N = law.Valued x c.in-Next-comma.g.at in
     let d1 = law.angled y o (call.for-folding c.args.st.class e) N (nt n-function_name ∷ tok class.Comma ∷ tok class.DecLiteral ∷ tok class.RAngle ∷ nt n-arguments ∷ []) c.args.tree.now call.flat-folding (λ i h. call.folding-colons h) call.flat-bounded (λ i h. call.folding-angle h) (call.folding-mark c.args.st.class e) g h c.advance-d.ensures in
-    let d2 = law.then-function-name d1 c.function_name-inner.ensures c.in-Next.is in
+    let d2 = law.then-function-name d1 c.name-inner.ensures c.in-Next.is in
     let d3 = then-eats d2 (omega arith) c.eat-comma.ensures c.in-Next-comma.is (sign-mark kind.Call class.Comma tt) in
     then-passed d3 (refusal c.in_default-size.is) (enters call.folding-rule y e o) c.decimal-size.ensures
 
 pub c::bound-returns-in_default-angle : goal.c::bound-returns-in_default-angle
 c::bound-returns-in_default-angle t c =
-    let x = text c.args.draft.now c.args.tokens.now c.args.count in
+    let x = text c.args.source.now in
     let y = c.requires.ready in
     let e = c.requires.class_value in
     let o = opens-clean y refl refl in
@@ -488,32 +483,31 @@ c::bound-returns-in_default-angle t c =
     let h = rule.apart-class c.args.b c.clean.ensures c.requires.class_value_2 in
     let N = law.Valued x c.in-Next-comma.g.at in
     let d1 = law.angled y o (call.for-folding c.args.st.class e) N (nt n-function_name ∷ tok class.Comma ∷ tok class.DecLiteral ∷ tok class.RAngle ∷ nt n-arguments ∷ []) c.args.tree.now call.flat-folding (λ i h. call.folding-colons h) call.flat-bounded (λ i h. call.folding-angle h) (call.folding-mark c.args.st.class e) g h c.advance-d.ensures in
-    let d2 = law.then-function-name d1 c.function_name-inner.ensures c.in-Next.is in
+    let d2 = law.then-function-name d1 c.name-inner.ensures c.in-Next.is in
     let d3 = then-eats d2 (omega arith) c.eat-comma.ensures c.in-Next-comma.is (sign-mark kind.Call class.Comma tt) in
     let d4 = law.then-bound d3 c.decimal-size.ensures c.in-Next-size.is in
     then-lacks d4 (refusal c.in_default-angle.is) (enters call.folding-rule y e o) c.eat-angle.ensures
 
 pub c::bound-args-rest-requires : goal.c::bound-args-rest-requires
 c::bound-args-rest-requires t c =
-    let x = text c.args.draft.now c.args.tokens.now c.args.count in
+    let x = text c.args.source.now in
     let y = c.requires.ready in
     let e = c.requires.class_value in
     let o = opens-clean y refl refl in
     let g = rule.begun-apart c.args.st c.args.b c.requires.begun c.clean.ensures in
     let h = rule.apart-class c.args.b c.clean.ensures c.requires.class_value_2 in
-    let q = length-text c.args.draft.now c.args.tokens.now c.args.count in
     let N = law.Valued x c.in-Next-comma.g.at in
     let d1 = law.angled y o (call.for-folding c.args.st.class e) N (nt n-function_name ∷ tok class.Comma ∷ tok class.DecLiteral ∷ tok class.RAngle ∷ nt n-arguments ∷ []) c.args.tree.now call.flat-folding (λ i h. call.folding-colons h) call.flat-bounded (λ i h. call.folding-angle h) (call.folding-mark c.args.st.class e) g h c.advance-d.ensures in
-    let d2 = law.then-function-name d1 c.function_name-inner.ensures c.in-Next.is in
+    let d2 = law.then-function-name d1 c.name-inner.ensures c.in-Next.is in
     let d3 = then-eats d2 (omega arith) c.eat-comma.ensures c.in-Next-comma.is (sign-mark kind.Call class.Comma tt) in
     let d4 = law.then-bound d3 c.decimal-size.ensures c.in-Next-size.is in
     let d5 = then-eats d4 (omega arith) c.eat-angle.ensures c.in-Next-angle.is (sign-mark kind.Call class.RAngle tt) in
     let f5 = further y o d5 (omega arith) in
-    (omega (arith, f5.ahead, f5.within, q, c.decreases), law.near f5.ready)
+    (omega (arith, f5.ahead, f5.within, c.decreases), law.near f5.ready)
 
 pub c::bound-returns-in_default-rest : goal.c::bound-returns-in_default-rest
 c::bound-returns-in_default-rest t c =
-    let x = text c.args.draft.now c.args.tokens.now c.args.count in
+    let x = text c.args.source.now in
     let y = c.requires.ready in
     let e = c.requires.class_value in
     let o = opens-clean y refl refl in
@@ -521,7 +515,7 @@ c::bound-returns-in_default-rest t c =
     let h = rule.apart-class c.args.b c.clean.ensures c.requires.class_value_2 in
     let N = law.Valued x c.in-Next-comma.g.at in
     let d1 = law.angled y o (call.for-folding c.args.st.class e) N (nt n-function_name ∷ tok class.Comma ∷ tok class.DecLiteral ∷ tok class.RAngle ∷ nt n-arguments ∷ []) c.args.tree.now call.flat-folding (λ i h. call.folding-colons h) call.flat-bounded (λ i h. call.folding-angle h) (call.folding-mark c.args.st.class e) g h c.advance-d.ensures in
-    let d2 = law.then-function-name d1 c.function_name-inner.ensures c.in-Next.is in
+    let d2 = law.then-function-name d1 c.name-inner.ensures c.in-Next.is in
     let d3 = then-eats d2 (omega arith) c.eat-comma.ensures c.in-Next-comma.is (sign-mark kind.Call class.Comma tt) in
     let d4 = law.then-bound d3 c.decimal-size.ensures c.in-Next-size.is in
     let d5 = then-eats d4 (omega arith) c.eat-angle.ensures c.in-Next-angle.is (sign-mark kind.Call class.RAngle tt) in
@@ -529,7 +523,7 @@ c::bound-returns-in_default-rest t c =
 
 pub c::bound-returns : goal.c::bound-returns
 c::bound-returns t c =
-    let x = text c.args.draft.now c.args.tokens.now c.args.count in
+    let x = text c.args.source.now in
     let y = c.requires.ready in
     let e = c.requires.class_value in
     let o = opens-clean y refl refl in
@@ -538,14 +532,14 @@ c::bound-returns t c =
     let p = call.folding-apart c.args.st.class e in
     let N = law.Valued x c.in-Next-comma.g.at in
     let d1 = law.angled y o (call.for-folding c.args.st.class e) N (nt n-function_name ∷ tok class.Comma ∷ tok class.DecLiteral ∷ tok class.RAngle ∷ nt n-arguments ∷ []) c.args.tree.now call.flat-folding (λ i h. call.folding-colons h) call.flat-bounded (λ i h. call.folding-angle h) (call.folding-mark c.args.st.class e) g h c.advance-d.ensures in
-    let d2 = law.then-function-name d1 c.function_name-inner.ensures c.in-Next.is in
+    let d2 = law.then-function-name d1 c.name-inner.ensures c.in-Next.is in
     let d3 = then-eats d2 (omega arith) c.eat-comma.ensures c.in-Next-comma.is (sign-mark kind.Call class.Comma tt) in
     let d4 = law.then-bound d3 c.decimal-size.ensures c.in-Next-size.is in
     let d5 = then-eats d4 (omega arith) c.eat-angle.ensures c.in-Next-angle.is (sign-mark kind.Call class.RAngle tt) in
     let d6 = law.then-args d5 c.args-rest.ensures c.in-Next-rest.is in
-    let nd = law.name-no-decimal c.function_name-inner.ensures c.in-Next.is in
-    let vt = value-text c.args.draft.now c.args.tokens.now c.args.count d3.lays.stands c.number-n.ensures in
-    as-nonterminal call.folding-rule y e (read (shut-judged FoldingShape y o d6.amid (omega (arith, d6.one)) (call.call-low c.args.st.class (call.folding-head d6.amid) c.call.ensures)
+    let nd = law.name-no-decimal c.name-inner.ensures c.in-Next.is in
+    let vt = value-text c.args.source.now d3.lays.stands c.number-n.ensures in
+    as-nonterminal call.folding-rule y e (read (shut-judged FoldingShape y o d6.amid (omega (arith, d6.one)) (call.call-low c.args.st.class (call.folding-head d6.amid) (c.from.ensures ∙ c.call.ensures))
     (law.fold-number d6.amid p.decimal nd) tt ExprKind call.call-kind c.close.ensures
     (law.judged-at c.judged-z.ensures c.size_fault.ensures d3.lays.stands.start_is)
     (λ is u v. call.fold-fault x.draft is c.args.st.class c.number-n.result (tok_at x c.in-Next-comma.g.at) u (law.fold-first d6.amid p.decimal nd is u v) vt)))
@@ -554,10 +548,9 @@ pub c::built-path-rest-requires : goal.c::built-path-rest-requires
 c::built-path-rest-requires t c =
     let y = c.requires.ready in
     let o = opens y refl in
-    let q = length-text c.args.draft.now c.args.tokens.now c.args.count in
     let z = rule.enum-begins y o c.requires.begun c.child-d.ensures.put c.child-d.ensures.value c.requires.leads in
     let f1 = further y o z.amid (omega arith) in
-    (omega (arith, f1.ahead, f1.within, q, c.decreases), f1.ready)
+    (omega (arith, f1.ahead, f1.within, c.decreases), f1.ready)
 
 pub c::built-returns-in_default : goal.c::built-returns-in_default
 c::built-returns-in_default t c =
@@ -580,7 +573,7 @@ c::called-wrap-requires t c =
     let e = c.requires.class_value in
     let mv = c.requires.moved in
     let k = c.requires.class_value_2 in
-    (omega (arith, c.decreases), (y, (e, (call.is-wrapper c.args.st.class c.wrapper.ensures c.if-wrapper-ne0.true, (mv, k)))))
+    (omega (arith, c.decreases), (y, (e, (c.in-Some.ensures, (mv, k)))))
 
 pub c::called-arguments-inner-requires : goal.c::called-arguments-inner-requires
 c::called-arguments-inner-requires t c =
@@ -589,13 +582,12 @@ c::called-arguments-inner-requires t c =
     let mv = c.requires.moved in
     let k = c.requires.class_value_2 in
     let o = opens y refl in
-    let q = length-text c.args.draft.now c.args.tokens.now c.args.count in
     let p = call.named-apart c.args.st.class e in
     let d1 = law.first-called y o (call.for-named c.args.st.class e) AnyN (nt n-named-optional ∷ []) p mv c.callee-b.ensures in
-    (omega (arith, d1.ahead, d1.amid.lays.stands.within, q, o.at_is, c.decreases), law.nearly y o d1.amid)
+    (omega (arith, d1.ahead, d1.amid.lays.stands.within, o.at_is, c.decreases), law.nearly y o d1.amid)
 
-pub c::called-returns-in_default : goal.c::called-returns-in_default
-c::called-returns-in_default t c =
+pub c::called-returns-in_default-inner : goal.c::called-returns-in_default-inner
+c::called-returns-in_default-inner t c =
     let y = c.requires.ready in
     let e = c.requires.class_value in
     let mv = c.requires.moved in
@@ -604,7 +596,7 @@ c::called-returns-in_default t c =
     let p = call.named-apart c.args.st.class e in
     let d1 = law.first-called y o (call.for-named c.args.st.class e) AnyN (nt n-named-optional ∷ []) p mv c.callee-b.ensures in
     let d2 = then_turns (nt n-arguments ∷ []) d1.amid call.flat-named (call.named-args (sym d1.amid.lays.stands.class_is ∙ d1.class_is ∙ k)) in
-    then-passed d2 (refusal c.in_default.is) (enters call.named_rule y e o) c.arguments-inner.ensures
+    then-passed d2 (refusal c.in_default-inner.is) (enters call.named_rule y e o) c.arguments-inner.ensures
 
 pub c::called-returns : goal.c::called-returns
 c::called-returns t c =
@@ -617,14 +609,13 @@ c::called-returns t c =
     let d1 = law.first-called y o (call.for-named c.args.st.class e) AnyN (nt n-named-optional ∷ []) p mv c.callee-b.ensures in
     let d2 = then_turns (nt n-arguments ∷ []) d1.amid call.flat-named (call.named-args (sym d1.amid.lays.stands.class_is ∙ d1.class_is ∙ k)) in
     let d3 = law.then-args d2 c.arguments-inner.ensures c.in-Next.is in
-    as-nonterminal call.named_rule y e (read (shut NamedShape tt y o d3.amid (omega (arith, d3.one)) (call.call-low c.args.st.class (call.form-named d3.amid ∙ call.unwrapped-is c.args.st.class d3.W p (call.no-wrapper c.args.st.class c.wrapper.ensures c.if-wrapper-ne0.false) d3.commas) c.call.ensures) tt ExprKind call.call-kind c.close.ensures))
+    as-nonterminal call.named_rule y e (read (shut NamedShape tt y o d3.amid (omega (arith, d3.one)) (call.call-low c.args.st.class (call.form-named d3.amid ∙ call.unwrapped-is c.args.st.class d3.W p c.in_default.ensures d3.commas) (c.from.ensures ∙ c.call.ensures)) tt ExprKind call.call-kind c.close.ensures))
 
 pub c::cast-ty-inner-requires : goal.c::cast-ty-inner-requires
 c::cast-ty-inner-requires t c =
     let y = c.requires.ready in
     let e = c.requires.class_value in
     let o = opens y c.reserve.ensures in
-    let q = length-text c.args.draft.now c.args.tokens.now c.args.count in
     let d0 = starts kind.Call AnyN call.cast_rhs c.args.tree.now o.stands in
     let d1 = advances d0 (o.class_is ∙ call.at-cast c.args.st.class e) (omega arith) c.advance-a.ensures (sign-mark kind.Call class.LAngle tt) in
     let f1 = further y o d1 (omega arith) in
@@ -677,7 +668,6 @@ c::cast-args-rest-requires t c =
     let y = c.requires.ready in
     let e = c.requires.class_value in
     let o = opens y c.reserve.ensures in
-    let q = length-text c.args.draft.now c.args.tokens.now c.args.count in
     let d0 = starts kind.Call AnyN call.cast_rhs c.args.tree.now o.stands in
     let d1 = advances d0 (o.class_is ∙ call.at-cast c.args.st.class e) (omega arith) c.advance-a.ensures (sign-mark kind.Call class.LAngle tt) in
     let d2 = then-node d1 c.ty-inner.ensures c.in-Next.is in
@@ -685,7 +675,7 @@ c::cast-args-rest-requires t c =
     let d4 = then-eats d3 (omega arith) c.eat-colons.ensures c.in-Next-colons.is (sign-mark kind.Call class.DoubleColon tt) in
     let d5 = then-eats d4 (omega arith) c.eat-into.ensures c.in-Next-into.is (word-mark class.into tt) in
     let f5 = further y o d5 (omega arith) in
-    (omega (arith, f5.ahead, f5.within, q, c.decreases), law.near f5.ready)
+    (omega (arith, f5.ahead, f5.within, c.decreases), law.near f5.ready)
 
 pub c::cast-returns-in_default-rest : goal.c::cast-returns-in_default-rest
 c::cast-returns-in_default-rest t c =
@@ -712,7 +702,7 @@ c::cast-returns t c =
     let d4 = then-eats d3 (omega arith) c.eat-colons.ensures c.in-Next-colons.is (sign-mark kind.Call class.DoubleColon tt) in
     let d5 = then-eats d4 (omega arith) c.eat-into.ensures c.in-Next-into.is (word-mark class.into tt) in
     let d6 = law.then-args d5 c.args-rest.ensures c.in-Next-rest.is in
-    as-nonterminal call.cast-rule y e (read (shut CastCallShape tt y o d6.amid (omega (arith, d6.one)) (call.cast-head d6.amid) tt ExprKind call.call-kind c.close.ensures))
+    as-nonterminal call.cast-rule y e (read (shut CastCallShape tt y o d6.amid (omega (arith, d6.one)) (call.cast-head d6.amid) tt ExprKind call.call-kind (rw c.from.ensures at c.close.ensures)))
 
 pub c::generic-returns-then-a-ne-DOUBLE_COLON : goal.c::generic-returns-then-a-ne-DOUBLE_COLON
 c::generic-returns-then-a-ne-DOUBLE_COLON t c =
@@ -731,14 +721,14 @@ c::generic-built-requires t c =
     let b = law.begun c.reserve.ensures c.advance-a.ensures c.if-a-ne-DOUBLE_COLON.false c.advance-b.ensures in
     (omega (arith, c.decreases), (y, (info.generic_leads g c.if-b-ne-LANGLE.true, b)))
 
-pub c::loops-function_name-inner-requires : goal.c::loops-function_name-inner-requires
-c::loops-function_name-inner-requires t c =
+pub c::loops-name-inner-requires : goal.c::loops-name-inner-requires
+c::loops-name-inner-requires t c =
     let y = c.requires.ready in
     let e = c.requires.class_value in
     let o = opens y refl in
     let d1 = law.angled y o (call.for-whiles c.args.st.class e) AnyN (nt n-function_name ∷ tok class.RAngle ∷ nt n-arguments ∷ []) c.args.tree.now call.flat-whiles (λ i h. call.whiles-colons h) call.flat-looped (λ i h. call.whiles-angle h) (call.whiles-mark c.args.st.class e) c.requires.begun c.requires.class_value_2 c.advance-d.ensures in
     let f1 = further y o d1 (omega arith) in
-    f1.ready
+    ready-near f1.ready
 
 pub c::loops-returns-in_default : goal.c::loops-returns-in_default
 c::loops-returns-in_default t c =
@@ -746,7 +736,7 @@ c::loops-returns-in_default t c =
     let e = c.requires.class_value in
     let o = opens y refl in
     let d1 = law.angled y o (call.for-whiles c.args.st.class e) AnyN (nt n-function_name ∷ tok class.RAngle ∷ nt n-arguments ∷ []) c.args.tree.now call.flat-whiles (λ i h. call.whiles-colons h) call.flat-looped (λ i h. call.whiles-angle h) (call.whiles-mark c.args.st.class e) c.requires.begun c.requires.class_value_2 c.advance-d.ensures in
-    then-passed d1 (refusal c.in_default.is) (enters call.whiles-rule y e o) c.function_name-inner.ensures
+    then-passed d1 (refusal c.in_default.is) (enters call.whiles-rule y e o) c.name-inner.ensures
 
 pub c::loops-returns-in_default-angle : goal.c::loops-returns-in_default-angle
 c::loops-returns-in_default-angle t c =
@@ -754,7 +744,7 @@ c::loops-returns-in_default-angle t c =
     let e = c.requires.class_value in
     let o = opens y refl in
     let d1 = law.angled y o (call.for-whiles c.args.st.class e) AnyN (nt n-function_name ∷ tok class.RAngle ∷ nt n-arguments ∷ []) c.args.tree.now call.flat-whiles (λ i h. call.whiles-colons h) call.flat-looped (λ i h. call.whiles-angle h) (call.whiles-mark c.args.st.class e) c.requires.begun c.requires.class_value_2 c.advance-d.ensures in
-    let d2 = law.then-function-name d1 c.function_name-inner.ensures c.in-Next.is in
+    let d2 = law.then-function-name d1 c.name-inner.ensures c.in-Next.is in
     then-lacks d2 (refusal c.in_default-angle.is) (enters call.whiles-rule y e o) c.eat-angle.ensures
 
 pub c::loops-args-rest-requires : goal.c::loops-args-rest-requires
@@ -762,12 +752,11 @@ c::loops-args-rest-requires t c =
     let y = c.requires.ready in
     let e = c.requires.class_value in
     let o = opens y refl in
-    let q = length-text c.args.draft.now c.args.tokens.now c.args.count in
     let d1 = law.angled y o (call.for-whiles c.args.st.class e) AnyN (nt n-function_name ∷ tok class.RAngle ∷ nt n-arguments ∷ []) c.args.tree.now call.flat-whiles (λ i h. call.whiles-colons h) call.flat-looped (λ i h. call.whiles-angle h) (call.whiles-mark c.args.st.class e) c.requires.begun c.requires.class_value_2 c.advance-d.ensures in
-    let d2 = law.then-function-name d1 c.function_name-inner.ensures c.in-Next.is in
+    let d2 = law.then-function-name d1 c.name-inner.ensures c.in-Next.is in
     let d3 = then-eats d2 (omega arith) c.eat-angle.ensures c.in-Next-angle.is (sign-mark kind.Call class.RAngle tt) in
     let f3 = further y o d3 (omega arith) in
-    (omega (arith, f3.ahead, f3.within, q, c.decreases), law.near f3.ready)
+    (omega (arith, f3.ahead, f3.within, c.decreases), law.near f3.ready)
 
 pub c::loops-returns-in_default-rest : goal.c::loops-returns-in_default-rest
 c::loops-returns-in_default-rest t c =
@@ -775,7 +764,7 @@ c::loops-returns-in_default-rest t c =
     let e = c.requires.class_value in
     let o = opens y refl in
     let d1 = law.angled y o (call.for-whiles c.args.st.class e) AnyN (nt n-function_name ∷ tok class.RAngle ∷ nt n-arguments ∷ []) c.args.tree.now call.flat-whiles (λ i h. call.whiles-colons h) call.flat-looped (λ i h. call.whiles-angle h) (call.whiles-mark c.args.st.class e) c.requires.begun c.requires.class_value_2 c.advance-d.ensures in
-    let d2 = law.then-function-name d1 c.function_name-inner.ensures c.in-Next.is in
+    let d2 = law.then-function-name d1 c.name-inner.ensures c.in-Next.is in
     let d3 = then-eats d2 (omega arith) c.eat-angle.ensures c.in-Next-angle.is (sign-mark kind.Call class.RAngle tt) in
     then-passed d3 (refusal c.in_default-rest.is) (enters call.whiles-rule y e o) c.args-rest.ensures
 
@@ -785,10 +774,10 @@ c::loops-returns t c =
     let e = c.requires.class_value in
     let o = opens y refl in
     let d1 = law.angled y o (call.for-whiles c.args.st.class e) AnyN (nt n-function_name ∷ tok class.RAngle ∷ nt n-arguments ∷ []) c.args.tree.now call.flat-whiles (λ i h. call.whiles-colons h) call.flat-looped (λ i h. call.whiles-angle h) (call.whiles-mark c.args.st.class e) c.requires.begun c.requires.class_value_2 c.advance-d.ensures in
-    let d2 = law.then-function-name d1 c.function_name-inner.ensures c.in-Next.is in
+    let d2 = law.then-function-name d1 c.name-inner.ensures c.in-Next.is in
     let d3 = then-eats d2 (omega arith) c.eat-angle.ensures c.in-Next-angle.is (sign-mark kind.Call class.RAngle tt) in
     let d4 = law.then-args d3 c.args-rest.ensures c.in-Next-rest.is in
-    as-nonterminal call.whiles-rule y e (read (shut ForWhileShape tt y o d4.amid (omega (arith, d4.one)) (call.whiles-low (call.whiles-head d4.amid) (call.at-whiles c.args.st.class e)) tt ExprKind call.call-kind c.close.ensures))
+    as-nonterminal call.whiles-rule y e (read (shut ForWhileShape tt y o d4.amid (omega (arith, d4.one)) (call.whiles-low (call.whiles-head d4.amid) (call.at-whiles c.args.st.class e)) tt ExprKind call.call-kind (rw c.from.ensures at c.close.ensures)))
 
 pub c::named-returns-in_default : goal.c::named-returns-in_default
 c::named-returns-in_default t c =
@@ -831,12 +820,11 @@ c::of_type-args-rest-requires t c =
     let y = c.requires.ready in
     let e = c.requires.class_value in
     let o = opens y refl in
-    let q = length-text c.args.draft.now c.args.tokens.now c.args.count in
     let d1 = law.angled y o (call.for-typed c.args.st.class e) AnyN (nt n-type ∷ tok class.RAngle ∷ nt n-arguments ∷ []) c.args.tree.now call.flat-typed (λ i h. call.typed-colons h) call.flat-of-type (λ i h. call.typed-angle h) (call.typed-mark c.args.st.class e) c.requires.begun c.requires.class_value_2 c.advance-d.ensures in
     let d2 = then-node d1 c.ty-inner.ensures c.in-Next.is in
     let d3 = then-eats d2.amid (omega arith) c.eat-angle.ensures c.in-Next-angle.is (sign-mark kind.Call class.RAngle tt) in
     let f3 = further y o d3 (omega arith) in
-    (omega (arith, f3.ahead, f3.within, q, c.decreases), law.near f3.ready)
+    (omega (arith, f3.ahead, f3.within, c.decreases), law.near f3.ready)
 
 pub c::of_type-returns-in_default-rest : goal.c::of_type-returns-in_default-rest
 c::of_type-returns-in_default-rest t c =
@@ -857,7 +845,7 @@ c::of_type-returns t c =
     let d2 = then-node d1 c.ty-inner.ensures c.in-Next.is in
     let d3 = then-eats d2.amid (omega arith) c.eat-angle.ensures c.in-Next-angle.is (sign-mark kind.Call class.RAngle tt) in
     let d4 = law.then-args d3 c.args-rest.ensures c.in-Next-rest.is in
-    as-nonterminal call.typed-rule y e (read (shut TypedShape tt y o d4.amid (omega (arith, d4.one)) (call.call-low c.args.st.class (call.typed-head d4.amid) c.call.ensures) tt ExprKind call.call-kind c.close.ensures))
+    as-nonterminal call.typed-rule y e (read (shut TypedShape tt y o d4.amid (omega (arith, d4.one)) (call.call-low c.args.st.class (call.typed-head d4.amid) (c.from.ensures ∙ c.call.ensures)) tt ExprKind call.call-kind c.close.ensures))
 
 pub c::path-returns-in_default : goal.c::path-returns-in_default
 c::path-returns-in_default t c =
@@ -894,10 +882,9 @@ c::simple-args-inner-requires t c =
     let y = c.requires.ready in
     let e = c.requires.class_value in
     let o = opens y c.reserve.ensures in
-    let q = length-text c.args.draft.now c.args.tokens.now c.args.count in
     let p = call.simple-apart c.args.st.class e in
     let d1 = law.first-called y o (call.for-simple c.args.st.class e) AnyN (nt n-arguments ∷ []) p c.advance-a.ensures c.callee-b.ensures in
-    (omega (arith, d1.ahead, d1.amid.lays.stands.within, q, o.at_is, c.decreases), law.nearly y o d1.amid)
+    (omega (arith, d1.ahead, d1.amid.lays.stands.within, o.at_is, c.decreases), law.nearly y o d1.amid)
 
 pub c::simple-returns-in_default : goal.c::simple-returns-in_default
 c::simple-returns-in_default t c =
@@ -916,28 +903,27 @@ c::simple-returns t c =
     let p = call.simple-apart c.args.st.class e in
     let d1 = law.first-called y o (call.for-simple c.args.st.class e) AnyN (nt n-arguments ∷ []) p c.advance-a.ensures c.callee-b.ensures in
     let d2 = law.then-args d1.amid c.args-inner.ensures c.in-Next.is in
-    as-nonterminal call.simple-rule y e (read (shut SimpleCallShape tt y o d2.amid (omega (arith, d2.one)) (call.call-low c.args.st.class (call.form-simple d2.amid ∙ call.unwrapped-is c.args.st.class d2.W p (call.simple-unwrapped c.args.st.class e) d2.commas) c.call.ensures) tt ExprKind call.call-kind c.close.ensures))
+    as-nonterminal call.simple-rule y e (read (shut SimpleCallShape tt y o d2.amid (omega (arith, d2.one)) (call.call-low c.args.st.class (call.form-simple d2.amid ∙ call.unwrapped-is c.args.st.class d2.W p (call.simple-unwrapped c.args.st.class e) d2.commas) (c.from.ensures ∙ c.call.ensures)) tt ExprKind call.call-kind c.close.ensures))
 
 pub c::wrap-args-inner-requires : goal.c::wrap-args-inner-requires
 c::wrap-args-inner-requires t c =
     let y = c.requires.ready in
     let e = c.requires.class_value in
-    let w = c.requires.class_value_2 in
+    let w = c.requires.class_value_2.0 in
     let mv = c.requires.moved in
     let k = c.requires.class_value_3 in
     let o = opens y refl in
-    let q = length-text c.args.draft.now c.args.tokens.now c.args.count in
     let z = call.for-named c.args.st.class e in
     let a1 = law.first-mark y o z kind.Left AnyN (nt n-named-optional ∷ []) c.args.tree.now mv (keeping-mark kind.Left c.args.st.class tt) in
     let a2 = then_turns (nt n-arguments ∷ []) a1 call.flat-named (call.named-args (sym a1.lays.stands.class_is ∙ k)) in
     let f2 = further y o a2 (omega arith) in
-    (omega (arith, f2.ahead, f2.within, q, c.decreases), law.near f2.ready)
+    (omega (arith, f2.ahead, f2.within, c.decreases), law.near f2.ready)
 
 pub c::wrap-returns-in_default : goal.c::wrap-returns-in_default
 c::wrap-returns-in_default t c =
     let y = c.requires.ready in
     let e = c.requires.class_value in
-    let w = c.requires.class_value_2 in
+    let w = c.requires.class_value_2.0 in
     let mv = c.requires.moved in
     let k = c.requires.class_value_3 in
     let o = opens y refl in
@@ -950,22 +936,22 @@ pub c::wrap-returns-then-lone-eq1 : goal.c::wrap-returns-then-lone-eq1
 c::wrap-returns-then-lone-eq1 t c =
     let y = c.requires.ready in
     let e = c.requires.class_value in
-    let w = c.requires.class_value_2 in
+    let w = c.requires.class_value_2.0 in
     let mv = c.requires.moved in
     let k = c.requires.class_value_3 in
     let o = opens y refl in
     let p = call.named-apart c.args.st.class e in
     let z = call.for-named c.args.st.class e in
-    let b1 = law.first-mark y o z c.wrapping.result AnyN (nt n-named-optional ∷ []) c.args.tree.now mv (keeping-mark c.wrapping.result c.args.st.class (call.wrapper-keeps c.args.st.class w c.wrapping.ensures)) in
+    let b1 = law.first-mark y o z (kind_number c.args.kind) AnyN (nt n-named-optional ∷ []) c.args.tree.now mv (keeping-mark (kind_number c.args.kind) c.args.st.class (call.wrapper-keeps c.args.st.class w c.requires.class_value_2.1)) in
     let b2 = then_turns (nt n-arguments ∷ []) b1 call.flat-named (call.named-args (sym b1.lays.stands.class_is ∙ k)) in
     let b3 = law.then-args b2 c.args-inner.ensures c.in-Next.is in
-    as-nonterminal call.named_rule y e (read (shut NamedShape tt y o b3.amid (omega (arith, b3.one)) (call.form-named b3.amid ∙ call.wrapper-is c.args.st.class w c.wrapping.ensures b3.W p b3.commas b3.lone_is c.if-lone-eq1.true) (call.wrapper-unturned c.args.st.class w c.wrapping.ensures) ExprKind (call.wrapper-kind c.args.st.class w c.wrapping.ensures) c.close.ensures))
+    as-nonterminal call.named_rule y e (read (shut NamedShape tt y o b3.amid (omega (arith, b3.one)) (call.form-named b3.amid ∙ call.wrapper-is c.args.st.class w c.requires.class_value_2.1 b3.W p b3.commas b3.lone_is c.if-lone-eq1.true) (call.wrapper-unturned c.args.st.class w c.requires.class_value_2.1) ExprKind (call.wrapper-kind c.args.st.class w c.requires.class_value_2.1) c.close.ensures))
 
 pub c::wrap-returns : goal.c::wrap-returns
 c::wrap-returns t c =
     let y = c.requires.ready in
     let e = c.requires.class_value in
-    let w = c.requires.class_value_2 in
+    let w = c.requires.class_value_2.0 in
     let mv = c.requires.moved in
     let k = c.requires.class_value_3 in
     let o = opens y refl in
@@ -978,7 +964,7 @@ c::wrap-returns t c =
     let d1 = law.first-name y o z kind.Call AnyN (nt n-named-optional ∷ []) mv (law.put-before n g c.child-z.ensures.put c.child-z.ensures.value c.exchange.ensures) refl (call.called-role c.args.st.class (call.wrapper-named c.args.st.class w)) in
     let d2 = then_turns (nt n-arguments ∷ []) d1 call.flat-named (call.named-args (sym d1.lays.stands.class_is ∙ law.reserved-class c.args.a (reserved c.args.a) refl ∙ k)) in
     let d3 = law.then-args d2 (read (law.behind n g c.child-z.ensures.put c.child-z.ensures.value c.exchange.ensures)) refl in
-    as-nonterminal call.named_rule y e (read (shut NamedShape tt y o d3.amid (omega (arith, d3.one)) (call.form-named d3.amid ∙ call.other-is c.args.st.class d3.W w p d3.commas d3.lone_is c.if-lone-eq1.false) tt ExprKind call.call-kind c.close-2.ensures))
+    as-nonterminal call.named_rule y e (read (shut NamedShape tt y o d3.amid (omega (arith, d3.one)) (call.form-named d3.amid ∙ call.other-is c.args.st.class d3.W w p d3.commas d3.lone_is c.if-lone-eq1.false) tt ExprKind call.call-kind (rw c.from.ensures at c.close-2.ensures)))
 
 pub cases-expr-inner-requires : goal.cases-expr-inner-requires
 cases-expr-inner-requires t c =
@@ -986,10 +972,9 @@ cases-expr-inner-requires t c =
     let h = c.requires.class_value in
     let o = opens-clean y c.clean.ensures c.reserve.ensures in
     let k = match.at-match c.args.st.class h in
-    let q = length-text c.args.draft.now c.args.tokens.now c.args.count in
     let m1 = advances (starts kind.Match AnyN match.match_rhs c.args.tree.now o.stands) (o.class_is ∙ k) (omega arith) c.advance-a.ensures (sign-mark kind.Match class.Match tt) in
     let f1 = further y o m1 (omega arith) in
-    (omega (arith, f1.ahead, f1.within, q, c.decreases), f1.ready)
+    (omega (arith, f1.ahead, f1.within, c.decreases), f1.ready)
 
 pub cases-returns-in_default : goal.cases-returns-in_default
 cases-returns-in_default t c =
@@ -1015,10 +1000,9 @@ cases-arms-rest-requires t c =
     let h = c.requires.class_value in
     let o = opens-clean y c.clean.ensures c.reserve.ensures in
     let k = match.at-match c.args.st.class h in
-    let q = length-text c.args.draft.now c.args.tokens.now c.args.count in
     let m3 = match.match₃ kind.Match o k c.advance-a.ensures c.expr-inner.ensures c.in-Next.is c.eat-open.ensures c.in-Next-open.is in
     let f3 = further y o m3 (omega arith) in
-    (omega (arith, f3.ahead, f3.within, q, c.decreases), (f3.ready, omega (arith, m3.lays.few, o.at_is, o.out_is, y.few)))
+    (omega (arith, f3.ahead, f3.within, c.decreases), (f3.ready, omega (arith, m3.lays.few, o.at_is, o.out_is, y.few)))
 
 pub cases-returns-in_default-rest : goal.cases-returns-in_default-rest
 cases-returns-in_default-rest t c =
@@ -1067,9 +1051,8 @@ pub elems-loop-here-smaller-then-here-eq-LET : goal.elems-loop-here-smaller-then
 elems-loop-here-smaller-then-here-eq-LET t c =
     let y = c.requires in
     let v = c.loop-here.invariant in
-    let q = length-text c.args.draft.now c.args.tokens.now c.args.count in
     let n1 = elem.let-again y v c.if-here-eq-LET.true c.assign-statement.ensures c.in-Next.is c.eat-semi.ensures c.in-Next-semi.is in
-    omega (arith, elem.let-less y v c.if-here-eq-LET.true c.assign-statement.ensures c.in-Next.is c.eat-semi.ensures c.in-Next-semi.is, q, n1.amid.lays.stands.within)
+    omega (arith, elem.let-less y v c.if-here-eq-LET.true c.assign-statement.ensures c.in-Next.is c.eat-semi.ensures c.in-Next-semi.is, n1.amid.lays.stands.within)
 
 pub elems-loop-here-preserved-then-here-eq-LET : goal.elems-loop-here-preserved-then-here-eq-LET
 elems-loop-here-preserved-then-here-eq-LET t c =
@@ -1093,9 +1076,8 @@ pub elems-loop-here-smaller : goal.elems-loop-here-smaller
 elems-loop-here-smaller t c =
     let y = c.requires in
     let v = c.loop-here.invariant in
-    let q = length-text c.args.draft.now c.args.tokens.now c.args.count in
     let n2 = elem.expr-again y v c.loop-here-test.true c.if-here-eq-LET.false c.expr-inner.ensures c.in-Next-inner.is c.if-d-ne-SEMI.false c.advance-here.ensures in
-    omega (arith, elem.expr-less y v c.loop-here-test.true c.if-here-eq-LET.false c.expr-inner.ensures c.in-Next-inner.is c.if-d-ne-SEMI.false c.advance-here.ensures, q, n2.amid.lays.stands.within)
+    omega (arith, elem.expr-less y v c.loop-here-test.true c.if-here-eq-LET.false c.expr-inner.ensures c.in-Next-inner.is c.if-d-ne-SEMI.false c.advance-here.ensures, n2.amid.lays.stands.within)
 
 pub elems-loop-here-preserved : goal.elems-loop-here-preserved
 elems-loop-here-preserved t c =
@@ -1146,9 +1128,8 @@ exprs-loop-tree-smaller t c =
     let n = pattern.open_at c.loop-tree.here.class c.closes.ensures (ap not c.loop-tree-test.true) in
     let i = lined.item form.expression-rows y v n c.expr-inner.ensures c.in-Next.is in
     let a = lined.lined-again form.expression-rows y v n c.expr-inner.ensures c.in-Next.is {Q' = elem.Counted 2} c.if-a-ne-COMMA.false c.advance-here.ensures (elem.counted-again (v.w ++ (child i.kind i.low i.high i.first ∷ []))) in
-    let q = length-text c.args.draft.now c.args.tokens.now c.args.count in
     let h = lined.again-less form.expression-rows y v n c.expr-inner.ensures c.in-Next.is c.if-a-ne-COMMA.false c.advance-here.ensures in
-    omega (arith, h, q, a.amid.lays.stands.within)
+    omega (arith, h, a.amid.lays.stands.within)
 
 pub exprs-loop-tree-preserved : goal.exprs-loop-tree-preserved
 exprs-loop-tree-preserved t c =
@@ -1184,8 +1165,7 @@ list-exprs-inner-requires t c =
     let d1 = advances d0 k (omega arith) c.advance-a.ensures (keeping-mark kind.List class.list! tt) in
     let d2 = then-eats d1 (omega arith) c.eat-open.ensures c.in-Next.is (sign-mark kind.List class.LBracket tt) in
     let f2 = further y o d2 (omega arith) in
-    let q = length-text c.args.draft.now c.args.tokens.now c.args.count in
-    (omega (arith, f2.ahead, f2.within, q, c.decreases), f2.ready)
+    (omega (arith, f2.ahead, f2.within, c.decreases), f2.ready)
 
 pub list-returns-in_default-inner : goal.list-returns-in_default-inner
 list-returns-in_default-inner t c =
@@ -1232,8 +1212,7 @@ parens-exprs-inner-requires t c =
     let k = o.class_is ∙ form.at-parens c.args.st.class e in
     let d1 = advances d0 k (omega arith) c.advance-a.ensures (sign-mark kind.Parenthesised class.LParen tt) in
     let f1 = further y o d1 (omega arith) in
-    let q = length-text c.args.draft.now c.args.tokens.now c.args.count in
-    (omega (arith, f1.ahead, f1.within, q, c.decreases), f1.ready)
+    (omega (arith, f1.ahead, f1.within, c.decreases), f1.ready)
 
 pub parens-returns-in_default : goal.parens-returns-in_default
 parens-returns-in_default t c =
@@ -1262,10 +1241,10 @@ parens-returns t c =
     let e = c.requires.class_value in
     let o = opens y c.reserve.ensures in
     let k = o.class_is ∙ form.at-parens c.args.st.class e in
-    let a0 = starts c.only.result AnyN form.parens_rhs c.args.tree.now o.stands in
-    let a1 = advances a0 k (omega arith) c.advance-a.ensures (sign-mark c.only.result class.LParen tt) in
+    let a0 = starts (kind_number c.only.result) AnyN form.parens_rhs c.args.tree.now o.stands in
+    let a1 = advances a0 k (omega arith) c.advance-a.ensures (sign-mark (kind_number c.only.result) class.LParen tt) in
     let a2 = elem.then-lone a1 c.exprs-inner.ensures c.in-Next.is in
-    let a3 = then-eats a2.amid (omega arith) c.eat-paren.ensures c.in-Next-paren.is (sign-mark c.only.result class.RParen tt) in
+    let a3 = then-eats a2.amid (omega arith) c.eat-paren.ensures c.in-Next-paren.is (sign-mark (kind_number c.only.result) class.RParen tt) in
     let z = form.parens-kind c.in-Next.lone c.only.ensures in
     as-nonterminal form.parens-rule y e (read (shut ParensShape tt y o a3 (omega arith) (form.parens-head a2.W c.in-Next.lone a3 a2.so.1 c.only.ensures) (form.not-match z.1 (omega arith)) ExprKind (form.expr-kind (omega (arith, z.0), omega (arith, z.1))) c.close.ensures))
 

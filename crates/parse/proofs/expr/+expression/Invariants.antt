@@ -1,6 +1,6 @@
 -- The measure of each member: eight times the tokens that are left, and a number for the calls that take none.
 -- Assumes nothing.
-use Rattle.std.proofs.Common.{◌+◌, ◌-◌, ◌*◌}
+use Rattle.std.proofs.Common.{◌+◌, ◌-◌, ◌*◌, length}
 use Rattle.grammar.specs.Shapes.TablesIndex.{n-list-expression}
 use Rattle.parse.specs.Contract.{text}
 use Rattle.parse.proofs.Rule.Commas.{Lined}
@@ -9,100 +9,100 @@ use Rattle.parse.proofs.expr.ArmsLoop as arm-loop
 use Rattle.parse.proofs.expr.+expression.Given as goal
 
 abbrev pub decreases-expr : goal.decreases-expr
-decreases-expr l = 8 * (l.count - l.st.at) + 4
+decreases-expr l = 8 * (length (text l.source.now).ts - l.st.at) + 4
 
 abbrev pub decreases-single : goal.decreases-single
-decreases-single l = 8 * (l.count - l.st.at) + 3
+decreases-single l = 8 * (length (text l.source.now).ts - l.st.at) + 3
 
 abbrev pub decreases-block : goal.decreases-block
-decreases-block l = 8 * (l.count - l.st.at) + 2
+decreases-block l = 8 * (length (text l.source.now).ts - l.st.at) + 2
 
 abbrev pub decreases-elems : goal.decreases-elems
-decreases-elems l = 8 * (l.count - l.st.at) + 5
+decreases-elems l = 8 * (length (text l.source.now).ts - l.st.at) + 5
 
 abbrev pub decreases-exprs : goal.decreases-exprs
-decreases-exprs l = 8 * (l.count - l.st.at) + 5
+decreases-exprs l = 8 * (length (text l.source.now).ts - l.st.at) + 5
 
 abbrev pub decreases-assign : goal.decreases-assign
-decreases-assign l = 8 * (l.count - l.st.at) + 1
+decreases-assign l = 8 * (length (text l.source.now).ts - l.st.at) + 1
 
 abbrev pub decreases-parens : goal.decreases-parens
-decreases-parens l = 8 * (l.count - l.st.at) + 1
+decreases-parens l = 8 * (length (text l.source.now).ts - l.st.at) + 1
 
 abbrev pub decreases-array : goal.decreases-array
-decreases-array l = 8 * (l.count - l.st.at) + 1
+decreases-array l = 8 * (length (text l.source.now).ts - l.st.at) + 1
 
 abbrev pub decreases-list : goal.decreases-list
-decreases-list l = 8 * (l.count - l.st.at) + 1
+decreases-list l = 8 * (length (text l.source.now).ts - l.st.at) + 1
 
 abbrev pub decreases-cases : goal.decreases-cases
-decreases-cases l = 8 * (l.count - l.st.at) + 1
+decreases-cases l = 8 * (length (text l.source.now).ts - l.st.at) + 1
 
 abbrev pub decreases-arms : goal.decreases-arms
-decreases-arms l = 8 * (l.count - l.st.at) + 5
+decreases-arms l = 8 * (length (text l.source.now).ts - l.st.at) + 5
 
 abbrev pub decreases-arm : goal.decreases-arm
-decreases-arm l = 8 * (l.count - l.st.at) + 4
+decreases-arm l = 8 * (length (text l.source.now).ts - l.st.at) + 4
 
 abbrev pub decreases-body : goal.decreases-body
-decreases-body l = 8 * (l.count - l.st.at) + 4
+decreases-body l = 8 * (length (text l.source.now).ts - l.st.at) + 4
 
 abbrev pub decreases-c::arguments : goal.decreases-c::arguments
-decreases-c::arguments l = 8 * (l.count - l.st.at)
+decreases-c::arguments l = 8 * (length (text l.source.now).ts - l.st.at)
 
 abbrev pub decreases-c::args : goal.decreases-c::args
-decreases-c::args l = 8 * (l.count - l.st.at) + 1
+decreases-c::args l = 8 * (length (text l.source.now).ts - l.st.at) + 1
 
 abbrev pub decreases-c::simple : goal.decreases-c::simple
-decreases-c::simple l = 8 * (l.count - l.st.at) + 1
+decreases-c::simple l = 8 * (length (text l.source.now).ts - l.st.at) + 1
 
 abbrev pub decreases-c::cast : goal.decreases-c::cast
-decreases-c::cast l = 8 * (l.count - l.st.at) + 1
+decreases-c::cast l = 8 * (length (text l.source.now).ts - l.st.at) + 1
 
 abbrev pub decreases-c::named : goal.decreases-c::named
-decreases-c::named l = 8 * (l.count - l.st.at) + 2
+decreases-c::named l = 8 * (length (text l.source.now).ts - l.st.at) + 2
 
 abbrev pub decreases-c::called : goal.decreases-c::called
-decreases-c::called l = 8 * (l.count - l.st.at) + 1
+decreases-c::called l = 8 * (length (text l.source.now).ts - l.st.at) + 1
 
 abbrev pub decreases-c::wrap : goal.decreases-c::wrap
-decreases-c::wrap l = 8 * (l.count - l.st.at)
+decreases-c::wrap l = 8 * (length (text l.source.now).ts - l.st.at)
 
 abbrev pub decreases-c::built : goal.decreases-c::built
-decreases-c::built l = 8 * (l.count - l.st.at) + 1
+decreases-c::built l = 8 * (length (text l.source.now).ts - l.st.at) + 1
 
 abbrev pub decreases-c::path : goal.decreases-c::path
-decreases-c::path l = 8 * (l.count - l.st.at) + 2
+decreases-c::path l = 8 * (length (text l.source.now).ts - l.st.at) + 2
 
 abbrev pub decreases-c::bare : goal.decreases-c::bare
-decreases-c::bare l = 8 * (l.count - l.st.at) + 2
+decreases-c::bare l = 8 * (length (text l.source.now).ts - l.st.at) + 2
 
 abbrev pub decreases-c::generic : goal.decreases-c::generic
-decreases-c::generic l = 8 * (l.count - l.st.at) + 2
+decreases-c::generic l = 8 * (length (text l.source.now).ts - l.st.at) + 2
 
 abbrev pub decreases-c::of_type : goal.decreases-c::of_type
-decreases-c::of_type l = 8 * (l.count - l.st.at)
+decreases-c::of_type l = 8 * (length (text l.source.now).ts - l.st.at)
 
 abbrev pub decreases-c::bound : goal.decreases-c::bound
-decreases-c::bound l = 8 * (l.count - l.st.at)
+decreases-c::bound l = 8 * (length (text l.source.now).ts - l.st.at)
 
 abbrev pub decreases-c::loops : goal.decreases-c::loops
-decreases-c::loops l = 8 * (l.count - l.st.at)
+decreases-c::loops l = 8 * (length (text l.source.now).ts - l.st.at)
 
 abbrev pub invariant-arms-loop-here : goal.invariant-arms-loop-here
-invariant-arms-loop-here l = arm-loop.ArmsInv (text l.draft l.tokens l.count) l.initial.here l.initial.tree l.here l.tree l.order l.mid
+invariant-arms-loop-here l = arm-loop.ArmsInv (text l.source) l.initial.here l.initial.tree l.here l.tree l.order l.mid
 
 abbrev pub decreases-arms-loop-here : goal.decreases-arms-loop-here
-decreases-arms-loop-here l = l.count - l.here.at
+decreases-arms-loop-here l = length (text l.source).ts - l.here.at
 
 abbrev pub invariant-elems-loop-here : goal.invariant-elems-loop-here
-invariant-elems-loop-here l = elem.Elemed (text l.draft l.tokens l.count) l.initial.here l.initial.tree l.here l.tree
+invariant-elems-loop-here l = elem.Elemed (text l.source) l.initial.here l.initial.tree l.here l.tree
 
 abbrev pub decreases-elems-loop-here : goal.decreases-elems-loop-here
-decreases-elems-loop-here l = l.count - l.here.at
+decreases-elems-loop-here l = length (text l.source).ts - l.here.at
 
 abbrev pub invariant-exprs-loop-tree : goal.invariant-exprs-loop-tree
-invariant-exprs-loop-tree l = Lined (text l.draft l.tokens l.count) n-list-expression (elem.Counted l.lone) l.initial.here l.initial.tree l.here l.tree
+invariant-exprs-loop-tree l = Lined (text l.source) n-list-expression (elem.Counted l.lone) l.initial.here l.initial.tree l.here l.tree
 
 abbrev pub decreases-exprs-loop-tree : goal.decreases-exprs-loop-tree
-decreases-exprs-loop-tree l = l.count - l.here.at
+decreases-exprs-loop-tree l = length (text l.source).ts - l.here.at

@@ -1,6 +1,7 @@
 -- Assumes nothing.
 use Rattle.std.proofs.Common.{arith}
 use Rattle.grammar.specs.Shapes.ShapeKind.{LiteralShape}
+use Rattle.own.specs.Numbers.{kind_number}
 use Rattle.parse.specs.Contract.{text, tok_at, read, ExprKind}
 use Rattle.parse.proofs.Rule.Amid.{starts}
 use Rattle.parse.proofs.Rule.Closing.{opens, as-nonterminal}
@@ -13,11 +14,11 @@ use Rattle.parse.proofs.expr.literal.Goals as goal
 
 pub returns : goal.returns
 returns c =
-    let x = text c.args.draft.now c.args.tokens.now c.args.count in
+    let x = text c.args.source.now in
     let y = c.requires.ready in
     let e = c.requires.class_value in
     let o = opens y c.reserve.ensures in
     let k = form.literal-kind c.args.st.class c.literal.ensures c.truth.ensures in
-    let d0 = starts c.literal.result AnyN form.literal_rhs c.args.tree.now o.stands in
-    let d1 = advances-one d0 form.flat-literal (form.at_literal c.args.st.class e) o.class_is (form.literal-pos c.args.st.class e) c.advance-a.ensures (keeping-mark c.literal.result c.args.st.class (form.keeping-low c.literal.result (omega (arith, k.0), omega (arith, k.1)))) in
+    let d0 = starts (kind_number c.literal.result) AnyN form.literal_rhs c.args.tree.now o.stands in
+    let d1 = advances-one d0 form.flat-literal (form.at_literal c.args.st.class e) o.class_is (form.literal-pos c.args.st.class e) c.advance-a.ensures (keeping-mark (kind_number c.literal.result) c.args.st.class (form.keeping-low (kind_number c.literal.result) (omega (arith, k.0), omega (arith, k.1)))) in
     as-nonterminal form.literal-rule y e (read (shut LiteralShape tt y o d1 (omega arith) (form.literal-head c.args.st.class c.literal.ensures c.truth.ensures x (tok_at x c.reserve.result.at)) (form.not-match k.1 (omega arith)) ExprKind (form.expr-kind (omega (arith, k.0), omega (arith, k.1))) c.close.ensures))

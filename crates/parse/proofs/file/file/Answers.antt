@@ -15,8 +15,8 @@ slice_bounds-items-start c = omega (arith, c.first_words-from.ensures, form.behi
 
 pub returns-in_default : goal.returns-in_default
 returns-in_default c =
-    form.file-refused (length c.args.draft.now) c.args.tree.now _ (form.lent-words c.args.tree.now c.first_words-from.ensures) c.items-step.ensures (refusal c.in_default.is)
+    form.file-refused (length c.args.source.now.draft.now) c.args.tree.now _ (form.lent-words c.args.tree.now c.first_words-from.ensures) c.items-step.ensures (refusal c.in_default.is)
 
 pub returns : goal.returns
 returns c =
-    form.file-closed (length c.args.draft.now) c.args.tree.now _ (form.lent-words c.args.tree.now c.first_words-from.ensures) c.items-step.ensures c.in-Next.is (form.all_words c.args.tree.now c.first_words-from.ensures _) c.reserve-all.ensures c.top.ensures
+    form.file-closed (length c.args.source.now.draft.now) c.args.tree.now _ (form.lent-words c.args.tree.now c.first_words-from.ensures) c.items-step.ensures c.in-Next.is (form.all_words c.args.tree.now c.first_words-from.ensures _) c.reserve-all.ensures c.top.ensures

@@ -2,7 +2,6 @@
 use Rattle.std.proofs.Common.{arith}
 use Rattle.parse.specs.Contract.{read}
 use Rattle.parse.proofs.file.Loop as loop
-use Rattle.parse.proofs.token.Tokens.{length-text}
 use Rattle.parse.proofs.Rule.Refused.{refusal}
 use Rattle.parse.proofs.file.items.Goals as goal
 
@@ -16,10 +15,9 @@ pub loop-here-smaller : goal.loop-here-smaller
 loop-here-smaller c =
     let y = c.requires in
     let v = c.loop-here.invariant in
-    let q = length-text c.args.draft.now c.args.tokens.now c.args.count in
     let n = loop.items-again y v c.loop-here-test.true c.item-inner.ensures c.in-Next.is in
     let less = loop.item-ahead y v c.loop-here-test.true c.item-inner.ensures c.in-Next.is in
-    omega (arith, less, q, n.amid.lays.stands.within)
+    omega (arith, less, n.amid.lays.stands.within)
 
 pub loop-here-preserved : goal.loop-here-preserved
 loop-here-preserved c = loop.items-again c.requires c.loop-here.invariant c.loop-here-test.true c.item-inner.ensures c.in-Next.is

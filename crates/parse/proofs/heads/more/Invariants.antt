@@ -6,7 +6,7 @@ use Rattle.parse.proofs.heads.PairForms as pairs
 use Rattle.parse.proofs.heads.more.Given as goal
 
 abbrev pub invariant-loop-here : goal.invariant-loop-here
-invariant-loop-here l = pairs.More (text l.draft l.tokens l.count) l.initial.here l.initial.tree l.here l.tree l.number
+invariant-loop-here l = pairs.More (text l.source) l.initial.here l.initial.tree l.here l.tree l.number
 
 abbrev pub decreases-loop-here : goal.decreases-loop-here
-decreases-loop-here l = length (text l.draft l.tokens l.count).ts - l.here.at
+decreases-loop-here l = length (text l.source).ts - l.here.at

@@ -12,7 +12,11 @@ use Rattle.own.specs.Kinds as kind
 use Rattle.own.specs.Law.{sorts}
 use Rattle.grammar.specs.Shapes.TablesIndex.{n-head, n-head-choice, n-head-word, n-pair}
 use Rattle.parse.proofs.Rule.Refused.{refusal}
+use Rattle.parse.specs.Infos.{word_begins}
 use Rattle.parse.proofs.heads.wrapped.Goals as goal
+
+pub enum_path-requires-clause-leading : goal.enum_path-requires-clause-leading
+enum_path-requires-clause-leading c = word_begins c.requires.class_value c.if-a-ne-LPAREN.true
 
 pub pair-inner-requires : goal.pair-inner-requires
 pair-inner-requires c =
@@ -61,8 +65,9 @@ returns c =
     let q = went c.in-Next.is c.pair-inner.ensures in
     let d4 = then-went d3 q (λ n g. q.info.roles kind.BuiltinArm n) in
     let d5 = then-eats d4 (omega arith) c.eat-paren.ensures c.in-Next-paren.is (keeping-mark kind.BuiltinArm class.RParen tt) in
-    let g = form.wrapper-low i.st.class c.wrapper.ensures in
-    let x = text i.draft.now i.tokens.now i.count in
+    let b = c.from.ensures ∙ c.wrapper.ensures in
+    let g = form.wrapper-low i.st.class b in
+    let x = text i.source.now in
     let u = form.unseen-pair (sorts (raw x c.advance-b.result.at q.items)) q.info.paths in
-    let o = form.word-place i.st.class e ∙ sym c.wrapper.ensures in
-    read (form.built_in c.wrapper.result d5 (form.no-colons (form.word-name i.st.class e)) u o g.0 g.1)
+    let o = form.word-place i.st.class e ∙ sym b in
+    read (form.built_in c.from.result d5 (form.no-colons (form.word-name i.st.class e)) u o g.0 g.1)

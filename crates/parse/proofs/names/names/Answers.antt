@@ -8,31 +8,31 @@ use Rattle.parse.proofs.names.Joined.{joined-starts, joined-less, joined-within,
 use Rattle.parse.proofs.names.names.Goals as goal
 
 pub returns-in_default : goal.returns-in_default
-returns-in_default c = names-passed c.requires (refusal c.in_default.is) c.identifier-first.ensures
+returns-in_default c = names-passed c.requires (refusal c.in_default.is) c.name-first.ensures
 
 pub loop-here-init : goal.loop-here-init
-loop-here-init c = joined-starts (first-ready c.requires c.identifier-first.ensures c.in-Next.is).stands
+loop-here-init c = joined-starts (first-ready c.requires c.name-first.ensures c.in-Next.is).stands
 
-pub identifier-next-requires : goal.identifier-next-requires
-identifier-next-requires c = ready-near (next-ready c.requires c.identifier-first.ensures c.in-Next.is c.loop-here.invariant c.loop-here-test.true c.advance-b.ensures)
+pub name-next-requires : goal.name-next-requires
+name-next-requires c = ready-near (next-ready c.requires c.name-first.ensures c.in-Next.is c.loop-here.invariant c.loop-here-test.true c.advance-b.ensures)
 
 pub returns-in_default-next : goal.returns-in_default-next
-returns-in_default-next c = next-passed c.requires c.identifier-first.ensures c.in-Next.is c.loop-here.invariant c.loop-here-test.true c.advance-b.ensures (refusal c.in_default-next.is) c.identifier-next.ensures
+returns-in_default-next c = next-passed c.requires c.name-first.ensures c.in-Next.is c.loop-here.invariant c.loop-here-test.true c.advance-b.ensures (refusal c.in_default-next.is) c.name-next.ensures
 
 pub overflow_add-number : goal.overflow_add-number
-overflow_add-number c = omega (arith, names-few c.requires c.identifier-first.ensures c.in-Next.is c.loop-here.invariant)
+overflow_add-number c = omega (arith, names-few c.requires c.name-first.ensures c.in-Next.is c.loop-here.invariant)
 
 pub loop-here-smaller : goal.loop-here-smaller
 loop-here-smaller c =
     let v = c.loop-here.invariant in
     let t = c.loop-here-test.true in
     let a = c.advance-b.ensures in
-    let p = c.identifier-next.ensures in
+    let p = c.name-next.ensures in
     let e = c.in-Next-next.is in
     omega (arith, joined-less v t a p e, joined-within v t a p e)
 
 pub loop-here-preserved : goal.loop-here-preserved
-loop-here-preserved c = joined-again c.loop-here.invariant c.loop-here-test.true c.advance-b.ensures c.identifier-next.ensures c.in-Next-next.is
+loop-here-preserved c = joined-again c.loop-here.invariant c.loop-here-test.true c.advance-b.ensures c.name-next.ensures c.in-Next-next.is
 
 pub returns : goal.returns
-returns c = read (names-went c.requires c.identifier-first.ensures c.in-Next.is c.loop-here.invariant c.loop-here-test.false)
+returns c = read (names-went c.requires c.name-first.ensures c.in-Next.is c.loop-here.invariant c.loop-here-test.false)

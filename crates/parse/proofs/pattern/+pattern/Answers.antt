@@ -7,7 +7,6 @@ use Rattle.parse.specs.Contract.{read, stuck, PatternKind}
 use Rattle.parse.proofs.Rule.Amid.{starts, then-passed}
 use Rattle.parse.proofs.Rule.Closing.{opens, as-nonterminal, enters}
 use Rattle.parse.proofs.Rule.Chain.{further, advances, then-eats, then-lacks}
-use Rattle.parse.proofs.token.Tokens.{length-text}
 use Rattle.parse.proofs.Rule.Marks.{sign-mark}
 use Rattle.parse.proofs.Rule.Commas.{AnyN, Lined}
 use Rattle.parse.proofs.Rule.Commas as lined
@@ -30,8 +29,7 @@ array-patterns-inner-requires t c =
     let k = o.class_is ∙ form.at-array c.args.st.class e in
     let d1 = advances d0 k (omega arith) c.advance-a.ensures (sign-mark kind.ArrayPattern class.LBracket tt) in
     let f1 = further y o d1 (omega arith) in
-    let q = length-text c.args.draft.now c.args.tokens.now c.args.count in
-    (omega (arith, f1.ahead, f1.within, q, c.decreases), f1.ready)
+    (omega (arith, f1.ahead, f1.within, c.decreases), f1.ready)
 
 pub array-returns-in_default : goal.array-returns-in_default
 array-returns-in_default t c =
@@ -75,8 +73,7 @@ tuple-patterns-inner-requires t c =
     let k = o.class_is ∙ form.at-tuple c.args.st.class e in
     let d1 = advances d0 k (omega arith) c.advance-a.ensures (sign-mark kind.TuplePattern class.LParen tt) in
     let f1 = further y o d1 (omega arith) in
-    let q = length-text c.args.draft.now c.args.tokens.now c.args.count in
-    (omega (arith, f1.ahead, f1.within, q, c.decreases), f1.ready)
+    (omega (arith, f1.ahead, f1.within, c.decreases), f1.ready)
 
 pub tuple-returns-in_default : goal.tuple-returns-in_default
 tuple-returns-in_default t c =
@@ -137,10 +134,9 @@ pub patterns-loop-tree-smaller : goal.patterns-loop-tree-smaller
 patterns-loop-tree-smaller t c =
     let y = c.requires in
     let v = c.loop-tree.invariant in
-    let q = length-text c.args.draft.now c.args.tokens.now c.args.count in
     let h = lined.again-less form.pattern-rows y v (form.open_at c.loop-tree.here.class c.closes.ensures (ap not c.loop-tree-test.true)) c.pattern-inner.ensures c.in-Next.is c.if-a-ne-COMMA.false c.advance-here.ensures in
     let n = lined.lined-again form.pattern-rows y v (form.open_at c.loop-tree.here.class c.closes.ensures (ap not c.loop-tree-test.true)) c.pattern-inner.ensures c.in-Next.is {Q' = λ w. Unit {0}} c.if-a-ne-COMMA.false c.advance-here.ensures tt in
-    omega (arith, h, q, n.amid.lays.stands.within)
+    omega (arith, h, n.amid.lays.stands.within)
 
 pub patterns-loop-tree-preserved : goal.patterns-loop-tree-preserved
 patterns-loop-tree-preserved t c =

@@ -5,6 +5,7 @@ use Rattle.own.specs.Kinds as kind
 use Rattle.grammar.specs.Shapes.ShapeKind.{FunctionShape}
 use Rattle.parse.specs.Contract.{text, tok_at, read}
 use Rattle.parse.specs.Infos.{FunctionKind}
+use Rattle.parse.proofs.names.Steps.{ready-near}
 use Rattle.parse.proofs.Rule.Amid.{starts, then-passed, done}
 use Rattle.parse.proofs.Rule.Closing.{opens, as-nonterminal}
 use Rattle.parse.proofs.Rule.Chain.{further, then-eats, then-lacks, then-node}
@@ -39,15 +40,15 @@ returns-in_default-word c =
     let d1 = form.then-optional d0 (c.public-first.ensures c.args.tree.now) c.in-Next.is in
     then-lacks d1.amid (refusal c.in_default-word.is) (form.function-enters y o) c.eat-word.ensures
 
-pub function_name-name-requires : goal.function_name-name-requires
-function_name-name-requires c =
+pub name-name-requires : goal.name-name-requires
+name-name-requires c =
     let y = c.requires in
     let o = opens y c.reserve.ensures in
     let d0 = starts kind.Function AnyN form.function_rhs c.args.tree.now o.stands in
     let d1 = form.then-optional d0 (c.public-first.ensures c.args.tree.now) c.in-Next.is in
     let d2 = then-eats d1.amid (omega arith) c.eat-word.ensures c.in-Next-word.is (sign-mark kind.Function class.Fn tt) in
     let f2 = further y o d2 (omega arith) in
-    f2.ready
+    ready-near f2.ready
 
 pub returns-in_default-name : goal.returns-in_default-name
 returns-in_default-name c =
@@ -56,32 +57,32 @@ returns-in_default-name c =
     let d0 = starts kind.Function AnyN form.function_rhs c.args.tree.now o.stands in
     let d1 = form.then-optional d0 (c.public-first.ensures c.args.tree.now) c.in-Next.is in
     let d2 = then-eats d1.amid (omega arith) c.eat-word.ensures c.in-Next-word.is (sign-mark kind.Function class.Fn tt) in
-    then-passed d2 (refusal c.in_default-name.is) (form.function-enters y o) c.function_name-name.ensures
+    then-passed d2 (refusal c.in_default-name.is) (form.function-enters y o) c.name-name.ensures
 
 pub returns-in_default-left : goal.returns-in_default-left
 returns-in_default-left c =
     let y = c.requires in
-    let x = text c.args.draft.now c.args.tokens.now c.args.count in
+    let x = text c.args.source.now in
     let o = opens y c.reserve.ensures in
     let d0 = starts kind.Function AnyN form.function_rhs c.args.tree.now o.stands in
     let d1 = form.then-optional d0 (c.public-first.ensures c.args.tree.now) c.in-Next.is in
     let d2 = then-eats d1.amid (omega arith) c.eat-word.ensures c.in-Next-word.is (sign-mark kind.Function class.Fn tt) in
-    let fname = function-name-class c.function_name-name.ensures c.in-Next-name.is in
+    let fname = function-name-class c.name-name.ensures c.in-Next-name.is in
     let cls = (tok_at x c.in-Next-word.b.at).class in
-    let d3 = then-named d2 c.function_name-name.ensures c.in-Next-name.is (name-role kind.Function cls form.named-function (form.name-identifier cls fname)) in
+    let d3 = then-named d2 c.name-name.ensures c.in-Next-name.is (name-role kind.Function cls form.named-function (form.name-identifier cls fname)) in
     then-lacks d3 (refusal c.in_default-left.is) (form.function-enters y o) c.eat-left.ensures
 
 pub parameters-inner-requires : goal.parameters-inner-requires
 parameters-inner-requires c =
     let y = c.requires in
-    let x = text c.args.draft.now c.args.tokens.now c.args.count in
+    let x = text c.args.source.now in
     let o = opens y c.reserve.ensures in
     let d0 = starts kind.Function AnyN form.function_rhs c.args.tree.now o.stands in
     let d1 = form.then-optional d0 (c.public-first.ensures c.args.tree.now) c.in-Next.is in
     let d2 = then-eats d1.amid (omega arith) c.eat-word.ensures c.in-Next-word.is (sign-mark kind.Function class.Fn tt) in
-    let fname = function-name-class c.function_name-name.ensures c.in-Next-name.is in
+    let fname = function-name-class c.name-name.ensures c.in-Next-name.is in
     let cls = (tok_at x c.in-Next-word.b.at).class in
-    let d3 = then-named d2 c.function_name-name.ensures c.in-Next-name.is (name-role kind.Function cls form.named-function (form.name-identifier cls fname)) in
+    let d3 = then-named d2 c.name-name.ensures c.in-Next-name.is (name-role kind.Function cls form.named-function (form.name-identifier cls fname)) in
     let d4 = then-eats d3 (omega arith) c.eat-left.ensures c.in-Next-left.is (sign-mark kind.Function class.LParen tt) in
     let f4 = further y o d4 (omega arith) in
     f4.ready
@@ -89,28 +90,28 @@ parameters-inner-requires c =
 pub returns-in_default-inner : goal.returns-in_default-inner
 returns-in_default-inner c =
     let y = c.requires in
-    let x = text c.args.draft.now c.args.tokens.now c.args.count in
+    let x = text c.args.source.now in
     let o = opens y c.reserve.ensures in
     let d0 = starts kind.Function AnyN form.function_rhs c.args.tree.now o.stands in
     let d1 = form.then-optional d0 (c.public-first.ensures c.args.tree.now) c.in-Next.is in
     let d2 = then-eats d1.amid (omega arith) c.eat-word.ensures c.in-Next-word.is (sign-mark kind.Function class.Fn tt) in
-    let fname = function-name-class c.function_name-name.ensures c.in-Next-name.is in
+    let fname = function-name-class c.name-name.ensures c.in-Next-name.is in
     let cls = (tok_at x c.in-Next-word.b.at).class in
-    let d3 = then-named d2 c.function_name-name.ensures c.in-Next-name.is (name-role kind.Function cls form.named-function (form.name-identifier cls fname)) in
+    let d3 = then-named d2 c.name-name.ensures c.in-Next-name.is (name-role kind.Function cls form.named-function (form.name-identifier cls fname)) in
     let d4 = then-eats d3 (omega arith) c.eat-left.ensures c.in-Next-left.is (sign-mark kind.Function class.LParen tt) in
     then-passed d4 (refusal c.in_default-inner.is) (form.function-enters y o) c.parameters-inner.ensures
 
 pub returns-in_default-paren : goal.returns-in_default-paren
 returns-in_default-paren c =
     let y = c.requires in
-    let x = text c.args.draft.now c.args.tokens.now c.args.count in
+    let x = text c.args.source.now in
     let o = opens y c.reserve.ensures in
     let d0 = starts kind.Function AnyN form.function_rhs c.args.tree.now o.stands in
     let d1 = form.then-optional d0 (c.public-first.ensures c.args.tree.now) c.in-Next.is in
     let d2 = then-eats d1.amid (omega arith) c.eat-word.ensures c.in-Next-word.is (sign-mark kind.Function class.Fn tt) in
-    let fname = function-name-class c.function_name-name.ensures c.in-Next-name.is in
+    let fname = function-name-class c.name-name.ensures c.in-Next-name.is in
     let cls = (tok_at x c.in-Next-word.b.at).class in
-    let d3 = then-named d2 c.function_name-name.ensures c.in-Next-name.is (name-role kind.Function cls form.named-function (form.name-identifier cls fname)) in
+    let d3 = then-named d2 c.name-name.ensures c.in-Next-name.is (name-role kind.Function cls form.named-function (form.name-identifier cls fname)) in
     let d4 = then-eats d3 (omega arith) c.eat-left.ensures c.in-Next-left.is (sign-mark kind.Function class.LParen tt) in
     let d5 = form.then-parameters d4 c.parameters-inner.ensures c.in-Next-inner.is in
     then-lacks d5.amid (refusal c.in_default-paren.is) (form.function-enters y o) c.eat-paren.ensures
@@ -118,14 +119,14 @@ returns-in_default-paren c =
 pub result-arrow-requires : goal.result-arrow-requires
 result-arrow-requires c =
     let y = c.requires in
-    let x = text c.args.draft.now c.args.tokens.now c.args.count in
+    let x = text c.args.source.now in
     let o = opens y c.reserve.ensures in
     let d0 = starts kind.Function AnyN form.function_rhs c.args.tree.now o.stands in
     let d1 = form.then-optional d0 (c.public-first.ensures c.args.tree.now) c.in-Next.is in
     let d2 = then-eats d1.amid (omega arith) c.eat-word.ensures c.in-Next-word.is (sign-mark kind.Function class.Fn tt) in
-    let fname = function-name-class c.function_name-name.ensures c.in-Next-name.is in
+    let fname = function-name-class c.name-name.ensures c.in-Next-name.is in
     let cls = (tok_at x c.in-Next-word.b.at).class in
-    let d3 = then-named d2 c.function_name-name.ensures c.in-Next-name.is (name-role kind.Function cls form.named-function (form.name-identifier cls fname)) in
+    let d3 = then-named d2 c.name-name.ensures c.in-Next-name.is (name-role kind.Function cls form.named-function (form.name-identifier cls fname)) in
     let d4 = then-eats d3 (omega arith) c.eat-left.ensures c.in-Next-left.is (sign-mark kind.Function class.LParen tt) in
     let d5 = form.then-parameters d4 c.parameters-inner.ensures c.in-Next-inner.is in
     let d6 = then-eats d5.amid (omega arith) c.eat-paren.ensures c.in-Next-paren.is (sign-mark kind.Function class.RParen tt) in
@@ -135,14 +136,14 @@ result-arrow-requires c =
 pub returns-in_default-arrow : goal.returns-in_default-arrow
 returns-in_default-arrow c =
     let y = c.requires in
-    let x = text c.args.draft.now c.args.tokens.now c.args.count in
+    let x = text c.args.source.now in
     let o = opens y c.reserve.ensures in
     let d0 = starts kind.Function AnyN form.function_rhs c.args.tree.now o.stands in
     let d1 = form.then-optional d0 (c.public-first.ensures c.args.tree.now) c.in-Next.is in
     let d2 = then-eats d1.amid (omega arith) c.eat-word.ensures c.in-Next-word.is (sign-mark kind.Function class.Fn tt) in
-    let fname = function-name-class c.function_name-name.ensures c.in-Next-name.is in
+    let fname = function-name-class c.name-name.ensures c.in-Next-name.is in
     let cls = (tok_at x c.in-Next-word.b.at).class in
-    let d3 = then-named d2 c.function_name-name.ensures c.in-Next-name.is (name-role kind.Function cls form.named-function (form.name-identifier cls fname)) in
+    let d3 = then-named d2 c.name-name.ensures c.in-Next-name.is (name-role kind.Function cls form.named-function (form.name-identifier cls fname)) in
     let d4 = then-eats d3 (omega arith) c.eat-left.ensures c.in-Next-left.is (sign-mark kind.Function class.LParen tt) in
     let d5 = form.then-parameters d4 c.parameters-inner.ensures c.in-Next-inner.is in
     let d6 = then-eats d5.amid (omega arith) c.eat-paren.ensures c.in-Next-paren.is (sign-mark kind.Function class.RParen tt) in
@@ -151,14 +152,14 @@ returns-in_default-arrow c =
 pub block-body-requires : goal.block-body-requires
 block-body-requires c =
     let y = c.requires in
-    let x = text c.args.draft.now c.args.tokens.now c.args.count in
+    let x = text c.args.source.now in
     let o = opens y c.reserve.ensures in
     let d0 = starts kind.Function AnyN form.function_rhs c.args.tree.now o.stands in
     let d1 = form.then-optional d0 (c.public-first.ensures c.args.tree.now) c.in-Next.is in
     let d2 = then-eats d1.amid (omega arith) c.eat-word.ensures c.in-Next-word.is (sign-mark kind.Function class.Fn tt) in
-    let fname = function-name-class c.function_name-name.ensures c.in-Next-name.is in
+    let fname = function-name-class c.name-name.ensures c.in-Next-name.is in
     let cls = (tok_at x c.in-Next-word.b.at).class in
-    let d3 = then-named d2 c.function_name-name.ensures c.in-Next-name.is (name-role kind.Function cls form.named-function (form.name-identifier cls fname)) in
+    let d3 = then-named d2 c.name-name.ensures c.in-Next-name.is (name-role kind.Function cls form.named-function (form.name-identifier cls fname)) in
     let d4 = then-eats d3 (omega arith) c.eat-left.ensures c.in-Next-left.is (sign-mark kind.Function class.LParen tt) in
     let d5 = form.then-parameters d4 c.parameters-inner.ensures c.in-Next-inner.is in
     let d6 = then-eats d5.amid (omega arith) c.eat-paren.ensures c.in-Next-paren.is (sign-mark kind.Function class.RParen tt) in
@@ -169,14 +170,14 @@ block-body-requires c =
 pub returns-in_default-body : goal.returns-in_default-body
 returns-in_default-body c =
     let y = c.requires in
-    let x = text c.args.draft.now c.args.tokens.now c.args.count in
+    let x = text c.args.source.now in
     let o = opens y c.reserve.ensures in
     let d0 = starts kind.Function AnyN form.function_rhs c.args.tree.now o.stands in
     let d1 = form.then-optional d0 (c.public-first.ensures c.args.tree.now) c.in-Next.is in
     let d2 = then-eats d1.amid (omega arith) c.eat-word.ensures c.in-Next-word.is (sign-mark kind.Function class.Fn tt) in
-    let fname = function-name-class c.function_name-name.ensures c.in-Next-name.is in
+    let fname = function-name-class c.name-name.ensures c.in-Next-name.is in
     let cls = (tok_at x c.in-Next-word.b.at).class in
-    let d3 = then-named d2 c.function_name-name.ensures c.in-Next-name.is (name-role kind.Function cls form.named-function (form.name-identifier cls fname)) in
+    let d3 = then-named d2 c.name-name.ensures c.in-Next-name.is (name-role kind.Function cls form.named-function (form.name-identifier cls fname)) in
     let d4 = then-eats d3 (omega arith) c.eat-left.ensures c.in-Next-left.is (sign-mark kind.Function class.LParen tt) in
     let d5 = form.then-parameters d4 c.parameters-inner.ensures c.in-Next-inner.is in
     let d6 = then-eats d5.amid (omega arith) c.eat-paren.ensures c.in-Next-paren.is (sign-mark kind.Function class.RParen tt) in
@@ -186,14 +187,14 @@ returns-in_default-body c =
 pub overflow_add-low : goal.overflow_add-low
 overflow_add-low c =
     let y = c.requires in
-    let x = text c.args.draft.now c.args.tokens.now c.args.count in
+    let x = text c.args.source.now in
     let o = opens y c.reserve.ensures in
     let d0 = starts kind.Function AnyN form.function_rhs c.args.tree.now o.stands in
     let d1 = form.then-optional d0 (c.public-first.ensures c.args.tree.now) c.in-Next.is in
     let d2 = then-eats d1.amid (omega arith) c.eat-word.ensures c.in-Next-word.is (sign-mark kind.Function class.Fn tt) in
-    let fname = function-name-class c.function_name-name.ensures c.in-Next-name.is in
+    let fname = function-name-class c.name-name.ensures c.in-Next-name.is in
     let cls = (tok_at x c.in-Next-word.b.at).class in
-    let d3 = then-named d2 c.function_name-name.ensures c.in-Next-name.is (name-role kind.Function cls form.named-function (form.name-identifier cls fname)) in
+    let d3 = then-named d2 c.name-name.ensures c.in-Next-name.is (name-role kind.Function cls form.named-function (form.name-identifier cls fname)) in
     let d4 = then-eats d3 (omega arith) c.eat-left.ensures c.in-Next-left.is (sign-mark kind.Function class.LParen tt) in
     let d5 = form.then-parameters d4 c.parameters-inner.ensures c.in-Next-inner.is in
     let d6 = then-eats d5.amid (omega arith) c.eat-paren.ensures c.in-Next-paren.is (sign-mark kind.Function class.RParen tt) in
@@ -204,14 +205,14 @@ overflow_add-low c =
 pub returns : goal.returns
 returns c =
     let y = c.requires in
-    let x = text c.args.draft.now c.args.tokens.now c.args.count in
+    let x = text c.args.source.now in
     let o = opens y c.reserve.ensures in
     let d0 = starts kind.Function AnyN form.function_rhs c.args.tree.now o.stands in
     let d1 = form.then-optional d0 (c.public-first.ensures c.args.tree.now) c.in-Next.is in
     let d2 = then-eats d1.amid (omega arith) c.eat-word.ensures c.in-Next-word.is (sign-mark kind.Function class.Fn tt) in
-    let fname = function-name-class c.function_name-name.ensures c.in-Next-name.is in
+    let fname = function-name-class c.name-name.ensures c.in-Next-name.is in
     let cls = (tok_at x c.in-Next-word.b.at).class in
-    let d3 = then-named d2 c.function_name-name.ensures c.in-Next-name.is (name-role kind.Function cls form.named-function (form.name-identifier cls fname)) in
+    let d3 = then-named d2 c.name-name.ensures c.in-Next-name.is (name-role kind.Function cls form.named-function (form.name-identifier cls fname)) in
     let d4 = then-eats d3 (omega arith) c.eat-left.ensures c.in-Next-left.is (sign-mark kind.Function class.LParen tt) in
     let d5 = form.then-parameters d4 c.parameters-inner.ensures c.in-Next-inner.is in
     let d6 = then-eats d5.amid (omega arith) c.eat-paren.ensures c.in-Next-paren.is (sign-mark kind.Function class.RParen tt) in

@@ -19,8 +19,8 @@ use Rattle.parse.proofs.program.Forms as form
 use Rattle.parse.proofs.Rule.Refused.{refusal}
 use Rattle.parse.proofs.program.parameter.Goals as goal
 
-pub identifier-first-requires : goal.identifier-first-requires
-identifier-first-requires c =
+pub name-first-requires : goal.name-first-requires
+name-first-requires c =
     let y = c.requires in
     let o = opens y c.reserve.ensures in
     form.opened-near y o
@@ -29,17 +29,17 @@ pub returns-in_default : goal.returns-in_default
 returns-in_default c =
     let y = c.requires in
     let o = opens y c.reserve.ensures in
-    form.parameter-passed y o (refusal c.in_default.is) c.identifier-first.ensures
+    form.parameter-passed y o (refusal c.in_default.is) c.name-first.ensures
 
 pub returns-in_default-colon : goal.returns-in_default-colon
 returns-in_default-colon c =
     let y = c.requires in
     let o = opens y c.reserve.ensures in
     let d0 = starts kind.Parameter AnyN form.parameter_rhs c.args.tree.now o.stands in
-    let x = text c.args.draft.now c.args.tokens.now c.args.count in
-    let name = identifier-class c.identifier-first.ensures c.in-Next.is in
+    let x = text c.args.source.now in
+    let name = identifier-class c.name-first.ensures c.in-Next.is in
     let e = form.at-parameter c.args.st.class (sym (ap (has class.identifiers) (sym (class-at x.ts c.reserve.result.at) ∙ sym o.stands.class_is ∙ o.class_is)) ∙ name) in
-    let d1 = then-named d0 c.identifier-first.ensures c.in-Next.is (name-role kind.Parameter (tok_at x c.reserve.result.at).class form.named-parameter name) in
+    let d1 = then-named d0 c.name-first.ensures c.in-Next.is (name-role kind.Parameter (tok_at x c.reserve.result.at).class form.named-parameter name) in
     then-lacks d1 (refusal c.in_default-colon.is) (enters form.parameter-rule y e o) c.eat-colon.ensures
 
 pub ty-inner-requires : goal.ty-inner-requires
@@ -47,9 +47,9 @@ ty-inner-requires c =
     let y = c.requires in
     let o = opens y c.reserve.ensures in
     let d0 = starts kind.Parameter AnyN form.parameter_rhs c.args.tree.now o.stands in
-    let x = text c.args.draft.now c.args.tokens.now c.args.count in
-    let name = identifier-class c.identifier-first.ensures c.in-Next.is in
-    let d1 = then-named d0 c.identifier-first.ensures c.in-Next.is (name-role kind.Parameter (tok_at x c.reserve.result.at).class form.named-parameter name) in
+    let x = text c.args.source.now in
+    let name = identifier-class c.name-first.ensures c.in-Next.is in
+    let d1 = then-named d0 c.name-first.ensures c.in-Next.is (name-role kind.Parameter (tok_at x c.reserve.result.at).class form.named-parameter name) in
     let d2 = then-eats d1 (omega arith) c.eat-colon.ensures c.in-Next-colon.is (sign-mark kind.Parameter class.Colon tt) in
     let f2 = further y o d2 (omega arith) in
     f2.ready
@@ -59,10 +59,10 @@ returns-in_default-inner c =
     let y = c.requires in
     let o = opens y c.reserve.ensures in
     let d0 = starts kind.Parameter AnyN form.parameter_rhs c.args.tree.now o.stands in
-    let x = text c.args.draft.now c.args.tokens.now c.args.count in
-    let name = identifier-class c.identifier-first.ensures c.in-Next.is in
+    let x = text c.args.source.now in
+    let name = identifier-class c.name-first.ensures c.in-Next.is in
     let e = form.at-parameter c.args.st.class (sym (ap (has class.identifiers) (sym (class-at x.ts c.reserve.result.at) ∙ sym o.stands.class_is ∙ o.class_is)) ∙ name) in
-    let d1 = then-named d0 c.identifier-first.ensures c.in-Next.is (name-role kind.Parameter (tok_at x c.reserve.result.at).class form.named-parameter name) in
+    let d1 = then-named d0 c.name-first.ensures c.in-Next.is (name-role kind.Parameter (tok_at x c.reserve.result.at).class form.named-parameter name) in
     let d2 = then-eats d1 (omega arith) c.eat-colon.ensures c.in-Next-colon.is (sign-mark kind.Parameter class.Colon tt) in
     then-passed d2 (refusal c.in_default-inner.is) (enters form.parameter-rule y e o) c.ty-inner.ensures
 
@@ -71,10 +71,10 @@ returns c =
     let y = c.requires in
     let o = opens y c.reserve.ensures in
     let d0 = starts kind.Parameter AnyN form.parameter_rhs c.args.tree.now o.stands in
-    let x = text c.args.draft.now c.args.tokens.now c.args.count in
-    let name = identifier-class c.identifier-first.ensures c.in-Next.is in
+    let x = text c.args.source.now in
+    let name = identifier-class c.name-first.ensures c.in-Next.is in
     let e = form.at-parameter c.args.st.class (sym (ap (has class.identifiers) (sym (class-at x.ts c.reserve.result.at) ∙ sym o.stands.class_is ∙ o.class_is)) ∙ name) in
-    let d1 = then-named d0 c.identifier-first.ensures c.in-Next.is (name-role kind.Parameter (tok_at x c.reserve.result.at).class form.named-parameter name) in
+    let d1 = then-named d0 c.name-first.ensures c.in-Next.is (name-role kind.Parameter (tok_at x c.reserve.result.at).class form.named-parameter name) in
     let d2 = then-eats d1 (omega arith) c.eat-colon.ensures c.in-Next-colon.is (sign-mark kind.Parameter class.Colon tt) in
     let d3 = then-node d2 c.ty-inner.ensures c.in-Next-inner.is in
     as-nonterminal form.parameter-rule y e (read (shut ParameterShape tt y o d3.amid (omega arith) (form.parameter-head d3.amid) tt ParameterKind refl c.close.ensures))

@@ -4,7 +4,6 @@ use Rattle.kinds.specs.Fields.{counted}
 use Rattle.own.specs.Kinds as kind
 use Rattle.parse.specs.Contract.{read}
 use Rattle.parse.proofs.Rule.Commas as lined
-use Rattle.parse.proofs.token.Tokens.{length-text}
 use Rattle.parse.proofs.program.Forms as form
 use Rattle.parse.proofs.Rule.Refused.{refusal}
 use Rattle.parse.proofs.program.parameters.Goals as goal
@@ -27,12 +26,11 @@ pub loop-here-smaller : goal.loop-here-smaller
 loop-here-smaller c =
     let y = c.requires in
     let v = c.loop-here.invariant in
-    let q = length-text c.args.draft.now c.args.tokens.now c.args.count in
     let it = lined.item form.parameter-rows y v c.loop-here-test.true c.parameter-inner.ensures c.in-Next.is in
     let less = lined.again-less form.parameter-rows y v c.loop-here-test.true c.parameter-inner.ensures c.in-Next.is c.if-a-ne-COMMA.false c.advance-here.ensures in
     let next = lined.lined-again form.parameter-rows y v c.loop-here-test.true c.parameter-inner.ensures c.in-Next.is {Q' = form.Many (c.loop-here.number + 1) c.args.st c.advance-here.result} c.if-a-ne-COMMA.false c.advance-here.ensures
     (form.many-again v.w c.loop-here.number it.kind it.low it.high it.first c.args.st c.loop-here.here c.advance-here.result v.so it.its_kind less) in
-    omega (arith, less, q, next.amid.lays.stands.within)
+    omega (arith, less, next.amid.lays.stands.within)
 
 pub loop-here-preserved : goal.loop-here-preserved
 loop-here-preserved c =

@@ -3,4 +3,4 @@
 use Rattle.parse.proofs.tree.close_number.Goals as goal
 
 pub returns : goal.returns
-returns c = rw c.less.ensures at c.put_number.ensures
+returns c = rw c.saturating_sub.ensures at c.put_number.ensures

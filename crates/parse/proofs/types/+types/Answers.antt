@@ -8,7 +8,6 @@ use Rattle.parse.specs.Contract.{text, tok_at, read, stuck, TypeKind, value_at}
 use Rattle.parse.proofs.Rule.Amid.{starts, then_turns, then-passed}
 use Rattle.parse.proofs.Rule.Closing.{opens, opens-clean, as-nonterminal, enters}
 use Rattle.parse.proofs.Rule.Chain.{further, advances, then-eats, then-lacks, then-node}
-use Rattle.parse.proofs.token.Tokens.{length-text}
 use Rattle.parse.proofs.Rule.Marks.{sign-mark, keeping-mark}
 use Rattle.parse.proofs.Rule.Commas.{AnyN, Lined}
 use Rattle.parse.proofs.Rule.Commas as lined
@@ -30,8 +29,7 @@ array-ty-inner-requires t c =
     let d0 = starts kind.ArrayType AnyN form.array_rhs c.args.tree.now o.stands in
     let d1 = advances d0 (o.class_is ∙ form.at-array c.args.st.class e) (omega arith) c.advance-a.ensures (sign-mark kind.ArrayType class.LBracket tt) in
     let f1 = further y o d1 (omega arith) in
-    let q = length-text c.args.draft.now c.args.tokens.now c.args.count in
-    (omega (arith, f1.ahead, f1.within, q, c.decreases), f1.ready)
+    (omega (arith, f1.ahead, f1.within, c.decreases), f1.ready)
 
 pub array-returns-in_default : goal.array-returns-in_default
 array-returns-in_default t c =
@@ -77,7 +75,7 @@ array-returns-in_default-bracket t c =
 
 pub array-returns : goal.array-returns
 array-returns t c =
-    let x = text c.args.draft.now c.args.tokens.now c.args.count in
+    let x = text c.args.source.now in
     let y = c.requires.ready in
     let e = c.requires.class_value in
     let o = opens-clean y c.clean.ensures c.reserve.ensures in
@@ -87,10 +85,10 @@ array-returns t c =
     let d3 = then-eats d2.amid (omega arith) c.eat-semi.ensures c.in-Next-semi.is (sign-mark kind.ArrayType class.Semi tt) in
     let d4 = then-eats d3 (omega arith) c.eat-decimal.ensures c.in-Next-decimal.is (keeping-mark kind.ArrayType class.DecLiteral tt) in
     let d5 = then-eats d4 (omega arith) c.eat-bracket.ensures c.in-Next-bracket.is (sign-mark kind.ArrayType class.RBracket tt) in
-    let n = value-is c.args.draft.now c.args.tokens.now c.args.count d3.lays.stands c.number-v.ensures in
+    let n = value-is c.args.source.now d3.lays.stands c.number-v.ensures in
     let z = form.wide_is (form.array_head d5) (number_at d5) refl refl in
     as-nonterminal form.array-rule y e (read (shut-judged ArrayTypeShape y o d5 (omega arith) z tt tt TypeKind (omega arith, omega arith) (put-number (value_at x c.in-Next-semi.c.at) n array-numbered c.close_number.ensures) (form.judged-at c.judged-f.ensures c.array_length.ensures d3.lays.stands.start_is)
-    (λ is u v. form.array-fault x.draft is c.number-v.result (tok_at x c.in-Next-semi.c.at) (first-is is u v) (value-text c.args.draft.now c.args.tokens.now c.args.count d3.lays.stands c.number-v.ensures))))
+    (λ is u v. form.array-fault x.draft is c.number-v.result (tok_at x c.in-Next-semi.c.at) (first-is is u v) (value-text c.args.source.now d3.lays.stands c.number-v.ensures))))
 
 pub either-returns-then-a-ne-LANGLE : goal.either-returns-then-a-ne-LANGLE
 either-returns-then-a-ne-LANGLE t c =
@@ -114,8 +112,7 @@ either-ty-left-requires t c =
     let d2 = then_turns (tok class.LAngle ∷ nt n-type ∷ tok class.Comma ∷ nt n-type ∷ tok class.RAngle ∷ []) d1 form.flat-either (form.either-angle (sym d1.lays.stands.class_is ∙ c.if-a-ne-LANGLE.false)) in
     let d3 = advances d2 c.if-a-ne-LANGLE.false (omega arith) c.advance-b.ensures (sign-mark kind.EitherType class.LAngle tt) in
     let f3 = further y o d3 (omega arith) in
-    let q = length-text c.args.draft.now c.args.tokens.now c.args.count in
-    (omega (arith, f3.ahead, f3.within, q, c.decreases), f3.ready)
+    (omega (arith, f3.ahead, f3.within, c.decreases), f3.ready)
 
 pub either-returns-in_default : goal.either-returns-in_default
 either-returns-in_default t c =
@@ -155,8 +152,7 @@ either-ty-right-requires t c =
     let d4 = then-node d3 c.ty-left.ensures c.in-Next.is in
     let d5 = then-eats d4.amid (omega arith) c.eat-comma.ensures c.in-Next-comma.is (sign-mark kind.EitherType class.Comma tt) in
     let f5 = further y o d5 (omega arith) in
-    let q = length-text c.args.draft.now c.args.tokens.now c.args.count in
-    (omega (arith, f5.ahead, f5.within, q, c.decreases), f5.ready)
+    (omega (arith, f5.ahead, f5.within, c.decreases), f5.ready)
 
 pub either-returns-in_default-right : goal.either-returns-in_default-right
 either-returns-in_default-right t c =
@@ -201,12 +197,12 @@ either-returns t c =
     let d5 = then-eats d4.amid (omega arith) c.eat-comma.ensures c.in-Next-comma.is (sign-mark kind.EitherType class.Comma tt) in
     let d6 = then-node d5 c.ty-right.ensures c.in-Next-right.is in
     let d7 = then-eats d6.amid (omega arith) c.eat-angle.ensures c.in-Next-angle.is (sign-mark kind.EitherType class.RAngle tt) in
-    let z = form.wide_is (form.either-head d7) (number_at d7 ∙ form.no_value (text c.args.draft.now c.args.tokens.now c.args.count).draft) form.zero-low form.zero_high in
+    let z = form.wide_is (form.either-head d7) (number_at d7 ∙ form.no_value (text c.args.source.now).draft) form.zero-low form.zero_high in
     as-nonterminal form.either-rule y e (read (shut EitherTypeShape tt y o d7 (omega arith) z tt TypeKind (omega arith, omega arith) c.close-2.ensures))
 
 pub list-returns-then-a-ne-LANGLE : goal.list-returns-then-a-ne-LANGLE
 list-returns-then-a-ne-LANGLE t c =
-    let x = text c.args.draft.now c.args.tokens.now c.args.count in
+    let x = text c.args.source.now in
     let y = c.requires.ready in
     let e = c.requires.class_value in
     let o = opens-clean y c.clean.ensures c.reserve.ensures in
@@ -227,8 +223,7 @@ list-ty-inner-requires t c =
     let d2 = then_turns (tok class.LAngle ∷ nt n-type ∷ tok class.Comma ∷ tok class.DecLiteral ∷ tok class.RAngle ∷ []) d1 form.flat_list (form.list-angle (sym d1.lays.stands.class_is ∙ c.if-a-ne-LANGLE.false)) in
     let d3 = advances d2 c.if-a-ne-LANGLE.false (omega arith) c.advance-b.ensures (sign-mark kind.ListType class.LAngle tt) in
     let f3 = further y o d3 (omega arith) in
-    let q = length-text c.args.draft.now c.args.tokens.now c.args.count in
-    (omega (arith, f3.ahead, f3.within, q, c.decreases), f3.ready)
+    (omega (arith, f3.ahead, f3.within, c.decreases), f3.ready)
 
 pub list-returns-in_default : goal.list-returns-in_default
 list-returns-in_default t c =
@@ -286,7 +281,7 @@ list-returns-in_default-angle t c =
 
 pub list-returns : goal.list-returns
 list-returns t c =
-    let x = text c.args.draft.now c.args.tokens.now c.args.count in
+    let x = text c.args.source.now in
     let y = c.requires.ready in
     let e = c.requires.class_value in
     let o = opens-clean y c.clean.ensures c.reserve.ensures in
@@ -299,10 +294,10 @@ list-returns t c =
     let d5 = then-eats d4.amid (omega arith) c.eat-comma.ensures c.in-Next-comma.is (sign-mark kind.ListType class.Comma tt) in
     let d6 = then-eats d5 (omega arith) c.eat-decimal.ensures c.in-Next-decimal.is (keeping-mark kind.ListType class.DecLiteral tt) in
     let d7 = then-eats d6 (omega arith) c.eat-angle.ensures c.in-Next-angle.is (sign-mark kind.ListType class.RAngle tt) in
-    let n = value-is c.args.draft.now c.args.tokens.now c.args.count d5.lays.stands c.number-v.ensures in
+    let n = value-is c.args.source.now d5.lays.stands c.number-v.ensures in
     let z = form.wide_is (form.list-head d7) (number_at d7) refl refl in
     as-nonterminal form.list-rule y e (read (shut-judged ListTypeShape y o d7 (omega arith) z tt tt TypeKind (omega arith, omega arith) (put-number (value_at x c.in-Next-comma.d.at) n list-numbered c.close_number.ensures) (form.judged-at c.judged-g.ensures c.bound.ensures d5.lays.stands.start_is)
-    (λ is u v. form.list-fault x.draft is c.number-v.result (tok_at x c.in-Next-comma.d.at) u (first-is is u v) (value-text c.args.draft.now c.args.tokens.now c.args.count d5.lays.stands c.number-v.ensures))))
+    (λ is u v. form.list-fault x.draft is c.number-v.result (tok_at x c.in-Next-comma.d.at) u (first-is is u v) (value-text c.args.source.now d5.lays.stands c.number-v.ensures))))
 
 pub option-returns-then-a-ne-LANGLE : goal.option-returns-then-a-ne-LANGLE
 option-returns-then-a-ne-LANGLE t c =
@@ -326,8 +321,7 @@ option-ty-inner-requires t c =
     let d2 = then_turns (tok class.LAngle ∷ nt n-type ∷ tok class.RAngle ∷ []) d1 form.flat-option (form.option-angle (sym d1.lays.stands.class_is ∙ c.if-a-ne-LANGLE.false)) in
     let d3 = advances d2 c.if-a-ne-LANGLE.false (omega arith) c.advance-b.ensures (sign-mark kind.OptionType class.LAngle tt) in
     let f3 = further y o d3 (omega arith) in
-    let q = length-text c.args.draft.now c.args.tokens.now c.args.count in
-    (omega (arith, f3.ahead, f3.within, q, c.decreases), f3.ready)
+    (omega (arith, f3.ahead, f3.within, c.decreases), f3.ready)
 
 pub option-returns-in_default : goal.option-returns-in_default
 option-returns-in_default t c =
@@ -366,7 +360,7 @@ option-returns t c =
     let d3 = advances d2 c.if-a-ne-LANGLE.false (omega arith) c.advance-b.ensures (sign-mark kind.OptionType class.LAngle tt) in
     let d4 = then-node d3 c.ty-inner.ensures c.in-Next.is in
     let d5 = then-eats d4.amid (omega arith) c.eat-angle.ensures c.in-Next-angle.is (sign-mark kind.OptionType class.RAngle tt) in
-    let z = form.wide_is (form.option-head d5) (number_at d5 ∙ form.no_value (text c.args.draft.now c.args.tokens.now c.args.count).draft) form.zero-low form.zero_high in
+    let z = form.wide_is (form.option-head d5) (number_at d5 ∙ form.no_value (text c.args.source.now).draft) form.zero-low form.zero_high in
     as-nonterminal form.option-rule y e (read (shut OptionTypeShape tt y o d5 (omega arith) z tt TypeKind (omega arith, omega arith) c.close-2.ensures))
 
 pub tuple-types-inner-requires : goal.tuple-types-inner-requires
@@ -378,8 +372,7 @@ tuple-types-inner-requires t c =
     let k = o.class_is ∙ form.at-tuple c.args.st.class e in
     let d1 = advances d0 k (omega arith) c.advance-a.ensures (sign-mark kind.TupleType class.LParen tt) in
     let f1 = further y o d1 (omega arith) in
-    let q = length-text c.args.draft.now c.args.tokens.now c.args.count in
-    (omega (arith, f1.ahead, f1.within, q, c.decreases), f1.ready)
+    (omega (arith, f1.ahead, f1.within, c.decreases), f1.ready)
 
 pub tuple-returns-in_default : goal.tuple-returns-in_default
 tuple-returns-in_default t c =
@@ -440,10 +433,9 @@ pub types-loop-here-smaller : goal.types-loop-here-smaller
 types-loop-here-smaller t c =
     let y = c.requires in
     let v = c.loop-here.invariant in
-    let q = length-text c.args.draft.now c.args.tokens.now c.args.count in
     let h = lined.again-less form.type-rows y v c.loop-here-test.true c.ty-inner.ensures c.in-Next.is c.if-a-ne-COMMA.false c.advance-here.ensures in
     let n = lined.lined-again form.type-rows y v c.loop-here-test.true c.ty-inner.ensures c.in-Next.is {Q' = λ w. Unit {0}} c.if-a-ne-COMMA.false c.advance-here.ensures tt in
-    omega (arith, h, q, n.amid.lays.stands.within)
+    omega (arith, h, n.amid.lays.stands.within)
 
 pub types-loop-here-preserved : goal.types-loop-here-preserved
 types-loop-here-preserved t c =

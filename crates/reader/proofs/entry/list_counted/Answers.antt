@@ -6,5 +6,5 @@ use Rattle.lexer.specs.Limits.{draft_limits}
 use Rattle.lexer.proofs.Fits.{lexed-few}
 use Rattle.reader.proofs.entry.list_counted.Goals as goal
 
-pub list_in-requires-2-clause-room : goal.list_in-requires-2-clause-room
-list_in-requires-2-clause-room c = let h = lexed-few draft_limits c.args.draft.now (length c.args.tokens.now) c.args.count c.requires.lexed in (omega (arith, h), omega arith)
+pub list_in-requires-2 : goal.list_in-requires-2
+list_in-requires-2 c = let h = lexed-few draft_limits c.args.lexed.now.draft.now (length c.args.lexed.now.words.now) c.args.lexed.now.count c.args.lexed.now.counted in (omega (arith, h), omega arith)

@@ -8,10 +8,10 @@ use Rattle.reader.proofs.entry.list_in.Goals as goal
 
 pub returns-clause-used : goal.returns-clause-used
 returns-clause-used g c =
-    let h = c.requires.room in
-    (law.same_is (length c.args.out.now) (same-records c.args.draft.now c.args.count (length c.args.tokens.now) _ _ c.requires.lexed (omega (arith, h)) (omega (arith, h))) c.list_by.ensures.used c.list_by.ensures.bytes).0
+    let h = c.requires in
+    (law.same_is (length c.args.out.now) (same-records c.args.lexed.now.draft.now c.args.lexed.now.count (length c.args.lexed.now.words.now) _ _ c.args.lexed.now.counted (omega (arith, h)) (omega (arith, h))) c.list_by.ensures.used c.list_by.ensures.bytes).0
 
 pub returns-clause-bytes : goal.returns-clause-bytes
 returns-clause-bytes g c =
-    let h = c.requires.room in
-    (law.same_is (length c.args.out.now) (same-records c.args.draft.now c.args.count (length c.args.tokens.now) _ _ c.requires.lexed (omega (arith, h)) (omega (arith, h))) c.list_by.ensures.used c.list_by.ensures.bytes).1
+    let h = c.requires in
+    (law.same_is (length c.args.out.now) (same-records c.args.lexed.now.draft.now c.args.lexed.now.count (length c.args.lexed.now.words.now) _ _ c.args.lexed.now.counted (omega (arith, h)) (omega (arith, h))) c.list_by.ensures.used c.list_by.ensures.bytes).1

@@ -7,16 +7,16 @@ use Rattle.reader.proofs.Laws.{tokens-held, lexer-refused}
 use Rattle.reader.proofs.EntryLaws as law
 use Rattle.reader.proofs.entry.list_lexed.Goals as goal
 
-pub list_counted-requires-clause-held : goal.list_counted-requires-clause-held
-list_counted-requires-clause-held c =
-    tokens-held c.args.draft.now _ c.args.tokens.now c.in-Tokens.count (sym c.in-Tokens.ensures.result_value) (c.in-Tokens.ensures.held.holds _ _ refl)
+pub invariant_of-list_counted-clause-held : goal.invariant_of-list_counted-clause-held
+invariant_of-list_counted-clause-held c =
+    tokens-held c.args.draft.now _ c.args.tokens.now c.in-Ok.count (sym c.in-Ok.ensures.result_value) (c.in-Ok.ensures.held.holds _ _ refl)
 
-pub returns-in-Refused-clause-used : goal.returns-in-Refused-clause-used
-returns-in-Refused-clause-used c =
+pub returns-in-Err-clause-used : goal.returns-in-Err-clause-used
+returns-in-Err-clause-used c =
     (law.refused-is whole_file c.args.draft.now (length c.args.tokens.now) _ _ _ (length c.args.out.now) c.refusal.ensures.used c.refusal.ensures.bytes
-    (lexer-refused whole_file c.args.draft.now (length c.args.tokens.now) _ (sym c.in-Refused.ensures.result_value))).0
+    (lexer-refused whole_file c.args.draft.now (length c.args.tokens.now) _ (sym c.in-Err.ensures.result_value))).0
 
-pub returns-in-Refused-clause-bytes : goal.returns-in-Refused-clause-bytes
-returns-in-Refused-clause-bytes c =
+pub returns-in-Err-clause-bytes : goal.returns-in-Err-clause-bytes
+returns-in-Err-clause-bytes c =
     (law.refused-is whole_file c.args.draft.now (length c.args.tokens.now) _ _ _ (length c.args.out.now) c.refusal.ensures.used c.refusal.ensures.bytes
-    (lexer-refused whole_file c.args.draft.now (length c.args.tokens.now) _ (sym c.in-Refused.ensures.result_value))).1
+    (lexer-refused whole_file c.args.draft.now (length c.args.tokens.now) _ (sym c.in-Err.ensures.result_value))).1

@@ -1,0 +1,109 @@
+// The stream of cases that a program is asked on its standard input. A case: a line of numbers with one space between, the last of them the length of
+// the text behind; then the text and a line end.
+#![tactic(auto)]
+
+ghost use Rattle.std.specs.Prelude.{◌≡◌, [], ◌∷◌, ◌++◌, ◌<◌, length, IfSome, MatchOption, MatchResult};
+ghost use Rattle.std.specs.Iterator.{at_most};
+ghost use Rattle.cases.specs.Stream.{StartsWith};
+
+use std::error::Error;
+use std::fmt;
+
+/// A case: the numbers of its line, and its text.
+#[derive(Clone, Copy, Debug)]
+pub struct Case<'a, const N: usize> {
+    pub numbers: [usize; N],
+    pub text: &'a [u8],
+}
+
+/// The stream does not go on with a case.
+#[derive(Clone, Copy, Debug)]
+pub struct BadCase;
+
+impl fmt::Display for BadCase {
+    fn fmt<W: fmt::Write>(&self, f: &mut fmt::Formatter<W>) -> fmt::Result {
+        f.write_str("BAD CASE")
+    }
+}
+
+impl Error for BadCase {}
+
+/// The cases of a stream, up to the first that is wrong.
+#[derive(Drop)]
+pub struct Cases<'a, const N: usize> {
+    pub stream: &'a [u8],
+}
+
+// The number that digits write; `parse` alone would take a sign too.
+fn number(digits: &str) -> Option<usize> {
+    if !digits.bytes().all(|byte| byte.is_ascii_digit()) {
+        return None;
+    }
+    digits.parse().ok()
+}
+
+// The numbers of a line that has so many.
+fn numbers<const N: usize>(line: &[u8]) -> Option<[usize; N]> {
+    let mut fields = str::from_utf8(line).ok()?.split(' ');
+    let mut numbers = [0; N];
+    for value in &mut numbers {
+        *value = number(fields.next()?)?;
+    }
+    fields.next().is_none().then_some(numbers)
+}
+
+// The first line, and what is behind its end.
+fn split_line(stream: &[u8]) -> Option<(&[u8], &[u8])>
+    ensures { IfSome result (λ parts. stream.now ≡ parts.0.now ++ 10 ∷ parts.1.now) }
+{
+    let end = stream.iter().position(|byte| *byte == b'\n')?;
+    Some((&stream[..end], &stream[end + 1..]))
+}
+
+// The first case, and what is behind it.
+fn split_case<const N: usize>(stream: &[u8]) -> Option<(Case<'_, N>, &[u8])>
+    ensures case { IfSome result (λ parts. StartsWith stream.now parts.0.numbers parts.0.text.now parts.1.now) }
+    ensures less { IfSome result (λ parts. length parts.1.now < length stream.now) }
+{
+    let (line, behind) = split_line(stream)?;
+    let numbers = numbers::<N>(line)?;
+    let (text, behind) = behind.split_at_checked(*numbers.last()?)?;
+    let (end, rest) = behind.split_first()?;
+    if *end != b'\n' {
+        return None;
+    }
+    Some((Case { numbers, text }, rest))
+}
+
+impl<'a, const N: usize> Cases<'a, N> {
+    pub fn new(stream: &'a [u8]) -> Self
+        ensures { result.stream.now ≡ stream.now }
+    {
+        Cases { stream }
+    }
+}
+
+impl<'a, const N: usize> Iterator for Cases<'a, N> {
+    type Item = Result<Case<'a, N>, BadCase>;
+
+    ghost next_gives = { λ before item after. MatchOption item (before.stream.now ≡ [])
+        (λ found. MatchResult found (λ case. StartsWith before.stream.now case.numbers case.text.now after.stream.now) (λ _. after.stream.now ≡ [])) };
+
+    ghost remaining = { λ cases. at_most (length cases.stream.now) };
+
+    fn next(&mut self) -> Option<Self::Item> {
+        if self.stream.is_empty() {
+            return None;
+        }
+        let Some((case, rest)) = split_case(self.stream) else {
+            self.stream = &[];
+            return Some(Err(BadCase));
+        };
+        self.stream = rest;
+        Some(Ok(case))
+    }
+
+    fn size_hint(&self) -> (usize, Option<usize>) {
+        (0, Some(self.stream.len()))
+    }
+}

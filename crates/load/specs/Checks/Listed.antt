@@ -1,0 +1,17 @@
+-- The lines of a listing of the code, held against its form, and their records.
+-- Assumes nothing: these are definitions.
+use Rattle.std.specs.Prelude.{List, ℕ}
+use Rattle.own.specs.Tree.{Rec}
+use Rattle.load.specs.Form.{widths_of}
+use Rattle.load.specs.Meant.{as_form}
+use Rattle.load.specs.Listing.Read.{lines_read, records_in}
+use Rattle.load.specs.declared.record.Listing.{Listing}
+
+abbrev pub fields : Listing → List ℕ
+fields l = widths_of (as_form l.form)
+
+abbrev pub its_lines : Listing → List (List ℕ)
+its_lines l = lines_read (fields l) l.text.now
+
+abbrev pub its_records : Listing → List Rec
+its_records l = records_in (fields l) l.text.now

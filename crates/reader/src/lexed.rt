@@ -1,0 +1,15 @@
+// The tokens of a draft as the lexer leaves them in a buffer: what the parser is lent.
+ghost use Rattle.std.specs.Prelude.{◌≡◌, length};
+ghost use Rattle.text.specs.Answers.{accepted};
+ghost use Rattle.lexer.specs.Lexemes.{lexemes};
+ghost use Rattle.lexer.specs.Limits.{draft_limits, lexed_of, tokens_of};
+ghost use Rattle.lexer.specs.Buffer.{tokens_in};
+
+#[derive(Clone, Copy)]
+pub(crate) struct Lexed<'a> {
+    pub(crate) draft: &'a [u8],
+    pub(crate) words: &'a [u32],
+    pub(crate) count: usize,
+    ghost counted: { lexed_of draft_limits draft.now (length words.now) ≡ accepted count 0 },
+    ghost held: { tokens_in count words.now ≡ tokens_of (lexemes draft.now) },
+}
