@@ -13,12 +13,13 @@ from program import ROOT, finish, listing, loaded
 
 DOCUMENT = ROOT / "docs/REFUSALS.md"
 CASES = ROOT / "crates/reader_cases"
+NUMBERS = {name: int(number) for name, number in re.findall(r"^    (\w+) = (\d+),$", (ROOT / "crates/text/src/refusal.rt").read_text(), re.M)}
 ENTRY = re.compile(r"""^(?:
       Smallest:[ ](?P<bytes>[\d,]+)[ ]byte
     | Draft:(?:[ ]`(?P<span>[^`\n]+)`\n|\n\n```sh\n(?P<command>[^`]+)```\n)\n```text\n(?P<line>[^`]+)```$
     | Call:[ ]`(?P<entry>read|read_file)`[ ]with[ ](?:draft[ ]`(?P<lent>[^`\n]+)`|the[ ]empty[ ]draft),[ ]
       (?P<tokens>\d+)[ ]words[ ]for[ ]tokens,[ ](?P<tree>\d+)[ ]words[ ]for[ ]the[ ]tree\n\n
-      ```text\nRefused[ ]{[ ]number:[ ](?P<number>\d+),[ ]place:[ ](?P<place>\d+)[ ]}\n```$
+      ```text\nErr\(Refused[ ]{[ ]refusal:[ ](?P<refusal>\w+),[ ]place:[ ](?P<place>\d+)[ ]}\)\n```$
     | Listing(?:,[ ]with[ ](?P<words>\d+)[ ]words)?:\n\n```sh\n(?P<writer>[^`]+)```\n\n```text\n(?P<said>[^`]+)```$
     )""", re.M | re.X)
 
@@ -55,9 +56,10 @@ def answers():
 
 def call_fault(number, found, draft, results):
     """What is wrong with a call of `read` or `read_file`, if anything."""
-    expected = b"refused %d %d zeros" % (int(found["number"]), int(found["place"]))
-    if int(found["number"]) != number:
-        return f"the call has number {found['number']}"
+    given = NUMBERS.get(found["refusal"], 0)
+    expected = b"refused %d %d zeros" % (given, int(found["place"]))
+    if given != number:
+        return f"the call has number {given}"
     answer = results.get((found["entry"], int(found["tokens"]), int(found["tree"]), draft), b"no such case")
     return "" if answer == expected else f"crates/reader_cases, {draft}: {answer}, the document has {expected}"
 
