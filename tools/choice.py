@@ -26,6 +26,7 @@ class Choice:
         self.code, self.proof, self.what, self.alternatives, self.entries = code, proof, what, alternatives, entries[:type_names]
         if len(set(entries[type_names:])) != 1:
             raise SystemExit(f"{code}: the names of types lead to several alternatives")
+        self.named = upper((["Absent"] + alternatives)[entries[type_names]])
 
 
 def choices():
@@ -77,12 +78,14 @@ def code(classes, all_choices):
     n = len(all_choices[0].entries)
     out = f"// The classes are the numbers below this one.\nconst CLASSES: u32 = {classes};\n\n"
     out += f"// Those from this one on are the names of types, which all lead to the same alternative; a table has an entry for each of the others.\nconst TYPE_NAMES: u32 = {n};\n\n"
-    out += f"type Choices = [u8; {n}];\n\n"
+    out += "// The alternatives of the classes below those, and what all names of types lead to.\n"
+    out += f"struct Choices {{\n    of: [u8; {n}],\n    named: u32,\n}}\n\n"
     out += "// At a class that begins none of the alternatives.\npub(crate) const ABSENT: u32 = 0;\n\n"
     for t in all_choices:
         out += f"// {t.what}.\n"
         out += "".join(f"pub(crate) const {upper(a)}: u32 = {i};\n\n" for i, a in enumerate(t.alternatives, 1))
-        out += f'const {t.code}: Choices = *b"\\\n' + "\\\n".join("    " + "".join(map(byte, row)) for row in lines(t.entries)) + '";\n\n'
+        table = "\\\n".join("    " + "".join(map(byte, row)) for row in lines(t.entries))
+        out += f'const {t.code}: Choices = Choices {{\n    of: *b"\\\n{table}",\n    named: {t.named},\n}};\n\n'
     return out
 
 

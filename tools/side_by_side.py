@@ -1,10 +1,11 @@
 #!/usr/bin/env python3
 """Prints, as text for a page, each public function, type, definition and theorem whose statement differs from that of an older commit, old and new side by side.
 
-    python3 tools/side_by_side.py COMMIT [functions] [types] [definitions] [theorems]
+    python3 tools/side_by_side.py COMMIT [functions] [types] [definitions] [theorems] [laws]
 
 A function's statement is its signature with its clauses, a type's its declaration with its invariants, a definition's its whole text, a theorem's its type. A
-name is looked for in its crate first and then in all, so one that only moved is not listed. Answers and invariants of proofs are no statements."""
+name is looked for in its crate first and then in all, so one that only moved is not listed. Answers and invariants of proofs are no statements. Laws are the
+theorems whose names stood in specs/ at COMMIT or at the commit that docs/PORT.md begins with; a step inside a proof (`go`) is none."""
 import pathlib
 import re
 import subprocess
@@ -15,6 +16,7 @@ import tempfile
 
 ROOT = pathlib.Path(__file__).resolve().parent.parent
 WORDS = ("functions", "types", "definitions", "theorems")
+STEPS = ("go",)
 
 
 def flat(text):
@@ -75,8 +77,30 @@ def older(commit):
     return pathlib.Path(folder)
 
 
+def in_specs(root):
+    """The names of the theorems that stand in specs/, as they are spelled now."""
+    named = set()
+    for path in (root / "crates").glob("*/specs/**/*.antt"):
+        named |= {spelled(name) for name in re.findall(r"^ *(?:pub )?([^\s:({=]+)(?: \{[^}]*\})? : ", path.read_text(), re.M)}
+    return named - set(STEPS)
+
+
+def spelled(name):
+    """A name in one spelling, whichever kit it is of."""
+    return re.sub(r"(?<=[a-z0-9])(?=[A-Z])", "-", name).replace("_", "-").lower()
+
+
+def as_laws(found, stood=None):
+    """The theorems of these names, or all, under a kind of their own."""
+    return {("laws", crate, name): said for (kind, crate, name), said in found.items() if kind == "theorems" and (stood is None or spelled(name) in stood)}
+
+
 def main():
     old, new = items(older(sys.argv[1])), items(ROOT)
+    if "laws" in sys.argv:
+        stood = in_specs(older(sys.argv[1])) | in_specs(older((ROOT / "docs/PORT.md").read_text().split()[0]))
+        old.update(as_laws(old, stood))
+        new.update(as_laws(new))
     anywhere = {}
     for (kind, crate, name), statements in new.items():
         anywhere.setdefault((kind, name.split("::")[-1]), []).extend(statements)

@@ -6,7 +6,7 @@ Nothing here needs trust: the crate's proofs compute each rule of the constants 
     tools/words.py            write the files
     tools/words.py --check    exit 1 if a file is not what would be written
 A word is looked up by one candidate: its length, and its first, second and last byte where they are needed, give a slot of its table, which names the only
-word that it can be. Of the ways to tell a table's words apart, that one is taken which reads the fewest bytes and multiplies least; then the fewest slots.
+word that it can be. Of the ways to tell a table's words apart, that one is taken which reads the fewest bytes and multiplies least.
 """
 import itertools, pathlib, re, sys
 
@@ -33,23 +33,21 @@ def slot(word, m):
     return len(b) + m[0] * b[0] + m[1] * b[1] + m[2] * b[-1]
 
 
-# A table of 64 slots or fewer the compiler turns into a mask of bits, which takes more instructions than the table. More than 256 are never needed.
-FEWEST_SLOTS, MOST_SLOTS = 128, 256
+# So many slots each table has. One of 64 or fewer the compiler would turn into a mask of bits, which takes more instructions than the table.
+SLOTS = 256
 
 # A byte times one of these takes no multiplication.
 SHIFTS = (0, 1, 2, 4, 8)
 
 
 def hashing(table):
-    """The number of slots, a power of two, and the multipliers of the first, the second and the last byte with which no two words share one."""
-    sizes = (FEWEST_SLOTS, MOST_SLOTS)
+    """The multipliers of the first, the second and the last byte with which no two words share a slot."""
     for read in range(4):  # so many bytes, the last of a word only where the first two do not do
         for multiplied in range(read + 1):
-            for size in sizes:
-                each = [range(1, min(size, 64)) if i < read else (0,) for i in range(3)]
-                for m in itertools.product(*each):
-                    if sum(x not in SHIFTS for x in m) == multiplied and len({slot(w, m) % size for w in table}) == len(table):
-                        return size, m
+            each = [range(1, 64) if i < read else (0,) for i in range(3)]
+            for m in itertools.product(*each):
+                if sum(x not in SHIFTS for x in m) == multiplied and len({slot(w, m) % SLOTS for w in table}) == len(table):
+                    return m
     sys.exit("no slots tell the words apart")
 
 
@@ -69,32 +67,28 @@ def main():
     names = [name for _, name in order]
     hashes = [hashing(t) for t in tables]
     slots = []
-    for t, (size, m) in zip(tables, hashes):
-        row = [255] * size
+    for t, m in zip(tables, hashes):
+        row = [255] * SLOTS
         for k, w in enumerate(t):
-            row[slot(w, m) % size] = k
+            row[slot(w, m) % SLOTS] = k
         slots.append(row)
     lengths = [len(w) for w in entries]
     longest = [max(map(len, t)) for t in tables]
 
-    def array(name, kind, values, count=None):
-        """A few numbers in one line, bytes as a byte string; `rt fmt` lays out the others."""
-        head = f"pub const {name}: [{kind}; {count or len(values)}] = "
-        if len(values) >= 14 and kind == "u8":
-            rows = ["".join(f"\\x{v:02x}" for v in values[i:i + 32]) for i in range(0, len(values), 32)]
-            return head + '*b"\\\n    ' + "\\\n    ".join(rows) + '";\n'
-        return head + "[" + ", ".join(map(str, values)) + "];\n"
+    def bytes_of(values):
+        return '*b"\\\n    ' + "\\\n    ".join("".join(f"\\x{v:02x}" for v in values[i:i + 32]) for i in range(0, len(values), 32)) + '"'
 
-    code = "// The words in one constant byte string, and where each lies. Made by tools/words.py from the lists of specs/Words.antt.\n"
-    code += "// How many tables, entries and letters there are, and how many bytes the shortest and the longest word has.\n"
-    for name, value in (("TABLES", len(tables)), ("ENTRIES", len(entries)), ("LETTERS", len(letters)), ("FEWEST", min(lengths)), ("MOST", max(lengths))):
-        code += f"pub const {name}: usize = {value};\n\n"
-    code += f'pub const BYTES: [u8; LETTERS] =\n    *b"{letters}";\n\n'
-    code += "// Where each entry starts in BYTES, and its length.\n" + array("STARTS", "u16", starts, "ENTRIES") + "\n" + array("SIZES", "u8", lengths, "ENTRIES") + "\n"
-    code += "// The first entry of each table, and how many words it has.\n" + array("BASES", "u8", bases, "TABLES") + "\n" + array("COUNTS", "u8", [len(t) for t in tables], "TABLES") + "\n"
-    code += "// How many bytes the longest word of each table has.\n" + array("LONGEST", "u8", longest, "TABLES") + "\n"
-    code += "// The slots of each table: the word whose length and bytes lead there, 255 (ff) where there is none.\n"
-    code += "\n".join(array(f"{name}_SLOTS", "u8", row) for name, row in zip(names, slots))
+    code = "// The words in one constant byte string, where each lies, and how those of each table are found. Made by tools/words.py from the lists of specs/Words.antt.\n"
+    code += "use crate::lookup::Words;\n\n"
+    code += "// How many entries, letters and slots there are, and how many bytes the shortest word has.\n"
+    for name, value in (("ENTRIES", len(entries)), ("LETTERS", len(letters)), ("SLOTS", SLOTS), ("FEWEST", min(lengths))):
+        code += f"pub(crate) const {name}: usize = {value};\n\n"
+    code += f'pub(crate) static BYTES: [u8; LETTERS] =\n    *b"{letters}";\n\n'
+    code += f"// Where each entry starts in BYTES, and its length.\npub(crate) static STARTS: [u16; ENTRIES] = [{', '.join(map(str, starts))}];\n\n"
+    code += f"pub(crate) static SIZES: [u8; ENTRIES] = {bytes_of(lengths)};\n"
+    for name, base, t, longest_, m, row in zip(names, bases, tables, longest, hashes, slots):
+        code += f"\npub(crate) static {name}: Words = Words {{\n    first: {base},\n    count: {len(t)},\n    longest: {longest_},\n    multipliers: [{', '.join(map(str, m))}],\n"
+        code += f"    slots: {bytes_of(row)},\n}};\n"
 
     lists_of_entries, at = [], 0
     while at < len(entries):
@@ -103,13 +97,9 @@ def main():
         at += len(t)
     spec = f"""-- How the words of Words.antt lie in the constants of the crate. Only the crate's own proofs need it. Made by tools/words.py.
 -- Assumes nothing.
-use Rattle.std.specs.Prelude.{{List, [], ◌∷◌, ◌++◌, ℕ, ◌+◌, ◌*◌, ◌-◌, length, get_or}}
+use Rattle.std.specs.Prelude.{{List, ◌++◌, ℕ, ◌+◌, ◌*◌, ◌-◌, ◌%◌, length, get_or}}
 use Rattle.text.specs.Ascii.{{ascii}}
-use Rattle.words.specs.Words.{{{", ".join(dict.fromkeys(names))}}}
-
--- the tables in the order of `Table`
-unfoldable pub tables : List (List (List ℕ))
-tables = {" ∷ ".join(names)} ∷ []
+use Rattle.words.specs.Words.{{{", ".join(lists_of_entries)}}}
 
 -- the entries: every word of every table, a table within another once
 unfoldable pub entries : List (List ℕ)
@@ -120,32 +110,15 @@ unfoldable pub letters : List ℕ
 letters = ascii "{letters}"
 
 -- the slot of a word, by the multipliers of its first, second and last byte
-unfoldable pub slot_of : ℕ → ℕ → ℕ → List ℕ → ℕ
-slot_of first second last w = length w + first * get_or w 0 0 + second * get_or w 1 0 + last * get_or w (length w - 1) 0
-
--- how a table is looked up: how many slots it has, and the multipliers
-pub record Hash : Type 0 where
-  pub size : ℕ
-  pub first : ℕ
-  pub second : ℕ
-  pub last : ℕ
-
--- those of each table
-unfoldable pub hashes : List Hash
-hashes =
-    {(" ∷" + chr(10) + "    ").join(f"record {{ size = {size}; first = {m[0]}; second = {m[1]}; last = {m[2]} }}" for size, m in hashes)} ∷ []
+unfoldable pub slot_of : List ℕ → List ℕ → ℕ
+slot_of m w = (length w + get_or m 0 0 * get_or w 0 0 + get_or m 1 0 * get_or w 1 0 + get_or m 2 0 * get_or w (length w - 1) 0) % {SLOTS}
 """
     def values(name, what, numbers):
         rows = [" ∷ ".join(map(str, numbers[i:i + 32])) for i in range(0, len(numbers), 32)]
         return f"\n-- {what}\nunfoldable pub {name} : List ℕ\n{name} =\n    " + " ∷\n    ".join(rows) + " ∷ []\n"
 
-    lists_ = "-- The constants of src/layout.rt as lists. Made by tools/words.py.\n-- Assumes nothing.\nuse Rattle.std.specs.Prelude.{List, [], ◌∷◌, ℕ}\n"
+    lists_ = "-- Where the entries lie, by src/layout.rt, as lists. Made by tools/words.py.\n-- Assumes nothing.\nuse Rattle.std.specs.Prelude.{List, [], ◌∷◌, ℕ}\n"
     lists_ += values("starts", "where each entry starts among the letters", starts) + values("sizes", "the length of each entry", lengths)
-    lists_ += values("bases", "the first entry of each table", bases) + values("counts", "how many words each table has", [len(t) for t in tables])
-    lists_ += values("longest", "how many bytes the longest word of each table has", longest)
-    for name, row in zip(names, slots):
-        lists_ += values(name.lower() + "_slots", "the word in each slot, 255 where there is none", row)
-    lists_ += "\n-- the slots of each table\nunfoldable pub slots : List (List ℕ)\nslots = " + " ∷ ".join(n.lower() + "_slots" for n in names) + " ∷ []\n"
     status = 0
     made = formatted({f"crates/words/{path}": text for path, text in (("proofs/Constants.antt", lists_), ("src/layout.rt", code), ("specs/Layout.antt", spec))})
     for path, text in made.items():
@@ -156,7 +129,7 @@ hashes =
                 status = 1
         else:
             path.write_text(text)
-    print(f"{len(entries)} entries, {len(letters)} letters, slots and multipliers {hashes}, lengths {min(lengths)} to {max(lengths)}")
+    print(f"{len(entries)} entries, {len(letters)} letters, multipliers {hashes}, lengths {min(lengths)} to {max(lengths)}")
     sys.exit(status)
 
 

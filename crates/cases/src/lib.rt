@@ -2,9 +2,10 @@
 // the text behind; then the text and a line end.
 #![tactic(auto)]
 
-ghost use Rattle.std.specs.Prelude.{◌≡◌, [], ◌∷◌, ◌++◌, ◌<◌, length, IfSome, MatchOption, MatchResult};
+ghost use Rattle.std.specs.Prelude.{◌≡◌, [], ◌∷◌, ◌++◌, ◌<◌, length, true, cond, codes, All, IfSome, MatchOption, MatchResult};
 ghost use Rattle.std.specs.Iterator.{at_most};
-ghost use Rattle.cases.specs.Stream.{StartsWith};
+ghost use Rattle.std.specs.Bool.{Decides};
+ghost use Rattle.cases.specs.Stream.{StartsWith, Within};
 
 use std::error::Error;
 use std::fmt;
@@ -28,10 +29,11 @@ impl fmt::Display for BadCase {
 
 impl Error for BadCase {}
 
-/// The cases of a stream, up to the first that is wrong.
+/// The cases of a stream, up to the first that is wrong or asks for more than the limits of its numbers.
 #[derive(Drop)]
 pub struct Cases<'a, const N: usize> {
     pub stream: &'a [u8],
+    pub limits: [usize; N],
 }
 
 // The number that digits write; `parse` alone would take a sign too.
@@ -52,6 +54,20 @@ fn numbers<const N: usize>(line: &[u8]) -> Option<[usize; N]> {
     fields.next().is_none().then_some(numbers)
 }
 
+/// Whether all words are 0.
+pub fn is_zero(words: &[u32]) -> bool
+    ensures { Decides result (All (λ word. word ≡ 0) words.now) }
+{
+    words.iter().all(|word| *word == 0)
+}
+
+/// What is shown of words or bytes that must be 0, by whether all are.
+pub fn zeros(all: bool) -> &'static str
+    ensures { result.now ≡ cond all (codes "zeros") (codes "NOT ZERO") }
+{
+    if all { "zeros" } else { "NOT ZERO" }
+}
+
 // The first line, and what is behind its end.
 fn split_line(stream: &[u8]) -> Option<(&[u8], &[u8])>
     ensures { IfSome result (λ parts. stream.now ≡ parts.0.now ++ 10 ∷ parts.1.now) }
@@ -60,13 +76,30 @@ fn split_line(stream: &[u8]) -> Option<(&[u8], &[u8])>
     Some((&stream[..end], &stream[end + 1..]))
 }
 
+// Whether each number is at most its limit.
+fn is_within<const N: usize>(numbers: &[usize; N], limits: &[usize; N]) -> bool
+    ensures { result ≡ true → Within numbers.now limits.now }
+{
+    numbers
+        .iter()
+        .zip(limits)
+        .all(|(number, limit)| number <= limit)
+}
+
 // The first case, and what is behind it.
-fn split_case<const N: usize>(stream: &[u8]) -> Option<(Case<'_, N>, &[u8])>
+fn split_case<'a, const N: usize>(
+    stream: &'a [u8],
+    limits: &[usize; N],
+) -> Option<(Case<'a, N>, &'a [u8])>
     ensures case { IfSome result (λ parts. StartsWith stream.now parts.0.numbers parts.0.text.now parts.1.now) }
+    ensures within { IfSome result (λ parts. Within parts.0.numbers limits.now) }
     ensures less { IfSome result (λ parts. length parts.1.now < length stream.now) }
 {
     let (line, behind) = split_line(stream)?;
     let numbers = numbers::<N>(line)?;
+    if !is_within(&numbers, limits) {
+        return None;
+    }
     let (text, behind) = behind.split_at_checked(*numbers.last()?)?;
     let (end, rest) = behind.split_first()?;
     if *end != b'\n' {
@@ -76,10 +109,19 @@ fn split_case<const N: usize>(stream: &[u8]) -> Option<(Case<'_, N>, &[u8])>
 }
 
 impl<'a, const N: usize> Cases<'a, N> {
+    /// The cases of a stream, whatever their numbers.
     pub fn new(stream: &'a [u8]) -> Self
         ensures { result.stream.now ≡ stream.now }
     {
-        Cases { stream }
+        Cases::within(stream, [usize::MAX; N])
+    }
+
+    /// The cases of a stream, each of whose numbers has a limit.
+    pub fn within(stream: &'a [u8], limits: [usize; N]) -> Self
+        ensures stream { result.stream.now ≡ stream.now }
+        ensures limits { result.limits ≡ limits.entry }
+    {
+        Cases { stream, limits }
     }
 }
 
@@ -87,7 +129,9 @@ impl<'a, const N: usize> Iterator for Cases<'a, N> {
     type Item = Result<Case<'a, N>, BadCase>;
 
     ghost next_gives = { λ before item after. MatchOption item (before.stream.now ≡ [])
-        (λ found. MatchResult found (λ case. StartsWith before.stream.now case.numbers case.text.now after.stream.now) (λ _. after.stream.now ≡ [])) };
+        (λ found. (after.limits ≡ before.limits) × MatchResult found
+        (λ case. StartsWith before.stream.now case.numbers case.text.now after.stream.now × Within case.numbers before.limits)
+        (λ _. after.stream.now ≡ [])) };
 
     ghost remaining = { λ cases. at_most (length cases.stream.now) };
 
@@ -95,7 +139,7 @@ impl<'a, const N: usize> Iterator for Cases<'a, N> {
         if self.stream.is_empty() {
             return None;
         }
-        let Some((case, rest)) = split_case(self.stream) else {
+        let Some((case, rest)) = split_case(self.stream, &self.limits) else {
             self.stream = &[];
             return Some(Err(BadCase));
         };

@@ -10,6 +10,7 @@ use borrow.Author.Tests.{eq-eqb, ltb-true, ltb-false}
 use lib.Bits.{bit_and, and_zero_l, and_zero_r}
 use lib.Dec.{T, eqb, eqb→eq, ltb, ltb→lt}
 use lib.ListN.{length, get_or}
+use Rattle.std.proofs.Math.ListN.{get_or-eq_default}
 use types.Run.{OneOf}
 use Rattle.text.specs.Table.{every}
 use Rattle.text.proofs.Table.{first-of, second-of, at, table_at, or_cases}
@@ -100,20 +101,13 @@ module _ {f : ℕ → ℕ} (t : Table f) where
       let b = eqb v (get_or t.entries k 0) in
       eqb→eq v (get_or t.entries k 0) (second-of a b h) ∙ entry k (ltb→lt k (length t.entries) (first-of a b h))
 
-  -- A value at all keys of an arm.
-  abbrev pub at_keys : ℕ → List ℕ → Bool
-  at_keys v [] = true
-  at_keys v (k ∷ ks) = at_key v k && at_keys v ks
-
-  -- An arm's keys.
-  pub keyed : {v x : ℕ} (ks : List ℕ) → T (at_keys v ks) → OneOf ks x → v ≡ f x
-  keyed {v} {x} [] h o = absurd o
-  keyed {v} {x} (k ∷ []) h o = subst (λ (y : ℕ). v ≡ f y) (sym o) (at_right v k (first-of (at_key v k) true h))
-  keyed {v} {x} (k ∷ j ∷ ks) h o = go o (keyed {v = v} {x = x} (j ∷ ks) (second-of (at_key v k) (at_keys v (j ∷ ks)) h))
+  -- The function is what its table has, and 0 past it.
+  pub got : (x : ℕ) → f x ≡ get_or t.entries x 0
+  got x = go (ltb x (length t.entries)) refl
     where
-      go : (x ≡ k) ⊎ OneOf (j ∷ ks) x → (OneOf (j ∷ ks) x → v ≡ f x) → v ≡ f x
-      go (inl e) r = subst (λ (y : ℕ). v ≡ f y) (sym e) (at_right v k (first-of (at_key v k) (at_keys v (j ∷ ks)) h))
-      go (inr s) r = r s
+      go : (b : Bool) → ltb x (length t.entries) ≡ b → f x ≡ get_or t.entries x 0
+      go true e = sym (entry x (ltb-true x (length t.entries) e))
+      go false e = let h = ltb-false x (length t.entries) e in t.beyond x h ∙ sym (get_or-eq_default t.entries 0 h)
 
   -- Between two numbers, where no arm has it as a key.
   pub between : {v x : ℕ} (kss : List (List ℕ)) (lo hi : ℕ) → T (run (λ k. key_of kss k || at_key v k) (hi - lo) lo) → NoKey kss x → lo ≤ x → x < hi → v ≡ f x

@@ -1,23 +1,19 @@
--- What a `match` on a kind returns, against a function whose table was computed once: at the kinds of an arm, and where a number names no kind.
+-- What is known of a number that names no kind: the tables of the functions over kinds have nothing there.
 -- Assumes nothing.
-use Rattle.std.specs.Prelude.{Bool, true, ◌&&◌, List, [], ◌∷◌, ◌≡◌, ◌≢◌, ℕ, suc, ◌-◌, ◌<◌, ◌≤◌, T, eqb, length, get_or}
+use Rattle.std.specs.Prelude.{false, List, [], ◌∷◌, ◌≡◌, ◌≢◌, ℕ, suc, ◌-◌, ◌<◌, ◌≤◌, T, eqb, length, get_or}
 use Rattle.std.proofs.Common.{sym, ap, ◌∙◌, arith, eqb→eq}
 use Rattle.std.proofs.Math.Decide.{dec_lt}
 use mathlib.Core.Logic.{◌⊎◌, inl, inr}
 use Rattle.text.specs.Lists.{all, count}
 use Rattle.text.proofs.ListLaws.{all-count}
-use Rattle.text.proofs.Table.{first-of, second-of}
 use Rattle.own.specs.Kinds as kind
 use Rattle.own.specs.Numbers.{kind_number}
 use Rattle.own.specs.declared.kind.Kind.{Kind}
 use Rattle.own.specs.declared.kind.Kind.TheVariants as kinds
+use Rattle.kinds.specs.Decide.{may_own, may_hold}
+use Rattle.kinds.specs.Groups.{category_set}
 use Rattle.kinds.proofs.Laws.{Table, at_key, at_right}
-
--- A kind is one of these.
-abbrev pub OneKind : List Kind → Kind → Type 0
-OneKind [] k = ⊥
-OneKind (j ∷ []) k = k ≡ j
-OneKind (j ∷ i ∷ js) k = (k ≡ j) ⊎ OneKind (i ∷ js) k
+use Rattle.kinds.proofs.Tables.{marks_table, parts_table, category_table, owns-none, holds-none}
 
 -- Every kind, by its number from 1.
 abbrev every_kind : List Kind
@@ -46,28 +42,20 @@ none_named n h = go (dec_lt 0 n) (dec_lt kind.Last n)
         (all-count (λ m. eqb (kind_number (get_or every_kind (m - 1) kinds.Function)) m) kind.Last 1 n kinds_listed (omega arith) (omega arith))))
 
 module _ {f : ℕ → ℕ} (t : Table f) where
-  -- A value at the numbers of all kinds of an arm.
-  abbrev pub at_kinds : ℕ → List Kind → Bool
-  at_kinds v [] = true
-  at_kinds v (k ∷ ks) = at_key t v (kind_number k) && at_kinds v ks
-
-  its : (v : ℕ) (j : Kind) {k : Kind} → T (at_key t v (kind_number j)) → k ≡ j → v ≡ f (kind_number k)
-  its v j h e = at_right t v (kind_number j) h ∙ ap (λ (i : Kind). f (kind_number i)) (sym e)
-
-  -- The kinds of an arm.
-  pub by_kind : {v : ℕ} (k : Kind) (ks : List Kind) → T (at_kinds v ks) → OneKind ks k → v ≡ f (kind_number k)
-  by_kind k [] h o = absurd o
-  by_kind {v} k (j ∷ []) h o = its v j (first-of (at_key t v (kind_number j)) true h) o
-  by_kind {v} k (j ∷ i ∷ js) h o = go o (by_kind {v = v} k (i ∷ js) (second-of (at_key t v (kind_number j)) (at_kinds v (i ∷ js)) h))
-    where
-      go : (k ≡ j) ⊎ OneKind (i ∷ js) k → (OneKind (i ∷ js) k → v ≡ f (kind_number k)) → v ≡ f (kind_number k)
-      go (inl e) r = its v j (first-of (at_key t v (kind_number j)) (at_kinds v (i ∷ js)) h) e
-      go (inr o) r = r o
-
   -- A number that names no kind is 0, or past the last: the function is 0 there.
-  pub unnamed : T (at_key t 0 0) → length t.entries ≤ suc kind.Last → (n : ℕ) → ((k : Kind) → kind_number k ≢ n) → f n ≡ 0
+  unnamed : T (at_key t 0 0) → length t.entries ≤ suc kind.Last → (n : ℕ) → ((k : Kind) → kind_number k ≢ n) → f n ≡ 0
   unnamed z l n h = go (none_named n h)
     where
       go : (n ≡ 0) ⊎ (kind.Last < n) → f n ≡ 0
       go (inl e) = ap f e ∙ sym (at_right t 0 0 z)
       go (inr u) = t.beyond n (omega arith)
+
+-- So such a number owns nothing, holds nothing, and is in no group.
+pub owns_none : (n class : ℕ) → ((k : Kind) → kind_number k ≢ n) → may_own n class ≡ false
+owns_none n class h = sym (owns-none n class (unnamed marks_table tt (omega arith) n h))
+
+pub holds_none : (n kid : ℕ) → ((k : Kind) → kind_number k ≢ n) → may_hold n kid ≡ false
+holds_none n kid h = sym (holds-none n kid (unnamed parts_table tt (omega arith) n h))
+
+pub no_category : (n : ℕ) → ((k : Kind) → kind_number k ≢ n) → category_set n ≡ 0
+no_category n h = unnamed category_table tt (omega arith) n h

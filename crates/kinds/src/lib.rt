@@ -14,6 +14,7 @@ mod mark;
 pub mod part;
 
 // The group of a token class.
+#[tactic(auto, using(crate::proofs::Tables::group_at))]
 fn group(class: u32) -> u64
     ensures { result ≡ group_set class }
 {
@@ -60,6 +61,7 @@ fn group(class: u32) -> u64
 }
 
 // The groups of the marks of a record kind.
+#[tactic(auto, using(crate::proofs::Tables::marks_at))]
 fn marks(kind: Kind) -> u64
     ensures { result ≡ mark_set (kind_number kind) }
 {
@@ -118,6 +120,7 @@ fn marks(kind: Kind) -> u64
 }
 
 // The group of a child kind.
+#[tactic(auto, using(crate::proofs::Tables::category_at))]
 fn child_group(child: Kind) -> u32
     ensures { result ≡ category_set (kind_number child) }
 {
@@ -166,6 +169,8 @@ fn child_group(child: Kind) -> u32
 }
 
 // The group of the kind of this number; none, where no kind has it.
+// A kind is a word of a lent buffer, which may hold any number. The group is a set, and 0 is none, as `may_hold` meets it with others.
+#[tactic(auto, using(crate::proofs::Named::no_category))]
 pub fn category(child: u32) -> u32
     ensures { result ≡ category_set child }
 {
@@ -176,6 +181,7 @@ pub fn category(child: u32) -> u32
 }
 
 // The groups of the children of a record kind; kinds of one token have none.
+#[tactic(auto, using(crate::proofs::Tables::parts_at))]
 fn parts(kind: Kind) -> u32
     ensures { result ≡ part_set (kind_number kind) }
 {
@@ -221,6 +227,7 @@ fn parts(kind: Kind) -> u32
 }
 
 // Whether a record of the kind may own a token of the class.
+#[tactic(auto, using(crate::proofs::Tables::owns_at, crate::proofs::Named::owns_none))]
 pub fn may_own(kind: u32, class: u32) -> bool
     ensures { result ≡ may_own kind class }
 {
@@ -230,7 +237,9 @@ pub fn may_own(kind: u32, class: u32) -> bool
     }
 }
 
-// Whether a record of the kind may hold a child of that kind.
+// Whether a record of the kind may hold a child of that kind. The shape is that of `may_own`, over other sets; one function of both would take the two sets
+// as closures with contracts of their own.
+#[tactic(auto, using(crate::proofs::Tables::holds_at, crate::proofs::Named::holds_none))]
 pub fn may_hold(kind: u32, child: u32) -> bool
     ensures { result ≡ may_hold kind child }
 {

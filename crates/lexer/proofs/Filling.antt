@@ -18,14 +18,13 @@ use Rattle.lexer.specs.Lexemes.{Token, Lexemes, tokens, refused_at, with_token, 
 use Rattle.lexer.specs.Limits.{no_token, meant, first_too_deep, deep, judged_in, token_words, tokens_of}
 use Rattle.lexer.specs.Buffer.{put_at}
 use Rattle.lexer.proofs.Fits.{not-both, token-words-length}
-use Rattle.lexer.specs.Nesting.{is_past, nest_after, nest_of, outermost, passed_at}
+use Rattle.lexer.specs.Nesting.{Nesting, nest_after, nest_of, outermost, passed_at}
 use Rattle.lexer.specs.Step.{step_of}
 use Rattle.lexer.specs.declared.Step.{Step}
 use Rattle.lexer.specs.declared.Step.TheVariants as S
 use Rattle.std.specs.Prelude as std
 use Rattle.text.specs.declared.refusal.Refused.{Refused}
 use Rattle.text.specs.Refusals.{refusal_number}
-use Rattle.lexer.specs.declared.depth.Nest.{Nest}
 use Rattle.lexer.proofs.Nesting.{nest-snoc, nest_deep}
 use Rattle.lexer.proofs.Steps.{follow, Leads, rest-follows, step-leads}
 
@@ -81,7 +80,7 @@ before-snoc ts t (tokens us) = ap tokens (append_assoc ts (t ∷ []) us)
 before-snoc ts t (refused_at c p) = refl
 
 -- at place i of s, with n tokens found: those below the room stand in the buffer, w is the start of the first too many, x what is counted of them all
-pub record Filling (s : List ℕ) (room : ℕ) (o : List ℕ) (i n w : ℕ) (x : Nest) (out : List ℕ) : Type 0 where
+pub record Filling (s : List ℕ) (room : ℕ) (o : List ℕ) (i n w : ℕ) (x : Nesting) (out : List ℕ) : Type 0 where
   pub done : List Token
   pub number : length done ≡ n
   pub within : i ≤ length s
@@ -92,7 +91,7 @@ pub record Filling (s : List ℕ) (room : ℕ) (o : List ℕ) (i n w : ℕ) (x :
   pub over : room < n → w ≡ (get_or done room no_token).start
   pub nested : nest_of outermost done ≡ x
 
-pub fill_start : (s : List ℕ) (room : ℕ) (o : List ℕ) (x : Nest) → x ≡ outermost → Filling s room o 0 0 0 x o
+pub fill_start : (s : List ℕ) (room : ℕ) (o : List ℕ) (x : Nesting) → x ≡ outermost → Filling s room o 0 0 0 x o
 unfolding lexemes token_words
 fill_start s room o x e = record {
   done = [];
@@ -106,7 +105,7 @@ fill_start s room o x e = record {
   nested = sym e;
 }
 
-module _ {s : List ℕ} {room : ℕ} {o : List ℕ} {i n w : ℕ} {x : Nest} {out : List ℕ} (v : Filling s room o i n w x out) (t : Step) (q : step_of s i ≡ t) where
+module _ {s : List ℕ} {room : ℕ} {o : List ℕ} {i n w : ℕ} {x : Nesting} {out : List ℕ} (v : Filling s room o i n w x out) (t : Step) (q : step_of s i ≡ t) where
   -- what is left, as the step has it
   left : before v.done (follow t i (λ j. lexemes_from (drop j s) j 0)) ≡ lexemes s
   left = sym (ap (before v.done) (rest-follows s i ∙ ap (λ x. follow x i (λ j. lexemes_from (drop j s) j 0)) q)) ∙ v.rest
@@ -114,7 +113,7 @@ module _ {s : List ℕ} {room : ℕ} {o : List ℕ} {i n w : ℕ} {x : Nest} {ou
   pub fill-leads : Leads i (length s) t
   fill-leads = subst (Leads i (length s)) q (step-leads s i)
 
-module _ {s : List ℕ} {room : ℕ} {o : List ℕ} {i n w : ℕ} {x : Nest} {out : List ℕ} (v : Filling s room o i n w x out) where
+module _ {s : List ℕ} {room : ℕ} {o : List ℕ} {i n w : ℕ} {x : Nesting} {out : List ℕ} (v : Filling s room o i n w x out) where
   pub fill-trivia : (e : ℕ) → step_of s i ≡ S.Trivia e → Filling s room o e n w x out
   fill-trivia e q =
       let m = fill-leads v (S.Trivia e) q in
@@ -172,21 +171,17 @@ module _ {s : List ℕ} {room : ℕ} {o : List ℕ} {i n w : ℕ} {x : Nest} {ou
           long = length-put out room n k i e ∙ v.long;
           written = put_written f;
           over = put-over;
-          nested = nest-snoc outermost v.done this ∙ ap (λ (y : Nest). nest_after y k i) v.nested;
+          nested = nest-snoc outermost v.done this ∙ ap (λ (y : Nesting). nest_after y k i) v.nested;
         }
 
   -- every token is found: the answer and the buffer
-  abbrev said : Bool → Bool → Answer
-  said a b = cond a (refused (refusal_number refusal.TooMany) w) (cond b (refused (refusal_number refusal.TooDeep) x.place) (accepted n 0))
+  abbrev said : Bool → Option ℕ → Answer
+  said a b = cond a (refused (refusal_number refusal.TooMany) w) (deep b n)
 
-  deep_is : cond (is_past x) (refused (refusal_number refusal.TooDeep) x.place) (accepted n 0) ≡ deep (first_too_deep 0 0 v.done) n
-  deep_is = go (is_past x) ∙ sym (ap (λ (p : Option ℕ). deep p n) (sym (nest_deep v.done 0 0 0 (omega arith)) ∙ ap passed_at v.nested))
-    where
-      go : (b : Bool) → cond b (refused (refusal_number refusal.TooDeep) x.place) (accepted n 0) ≡ deep (cond b (some x.place) none) n
-      go true = refl
-      go false = refl
+  deep_is : deep (passed_at x) n ≡ deep (first_too_deep 0 0 v.done) n
+  deep_is = ap (λ (p : Option ℕ). deep p n) (sym (ap passed_at v.nested) ∙ nest_deep v.done 0 0)
 
-  pub fill-answer : step_of s i ≡ S.Nothing → said (ltb room n) (is_past x) ≡ judged_in room (lexemes s)
+  pub fill-answer : step_of s i ≡ S.Nothing → said (ltb room n) (passed_at x) ≡ judged_in room (lexemes s)
   fill-answer q =
       go (ltb room n) refl
       ∙ sym (ap (λ y. cond (ltb room y) (refused (refusal_number refusal.TooMany) first-over) (deep (first_too_deep 0 0 v.done) y)) v.number)
@@ -195,17 +190,17 @@ module _ {s : List ℕ} {room : ℕ} {o : List ℕ} {i n w : ℕ} {x : Nest} {ou
       first-over : ℕ
       first-over = (get_or v.done room no_token).start
 
-      go : (b : Bool) → ltb room n ≡ b → said b (is_past x) ≡ cond b (refused (refusal_number refusal.TooMany) first-over) (deep (first_too_deep 0 0 v.done) n)
+      go : (b : Bool) → ltb room n ≡ b → said b (passed_at x) ≡ cond b (refused (refusal_number refusal.TooMany) first-over) (deep (first_too_deep 0 0 v.done) n)
       go true f = ap (refused (refusal_number refusal.TooMany)) (v.over (ltb-true room n f))
       go false f = deep_is
 
   -- the tokens stand in the buffer unless they are refused
-  pub fill-held : (r : std.Result ℕ Refused) → step_of s i ≡ S.Nothing → meant r ≡ said (ltb room n) (is_past x) → Held (meant r) (token_words (tokens_of (lexemes s))) o out
-  fill-held r q e = record { holds = λ k m h. go (ltb room n) (is_past x) refl (sym e ∙ h) }
+  pub fill-held : (r : std.Result ℕ Refused) → step_of s i ≡ S.Nothing → meant r ≡ said (ltb room n) (passed_at x) → Held (meant r) (token_words (tokens_of (lexemes s))) o out
+  fill-held r q e = record { holds = λ k m h. go (ltb room n) (passed_at x) refl (sym e ∙ h) }
     where
-      go : (a b : Bool) → ltb room n ≡ a → {k m : ℕ} → said a b ≡ accepted k m → out ≡ front (token_words (tokens_of (lexemes s))) o
+      go : (a : Bool) (b : Option ℕ) → ltb room n ≡ a → {k m : ℕ} → said a b ≡ accepted k m → out ≡ front (token_words (tokens_of (lexemes s))) o
       go true b f h = absurd (not-both h)
-      go false true f h = absurd (not-both h)
-      go false false f h =
+      go false (some p) f h = absurd (not-both h)
+      go false none f h =
           let l : length (token_words v.done) ≡ tok_wide * n = token-words-length v.done ∙ ap (λ y. tok_wide * y) v.number in
           v.written (ltb-false room n f) ∙ ap (λ (k : ℕ). token_words v.done ++ drop k o) (sym l) ∙ ap (λ (y : Lexemes). front (token_words (tokens_of y)) o) (sym (fill-over q))

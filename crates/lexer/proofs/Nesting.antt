@@ -1,57 +1,25 @@
 -- What the proofs of the count of brackets and `match` rows cite: counted token by token it is what the definition says.
 -- Assumes nothing.
-use mathlib.Core.Bool.{Bool, true, false, cond, ◌||◌}
+use mathlib.Core.Bool.{Bool, true, false, cond}
 use mathlib.Core.List.{List, [], ◌∷◌, ◌++◌}
-use mathlib.Core.Option.{none, some}
+use mathlib.Core.Option.{some}
 use mathlib.Core.Path.{◌≡◌, refl, sym, ◌∙◌, ap, ap₂}
-use Prim.Native.Nat.{ℕ, ◌+◌, ◌-◌, ◌≤◌, ◌<◌}
+use Prim.Native.Nat.{ℕ, ◌≤◌}
 use native.Mathlib.Omega.{arith}
-use borrow.Author.Tests.{lt-ltb, le-ltb, ltb-false, ne_eqb}
-use lib.Dec.{ltb, eqb}
+use borrow.Author.Tests.{le-ltb, ne_eqb}
+use lib.Dec.{eqb}
+use Rattle.std.specs.Prelude as std
+use Rattle.std.specs.Option.{is_some}
 use Rattle.text.proofs.Same.{differ}
 use Rattle.lexer.specs.Classes as t
 use Rattle.lexer.specs.Lexemes.{Token}
 use Rattle.lexer.specs.Limits.{most_open, most_in_row, depth_after, row_after, passes, first_too_deep}
-use Rattle.lexer.specs.Nesting.{within, past, counted, nest_after, nest_of, passed_at, Uncounted}
-use Rattle.lexer.specs.declared.depth.Nest.{Nest}
+use Rattle.lexer.specs.Nesting.{Nesting, within, past, Passes, Counted, known, nest_after, nest_of, passed_at, Uncounted}
 
 -- ---- both counts against their limits
 
-counts-within : (d m i p : ℕ) → d ≤ most_open → m ≤ most_in_row → within d m p ≡ counted d m i p
-counts-within d m i p h k = simp (le-ltb most_open d h, le-ltb most_in_row m k)
-
-module _ (d i p : ℕ) (h : d ≤ most_open) where
-  -- one that closes
-  pub closes : within (d - 1) 0 p ≡ counted (d - 1) 0 i p
-  closes = counts-within (d - 1) 0 i p (omega arith) (omega arith)
-
-  pub row_within : (m : ℕ) → m < most_in_row → within d (m + 1) p ≡ counted d (m + 1) i p
-  row_within m k = counts-within d (m + 1) i p h (omega arith)
-
-  -- any other token
-  pub row_ends : within d 0 p ≡ counted d 0 i p
-  row_ends = counts-within d 0 i p h (omega arith)
-
-within-open : (d m : ℕ) → passes d m ≡ false → d ≤ most_open
-within-open d m e = go (ltb most_open d) refl e
-  where
-    go : (b : Bool) → ltb most_open d ≡ b → (b || ltb most_in_row m) ≡ false → d ≤ most_open
-    go true q e = differ (sym e)
-    go false q e = ltb-false most_open d q
-
--- ---- one token more, once a limit is passed, and before
-
-module _ (x : Nest) (k i : ℕ) where
-  abbrev next : Bool → Nest
-  next b = cond b (within x.depth 0 x.place) (counted (depth_after k x.depth) (row_after k x.row) i x.place)
-
-  pub nest-passed : most_open < x.depth → within x.depth 0 x.place ≡ nest_after x k i
-  unfolding nest_after
-  nest-passed h = sym (ap next (lt-ltb most_open x.depth h))
-
-  pub nest-counts : {y : Nest} → x.depth ≤ most_open → y ≡ counted (depth_after k x.depth) (row_after k x.row) i x.place → y ≡ nest_after x k i
-  unfolding nest_after
-  nest-counts h q = q ∙ sym (ap next (le-ltb most_open x.depth h))
+pub passes-not : (d m : ℕ) → d ≤ most_open → m ≤ most_in_row → passes d m ≡ false
+passes-not d m h k = simp (le-ltb most_open d h, le-ltb most_in_row m k)
 
 -- any other kind than `match` and the brackets
 pub uncounted : (k : ℕ) → (k ≡ t.Match → ⊥) → ((b : ℕ) → t.LParen ≤ b → b ≤ t.RAngle → k ≡ b → ⊥) → Uncounted k
@@ -72,32 +40,53 @@ uncounted k m n =
       row = λ r. simp (ne_eqb k t.Match m);
     }
 
--- a token that is not counted, whether a limit is passed or not
-pub nest-uncounted : (x : Nest) (k i : ℕ) → Uncounted k → within x.depth 0 x.place ≡ nest_after x k i
-unfolding nest_after
-nest-uncounted x k i u = go (ltb most_open x.depth) refl
-  where
-    go : (b : Bool) → ltb most_open x.depth ≡ b → within x.depth 0 x.place ≡ cond b (within x.depth 0 x.place) (counted (depth_after k x.depth) (row_after k x.row) i x.place)
-    go true q = refl
-    go false q = row_ends x.depth i x.place (ltb-false most_open x.depth q) ∙ sym (ap₂ (λ d m. counted d m i x.place) (u.depth x.depth) (u.row x.row))
+-- ---- one token more
+
+-- a token that is counted: what is known behind it, as its counts are within the limits or not
+module _ (d m k i : ℕ) where
+  after : Bool → Nesting
+  after b = cond b (past i) (within (depth_after k d) (row_after k m))
+
+  pub counted_past : Passes (depth_after k d) (row_after k m) → past i ≡ nest_after (within d m) k i
+  unfolding after
+  counted_past h = ap after (sym h)
+
+  pub counted_within : {d' m' : ℕ} → Counted (depth_after k d) (row_after k m) d' m' → within d' m' ≡ nest_after (within d m) k i
+  unfolding after
+  counted_within h = ap₂ within h.1 h.2 ∙ ap after (sym h.0)
+
+  -- a token that is not
+  pub uncounted_within : Uncounted k → d ≤ most_open → {d' m' : ℕ} → d' ≡ d → m' ≡ 0 → within d' m' ≡ nest_after (within d m) k i
+  unfolding after
+  uncounted_within u h e f =
+      ap₂ within (e ∙ sym (u.depth d)) (f ∙ sym (u.row m))
+      ∙ ap after (sym (ap₂ passes (u.depth d) (u.row m) ∙ passes-not d 0 h (omega arith)))
+
+-- the first token that passes a limit
+pub passes_first : (o : std.Option ℕ) (d m k i : ℕ) → is_some o ≡ false → Passes (depth_after k d) (row_after k m) → past i ≡ nest_after (known d m o) k i
+passes_first (std.Some p) d m k i e h = differ (sym e)
+passes_first std.None d m k i e h = counted_past d m k i h
+
+-- one that is not counted, whether a limit is passed or not
+pub uncounts : (o : std.Option ℕ) (d m k i : ℕ) → Uncounted k → d ≤ most_open → {d' m' : ℕ} → d' ≡ d → m' ≡ 0 → known d' m' o ≡ nest_after (known d m o) k i
+uncounts (std.Some p) d m k i u h e f = refl
+uncounts std.None d m k i u h e f = uncounted_within d m k i u h e f
 
 -- ---- some tokens
 
 nest-stays : (p : ℕ) (ts : List Token) → nest_of (past p) ts ≡ past p
 nest-stays p [] = refl
-nest-stays p (t ∷ ts) = ap (λ (y : Nest). nest_of y ts) (sym (nest-passed (past p) t.kind t.start (omega arith))) ∙ nest-stays p ts
+nest-stays p (t ∷ ts) = nest-stays p ts
 
-pub nest-snoc : (x : Nest) (ts : List Token) (t : Token) → nest_of x (ts ++ t ∷ []) ≡ nest_after (nest_of x ts) t.kind t.start
+pub nest-snoc : (x : Nesting) (ts : List Token) (t : Token) → nest_of x (ts ++ t ∷ []) ≡ nest_after (nest_of x ts) t.kind t.start
 nest-snoc x [] t = refl
 nest-snoc x (u ∷ ts) t = nest-snoc (nest_after x u.kind u.start) ts t
 
 -- the token that passes a limit is the one of the definition
-pub nest_deep : (ts : List Token) (d m p : ℕ) → d ≤ most_open → passed_at (nest_of (within d m p) ts) ≡ first_too_deep d m ts
+pub nest_deep : (ts : List Token) (d m : ℕ) → passed_at (nest_of (within d m) ts) ≡ first_too_deep d m ts
 unfolding first_too_deep
-nest_deep [] d m p h = ap (λ (b : Bool). cond b (some p) none) (le-ltb most_open d h)
-nest_deep (t ∷ ts) d m p h =
-    ap (λ (y : Nest). passed_at (nest_of y ts)) (sym (nest-counts (within d m p) t.kind t.start h refl))
-    ∙ go (passes d' m') (λ q. nest_deep ts d' m' p (within-open d' m' q)) refl
+nest_deep [] d m = refl
+nest_deep (t ∷ ts) d m = go (passes d' m') (nest_deep ts d' m')
   where
     d' : ℕ
     d' = depth_after t.kind d
@@ -105,7 +94,6 @@ nest_deep (t ∷ ts) d m p h =
     m' : ℕ
     m' = row_after t.kind m
 
-    go : (b : Bool) → (passes d' m' ≡ false → passed_at (nest_of (within d' m' p) ts) ≡ first_too_deep d' m' ts) → passes d' m' ≡ b
-        → passed_at (nest_of (cond b (past t.start) (within d' m' p)) ts) ≡ cond b (some t.start) (first_too_deep d' m' ts)
-    go true ih q = ap passed_at (nest-stays t.start ts)
-    go false ih q = ih q
+    go : (b : Bool) → passed_at (nest_of (within d' m') ts) ≡ first_too_deep d' m' ts → passed_at (nest_of (cond b (past t.start) (within d' m')) ts) ≡ cond b (some t.start) (first_too_deep d' m' ts)
+    go true ih = ap passed_at (nest-stays t.start ts)
+    go false ih = ih

@@ -1,25 +1,19 @@
--- Brackets open and `match` tokens in a row, counted token by token, as the struct `Nest`.
+-- Brackets open and `match` tokens in a row, counted token by token until a limit is passed.
 -- Assumes nothing.
-use Rattle.std.specs.Prelude.{Bool, cond, ◌≡◌, List, [], ◌∷◌, ℕ, ◌+◌, ltb}
+use Rattle.std.specs.Prelude.{Bool, true, false, cond, ◌≡◌, List, [], ◌∷◌, ℕ}
+use Rattle.std.specs.Prelude as std
 use Rattle.std.proofs.Math.Option.{Option, none, some}
 use Rattle.lexer.specs.Lexemes.{Token}
-use Rattle.lexer.specs.Limits.{most_open, depth_after, row_after, passes}
-use Rattle.lexer.specs.declared.depth.Nest.{Nest}
+use Rattle.lexer.specs.Limits.{depth_after, row_after, passes}
 
--- d brackets open and m `match` tokens in a row
-abbrev pub within : ℕ → ℕ → ℕ → Nest
-within d m p = record { depth = d; row = m; place = p }
-
--- a limit is passed, whichever, by the token at p: one bracket more than may be open
-abbrev pub past : ℕ → Nest
-past p = within (most_open + 1) 0 p
-
-abbrev pub is_past : Nest → Bool
-is_past x = ltb most_open x.depth
+-- d brackets open and m `match` tokens in a row, or a limit is passed, whichever, by the token at p
+pub data Nesting : Type 0 where
+  within : (d m : ℕ) → Nesting
+  past : (p : ℕ) → Nesting
 
 -- behind a token at i, with d brackets open and m `match` tokens in a row
-abbrev pub counted : ℕ → ℕ → ℕ → ℕ → Nest
-counted d m i p = cond (passes d m) (past i) (within d m p)
+abbrev pub counted : ℕ → ℕ → ℕ → Nesting
+counted d m i = cond (passes d m) (past i) (within d m)
 
 -- a kind that leaves the brackets open as they are and ends a row
 pub record Uncounted (kind : ℕ) : Type 0 where
@@ -27,18 +21,33 @@ pub record Uncounted (kind : ℕ) : Type 0 where
   pub row : (m : ℕ) → row_after kind m ≡ 0
 
 -- behind one token more: once a limit is passed, nothing is counted any longer
-unfoldable pub nest_after : Nest → ℕ → ℕ → Nest
-nest_after x kind start = cond (is_past x) (within x.depth 0 x.place) (counted (depth_after kind x.depth) (row_after kind x.row) start x.place)
+abbrev pub nest_after : Nesting → ℕ → ℕ → Nesting
+nest_after (within d m) kind start = counted (depth_after kind d) (row_after kind m) start
+nest_after (past p) kind start = past p
 
 -- behind some tokens
-abbrev pub nest_of : Nest → List Token → Nest
+abbrev pub nest_of : Nesting → List Token → Nesting
 nest_of x [] = x
 nest_of x (t ∷ ts) = nest_of (nest_after x t.kind t.start) ts
 
 -- before all tokens
-abbrev pub outermost : Nest
-outermost = within 0 0 0
+abbrev pub outermost : Nesting
+outermost = within 0 0
 
 -- where a limit was passed
-abbrev pub passed_at : Nest → Option ℕ
-passed_at x = cond (is_past x) (some x.place) none
+abbrev pub passed_at : Nesting → Option ℕ
+passed_at (within d m) = none
+passed_at (past p) = some p
+
+-- d brackets open or m in a row are past a limit,
+abbrev pub Passes : ℕ → ℕ → Type 0
+Passes d m = passes d m ≡ true
+
+-- or within both, and these are the counts
+abbrev pub Counted : ℕ → ℕ → ℕ → ℕ → Type 0
+Counted d m depth row = (passes d m ≡ false) × (depth ≡ d) × (row ≡ m)
+
+-- what is known, by the counts and by where a limit was passed
+abbrev pub known : ℕ → ℕ → std.Option ℕ → Nesting
+known d m std.None = within d m
+known d m (std.Some p) = past p

@@ -6,6 +6,7 @@ ghost use Rattle.lexer.specs.Buffer.{put_at};
 use text::TOKEN_WORDS;
 
 // Writes token number n and answers true, if it is below the room.
+// A `bool`, since nothing comes with the answer.
 #[inline(always)]
 pub(crate) fn put(out: &mut [u32], room: usize, n: usize, kind: u32, start: u32, end: u32) -> bool
     requires { tok_wide * room ≤ length out.old }

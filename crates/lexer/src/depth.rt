@@ -1,7 +1,7 @@
 // Brackets open and `match` tokens in a row, counted while lexing: refusal 7 is found in the same pass as the tokens.
-ghost use Rattle.std.specs.Prelude.{◌≡◌, ◌+◌, ◌-◌, ◌≤◌};
+ghost use Rattle.std.specs.Prelude.{◌≡◌, ◌+◌, ◌-◌, ◌≤◌, MatchOption};
 ghost use Rattle.lexer.specs.Limits.{most_open, depth_after, row_after};
-ghost use Rattle.lexer.specs.Nesting.{within, past, is_past, counted, nest_after, outermost};
+ghost use Rattle.lexer.specs.Nesting.{Passes, Counted, known, nest_after, outermost};
 
 use crate::classes as class;
 
@@ -10,127 +10,132 @@ const MOST_OPEN: usize = 48;
 
 const MOST_IN_ROW: usize = 8;
 
-// What is known behind some tokens: brackets open and `match` tokens in a row. A depth over MOST_OPEN says that a limit is passed, whichever of
-// the two, by the token that starts at place: a flag of its own would be one value more to hold in the lexing loop.
-#[derive(Clone, Copy, PartialEq, Eq, Debug)]
+// Brackets open and `match` tokens in a row, where no limit is passed.
+#[derive(Clone, Copy)]
+struct Counts {
+    depth: usize,
+    row: usize,
+    ghost few: { depth ≤ most_open },
+}
+
+impl Counts {
+    // Behind a bracket that opens; none where that passes the limit.
+    fn opened(self) -> Option<Counts>
+        ensures { MatchOption result (Passes (self.depth + 1) 0) (λ c. Counted (self.depth + 1) 0 c.depth c.row) }
+    {
+        if self.depth == MOST_OPEN {
+            return None;
+        }
+        Some(Counts {
+            depth: self.depth + 1,
+            row: 0,
+        })
+    }
+
+    // Behind a bracket that closes: one less, never below 0.
+    fn closed(self) -> Counts
+        ensures { (result.depth ≡ self.depth - 1) × (result.row ≡ 0) }
+    {
+        Counts {
+            depth: self.depth.saturating_sub(1),
+            row: 0,
+        }
+    }
+
+    // Behind `match`; none where that passes the limit.
+    fn matched(self) -> Option<Counts>
+        ensures { MatchOption result (Passes self.depth (self.row + 1)) (λ c. Counted self.depth (self.row + 1) c.depth c.row) }
+    {
+        if self.row >= MOST_IN_ROW {
+            return None;
+        }
+        Some(Counts {
+            depth: self.depth,
+            row: self.row + 1,
+        })
+    }
+
+    // Behind a token that only ends a row.
+    fn ended(self) -> Counts
+        ensures { (result.depth ≡ self.depth) × (result.row ≡ 0) }
+    {
+        Counts {
+            depth: self.depth,
+            row: 0,
+        }
+    }
+
+    // Behind a token of a kind; none where that passes a limit.
+    fn after(self, kind: u32) -> Option<Counts>
+        ensures { MatchOption result (Passes (depth_after kind self.depth) (row_after kind self.row)) (λ c. Counted (depth_after kind self.depth) (row_after kind self.row) c.depth c.row) }
+    {
+        match kind {
+            class::LPAREN | class::LBRACKET | class::LBRACE | class::LANGLE => self.opened(),
+            class::RPAREN | class::RBRACKET | class::RBRACE | class::RANGLE => Some(self.closed()),
+            class::MATCH => self.matched(),
+            _ => Some(self.ended()),
+        }
+    }
+}
+
+// What is known behind some tokens: the counts, as long as no limit is passed, and where one was passed.
+#[derive(Clone, Copy)]
 pub(crate) struct Nest {
-    pub(crate) depth: usize,
-    pub(crate) row: usize,
-    pub(crate) place: usize,
+    counts: Counts,
+    pub(crate) passed: Option<usize>,
 }
 
-// Before all tokens.
-pub(crate) fn outside() -> Nest
-    ensures { result ≡ outermost }
-{
-    Nest {
-        depth: 0,
-        row: 0,
-        place: 0,
+impl Nest {
+    // Before all tokens.
+    pub(crate) fn outside() -> Self
+        ensures { known result.counts.depth result.counts.row result.passed ≡ outermost }
+    {
+        Nest {
+            counts: Counts { depth: 0, row: 0 },
+            passed: None,
+        }
     }
-}
 
-// Whether a limit is passed.
-pub(crate) fn passed(nest: Nest) -> bool
-    ensures { result ≡ is_past nest }
-{
-    nest.depth > MOST_OPEN
-}
+    // Behind a token that only ends a row.
+    fn ended(self) -> Nest
+        ensures { (result.counts.depth ≡ self.counts.depth) × (result.counts.row ≡ 0) × (result.passed ≡ self.passed) }
+    {
+        Nest {
+            counts: self.counts.ended(),
+            ..self
+        }
+    }
 
-// A limit is passed by the token at start.
-fn passing(start: usize) -> Nest
-    ensures { result ≡ past start }
-{
-    Nest {
-        depth: MOST_OPEN + 1,
-        row: 0,
-        place: start,
+    // Behind a bracket or `match`. Once a limit is passed, nothing is counted any longer: the first token that did is the refused one.
+    fn counted(self, kind: u32, start: usize) -> Nest
+        ensures { known result.counts.depth result.counts.row result.passed ≡ nest_after (known self.counts.depth self.counts.row self.passed) kind start }
+    {
+        if self.passed.is_some() {
+            return self;
+        }
+        match self.counts.after(kind) {
+            Some(counts) => Nest { counts, ..self },
+            None => Nest {
+                passed: Some(start),
+                ..self
+            },
+        }
     }
-}
 
-// Behind a bracket that opens.
-fn opened(nest: Nest, start: usize) -> Nest
-    requires { nest.depth ≤ most_open }
-    ensures { result ≡ counted (nest.depth + 1) 0 start nest.place }
-{
-    if nest.depth == MOST_OPEN {
-        return passing(start);
+    // Behind one token more. Names and numbers, the most frequent, have kinds behind those of brackets, so one test sets them apart.
+    #[inline(always)]
+    pub(crate) fn after(self, kind: u32, start: usize) -> Nest
+        ensures { known result.counts.depth result.counts.row result.passed ≡ nest_after (known self.counts.depth self.counts.row self.passed) kind start }
+    {
+        if kind > class::RANGLE {
+            return self.ended();
+        }
+        if kind >= class::LPAREN {
+            return self.counted(kind, start);
+        }
+        if kind == class::MATCH {
+            return self.counted(kind, start);
+        }
+        self.ended()
     }
-    Nest {
-        depth: nest.depth + 1,
-        row: 0,
-        place: nest.place,
-    }
-}
-
-// Behind a bracket that closes: one less, never below 0.
-fn closed(nest: Nest) -> Nest
-    ensures { result ≡ within (nest.depth - 1) 0 nest.place }
-{
-    Nest {
-        depth: nest.depth.saturating_sub(1),
-        row: 0,
-        place: nest.place,
-    }
-}
-
-// Behind `match`.
-fn matched(nest: Nest, start: usize) -> Nest
-    requires { nest.depth ≤ most_open }
-    ensures { result ≡ counted nest.depth (nest.row + 1) start nest.place }
-{
-    if nest.row >= MOST_IN_ROW {
-        return passing(start);
-    }
-    Nest {
-        row: nest.row + 1,
-        ..nest
-    }
-}
-
-// Behind a token that only ends a row.
-fn ended(nest: Nest) -> Nest
-    ensures { result ≡ within nest.depth 0 nest.place }
-{
-    Nest { row: 0, ..nest }
-}
-
-// Behind a bracket or `match`, where no limit is passed.
-fn count_one(nest: Nest, kind: u32, start: usize) -> Nest
-    requires { nest.depth ≤ most_open }
-    ensures { result ≡ counted (depth_after kind nest.depth) (row_after kind nest.row) start nest.place }
-{
-    match kind {
-        class::LPAREN | class::LBRACKET | class::LBRACE | class::LANGLE => opened(nest, start),
-        class::RPAREN | class::RBRACKET | class::RBRACE | class::RANGLE => closed(nest),
-        class::MATCH => matched(nest, start),
-        _ => ended(nest),
-    }
-}
-
-// Behind a bracket or `match`. Once a limit is passed, nothing is counted any longer: the first token that did is the refused one.
-fn count_on(nest: Nest, kind: u32, start: usize) -> Nest
-    ensures { result ≡ nest_after nest kind start }
-{
-    if nest.depth > MOST_OPEN {
-        return ended(nest);
-    }
-    count_one(nest, kind, start)
-}
-
-// Behind one token more. Names and numbers, the most frequent, have kinds behind those of brackets, so one test sets them apart.
-#[inline(always)]
-pub(crate) fn nest_after(nest: Nest, kind: u32, start: usize) -> Nest
-    ensures { result ≡ nest_after nest kind start }
-{
-    if kind > class::RANGLE {
-        return ended(nest);
-    }
-    if kind >= class::LPAREN {
-        return count_on(nest, kind, start);
-    }
-    if kind == class::MATCH {
-        return count_on(nest, kind, start);
-    }
-    ended(nest)
 }

@@ -31,6 +31,7 @@ pub const DRAFT_BYTES: usize = 16384;
 pub const DRAFT_TOKENS: usize = 2048;
 
 // What stands at a place of a draft.
+// A kind is a number, as the buffer has it: `PUB + k`, `JET + k` and the class of a byte are kinds as they stand.
 #[derive(Clone, Copy, PartialEq, Eq, Debug)]
 pub enum Step {
     // A token of a kind, up to an end.
@@ -91,7 +92,8 @@ fn class_of(draft: &[u8], kind: u32, start: usize, end: usize) -> u32
     word_class(draft, kind, start, end)
 }
 
-// The class of a token for the rules; of a token, it says which name, macro or word it is.
+// The class of a token for the rules; of a token, it says which name, macro or word it is. Kind, start and end may be any numbers: they are words of
+// a lent buffer, so a struct of them could keep no fact, and would only be put together here and taken apart at once.
 #[inline(always)]
 pub fn class(draft: &[u8], kind: u32, start: usize, end: usize) -> u32
     ensures answer { result ≡ class_of kind (part_of draft.now start end) }

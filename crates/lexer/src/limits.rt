@@ -1,17 +1,17 @@
 // The tokens of a draft within limits: refusals 1 to 7 in their order.
 ghost use Rattle.std.specs.Prelude.{cond, ◌≡◌, ◌+◌, ◌*◌, ◌-◌, ◌≤◌, ◌<◌, ◌^◌, min, eqb, ltb, length};
-ghost use Rattle.text.specs.Answers.{accepted, refused};
+ghost use Rattle.text.specs.Answers.{refused};
 ghost use Rattle.text.specs.Front.{Held};
 ghost use Rattle.text.specs.Refusals.{refusal_number};
 ghost use Rattle.text.specs.declared.refusal.Refusal.TheVariants as refusal;
 ghost use Rattle.text.specs.Widths.{tok_wide};
 ghost use Rattle.lexer.specs.Lexemes.{lexemes};
-ghost use Rattle.lexer.specs.Limits.{limits_of, meant, judged_in, lexed_of, buffer_of, tokens_of, token_words};
-ghost use Rattle.lexer.specs.Nesting.{is_past};
+ghost use Rattle.lexer.specs.Limits.{limits_of, meant, deep, judged_in, lexed_of, buffer_of, tokens_of, token_words};
+ghost use Rattle.lexer.specs.Nesting.{known, passed_at};
 
 use crate::chars::Classes;
 use crate::depth::Nest;
-use crate::{Step, buffer, depth, scan};
+use crate::{Step, buffer, scan};
 use text::TOKEN_WORDS;
 use text::refusal::{Refusal, Refused};
 
@@ -24,7 +24,7 @@ fn first_over(n: usize, room: usize, start: usize, over: usize) -> usize
 
 // Too many tokens, then too deep; else the n tokens.
 fn count(room: usize, n: usize, over: usize, nest: Nest) -> Result<usize, Refused>
-    ensures { meant result ≡ cond (ltb room n) (refused (refusal_number refusal.TooMany) over) (cond (is_past nest) (refused (refusal_number refusal.TooDeep) nest.place) (accepted n 0)) }
+    ensures { meant result ≡ cond (ltb room n) (refused (refusal_number refusal.TooMany) over) (deep (passed_at (known nest.counts.depth nest.counts.row nest.passed)) n) }
 {
     if room < n {
         return Err(Refused {
@@ -32,13 +32,13 @@ fn count(room: usize, n: usize, over: usize, nest: Nest) -> Result<usize, Refuse
             place: over,
         });
     }
-    if depth::passed(nest) {
-        return Err(Refused {
+    match nest.passed {
+        Some(place) => Err(Refused {
             refusal: Refusal::TooDeep,
-            place: nest.place,
-        });
+            place,
+        }),
+        None => Ok(n),
     }
-    Ok(n)
 }
 
 // Lexes the whole draft, in one pass: the refusals of the bytes, then too many tokens, then too deep. Tokens past the room are counted and not written.
@@ -52,12 +52,13 @@ fn fill(draft: &[u8], out: &mut [u32], room: usize) -> Result<usize, Refused>
     let mut at: usize = 0;
     let mut n: usize = 0;
     let mut over: usize = 0;
-    let mut nest = depth::outside();
+    let mut nest = Nest::outside();
+    // Where the next lexeme begins is known when this one is found, so the loop goes from place to place and counts by itself.
     loop {
         let found = scan::step_with(&classes, draft, at);
         match found {
             Step::Token { kind, end } => {
-                nest = depth::nest_after(nest, kind, at);
+                nest = nest.after(kind, at);
                 if !buffer::put(out, room, n, kind, at as u32, end as u32) {
                     over = first_over(n, room, at, over);
                 }

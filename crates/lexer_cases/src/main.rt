@@ -2,13 +2,14 @@
 #![tactic(auto)]
 
 use anyhow::Result;
-use cases::Case;
+use cases::{is_zero, zeros};
+use drafts::Case;
 use std::alloc::Global;
 use std::io;
 use std::io::{BufRead, BufReader, BufWriter, Write};
 use text::TOKEN_WORDS;
 
-mod cases;
+mod drafts;
 
 // The tokens are shown where there are no more.
 const MOST_SHOWN: usize = 24;
@@ -32,40 +33,31 @@ fn write_token(
     write!(out, ":{start}-{end}")
 }
 
-// The tokens, as far as the buffer has them.
-fn write_tokens(out: &mut impl Write, draft: &[u8], words: &[u32], count: usize) -> io::Result<()> {
+fn write_tokens(out: &mut impl Write, draft: &[u8], words: &[u32]) -> io::Result<()> {
     let (tokens, _) = words.as_chunks::<TOKEN_WORDS>();
-    for [kind, start, end] in tokens.iter().take(count) {
+    for [kind, start, end] in tokens {
         write_token(out, draft, *kind, *start, *end)?;
     }
     Ok(())
 }
 
-// Whether the words behind the tokens are 0.
-fn write_zeros(out: &mut impl Write, words: &[u32], count: usize) -> io::Result<()> {
-    let mut behind = words.iter().skip(count.saturating_mul(TOKEN_WORDS));
-    if behind.all(|word| *word == 0) {
-        writeln!(out, " zeros")
-    } else {
-        writeln!(out, " NOT ZERO")
-    }
-}
-
-// The answer, the tokens if they are few, and whether the words behind them are 0.
+// The answer, the tokens if they are few, as far as the buffer has them, and whether the words behind them are 0.
 fn write_case(out: &mut impl Write, alloc: Global, case: &Case) -> Result<()> {
     let mut words = vec![in alloc; UNWRITTEN; case.words]?;
     match lexer::lex(&case.draft, &mut words) {
         Ok(count) => {
             write!(out, ": tokens {count}")?;
+            let end = count.saturating_mul(TOKEN_WORDS).min(words.len());
+            let (tokens, behind) = words.split_at(end);
             if count <= MOST_SHOWN {
-                write_tokens(out, &case.draft, &words, count)?;
+                write_tokens(out, &case.draft, tokens)?;
             }
-            write_zeros(out, &words, count)?;
+            writeln!(out, " {}", zeros(is_zero(behind)))?;
         }
         Err(refused) => {
-            let number = u32::from(refused.refusal);
-            write!(out, ": refused {number} at {}", refused.place)?;
-            write_zeros(out, &words, 0)?;
+            let all = zeros(is_zero(&words));
+            let refusal = refused.refusal;
+            writeln!(out, ": refused {refusal} at {} {all}", refused.place)?;
         }
     }
     Ok(())

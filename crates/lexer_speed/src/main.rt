@@ -23,6 +23,7 @@ fn main(rt: HostRuntime) -> io::Result<()> {
     let alloc = rt.alloc();
     let mut draft = Vec::new(alloc);
     rt.stdin().read_to_end(&mut draft)?;
+    // An array, as in the reader, which lends one of its stack.
     let mut tokens = [0; TOKEN_WORDS * DRAFT_TOKENS];
     let mut out = BufWriter::new(alloc, io::writer(&rt))?;
     for _ in 0..TIMES {

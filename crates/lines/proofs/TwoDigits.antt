@@ -7,11 +7,11 @@ use native.Mathlib.Omega.{arith}
 use native.Mathlib.Numerals.{add-one}
 use borrow.Rule.Slice.PartMut.{put_mid, mid_of}
 use lib.ListN.{length, get_or, set, take, drop, replicate, length-drop}
-use lib.Seq.{sets, sets-eq, set_comm, drop-drop, length-take-le}
+use lib.Seq.{sets, sets-eq, drop-drop, length-take-le}
 use Rattle.std.proofs.Math.Nat.{div-one, div-div-eq-div-mul}
 use Rattle.std.proofs.lemmas.List.{replicate_more}
 use Rattle.text.specs.Ascii.{ascii, ascii_from}
-use Rattle.text.proofs.Sets.{sets-append}
+use Rattle.text.proofs.Sets.{sets-append, sets-sets}
 use Rattle.text.proofs.Table.{table_at}
 use Rattle.lines.specs.Hex.{upper_hex, hex, power}
 use Rattle.lines.proofs.Hex.{hex-length, last_digits, power-more}
@@ -32,18 +32,6 @@ module _ (v : ℕ) where
       let high : get_or PAIRS (2 * b) 0 ≡ get_or (hex 2 b) 0 0 = digit (2 * b) b 0 (omega arith) (omega arith) (omega arith) in
       let low : get_or PAIRS (2 * b + 1) 0 ≡ get_or (hex 2 b) 1 0 = digit (2 * b + 1) b 1 (omega arith) (omega arith) (omega arith) in
       (λ i. set (set l at (high i)) (add-one at i) (low i)) ∙ ap (sets l at) (last_digits 2 v)
-
--- a store of one element before a run
-sets-set : (ws l : List ℕ) (i j x : ℕ) → i < j → sets (set l i x) j ws ≡ set (sets l j ws) i x
-sets-set [] l i j x h = refl
-sets-set (w ∷ ws) l i j x h =
-    ap (λ (m : List ℕ). sets m (suc j) ws) (set_comm l i j x w (λ e. absurd (omega (arith, e))))
-    ∙ sets-set ws (set l j w) i (suc j) x (omega arith)
-
--- Two digits before a run of digits.
-pair-before : (vs ws l : List ℕ) (i j : ℕ) → i + length vs ≤ j → sets (sets l i vs) j ws ≡ sets (sets l j ws) i vs
-pair-before [] ws l i j h = refl
-pair-before (v ∷ vs) ws l i j h = pair-before vs ws (set l i v) (suc i) j (omega arith) ∙ ap (λ (m : List ℕ). sets m (suc i) vs) (sets-set ws l i j v (omega arith))
 
 -- The digits of a number are the two above the last n, and those.
 two-above : (n v : ℕ) → hex (suc (suc n)) v ≡ hex 2 (v / power n) ++ hex n v
@@ -83,19 +71,12 @@ module _ {o : List ℕ} {at N v : ℕ} {l : List ℕ} {above i : ℕ} (x : Paire
             ∙ ap (λ (y : ℕ). v / y) (power-more n) ∙ ap (λ (j : ℕ). v / power j) s;
         done = e
             ∙ ap (λ (m : List ℕ). sets m p (hex 2 above)) f
-            ∙ sym (pair-before (hex 2 above) (hex n v) o p (p + length (hex 2 above)) (omega arith))
+            ∙ sym (sets-sets (hex 2 above) (hex n v) o p (p + length (hex 2 above)) (omega arith))
             ∙ sym (sets-append (hex 2 above) (hex n v) o p)
             ∙ ap (λ (y : ℕ). sets o p (hex 2 y ++ hex n v)) x.above_is
             ∙ ap (sets o p) (sym (two-above n v))
             ∙ ap (λ (j : ℕ). sets o p (hex j v)) s;
       }
-
-  pub paired-end : N / 2 ≤ i → 2 * (N / 2) ≡ N → l ≡ sets o at (hex N v)
-  paired-end h even =
-      let w = x.within in
-      let e : 2 * i ≡ N = omega arith in
-      let a : at + (N - 2 * i) ≡ at = omega arith in
-      x.done ∙ λ j. sets o (a j) (hex (e j) v)
 
 -- Zeros are the digits of 0.
 zeros : (n : ℕ) → hex n 0 ≡ replicate n 48

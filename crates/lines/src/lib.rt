@@ -8,6 +8,7 @@ mod digits;
 mod pairs;
 mod write;
 
+use text::RECORD_WORDS;
 pub use write::after;
 
 // The digits of a kind, of a start, an end, a size or a way up, and of half a 64-bit number.
@@ -42,17 +43,20 @@ pub const SIX_BYTES: usize = LINE_BYTES - PLACE_DIGITS - 1;
 pub const PLACES: usize = 1 << (4 * PLACE_DIGITS);
 
 // Lists the first records of a tree buffer, or all that it holds if those are fewer: their lines, and zeros behind them; 0 and zeros alone if the
-// lines do not fit. What is behind the lines is cleared once, after them, so that no byte is written twice.
+// lines do not fit. What is behind the lines is cleared once, after them, so that no byte is written twice. A lent buffer may be longer than its tree, so the
+// number of records stands beside it.
+// 0 as the interface for C has it, whose entries hand it on.
 pub fn list(tree: &[u32], records: usize, out: &mut [u8]) -> usize
     ensures used { result ≡ used (lines_in tree.now records) (length out.old) }
     ensures bytes { out.new ≡ padded (lines_in tree.now records) (length out.old) }
 {
-    let n = records.min(tree.len() / text::RECORD_WORDS);
+    let (held, _) = tree.as_chunks::<RECORD_WORDS>();
+    let n = records.min(held.len());
     if n > out.len() / LINE_BYTES {
         out.fill(0);
         return 0;
     }
-    let end = write::lines(out, tree, n);
+    let end = write::lines(out, &held[..n]);
     out[end..].fill(0);
     end
 }

@@ -76,7 +76,7 @@ fn put(out: &mut impl Write, bytes: &[u8]) -> io::Result<()> {
     Ok(())
 }
 
-// Writes the lines of a draft.
+// Writes the lines of a draft. Its buffer, as that of `main`, has the size that is enough for every draft: memory that is asked for might not be there.
 fn list(rt: &HostRuntime, draft: &[u8]) -> io::Result<()> {
     let mut lines = [0; LISTING_BYTES];
     let used = reader::entry::list_draft(draft, &mut lines);

@@ -1,5 +1,6 @@
 pub mod BeginLaws
 pub mod CheckLaws
+pub mod ChunkLaws
 pub mod CueLaws
 pub mod LineLaws
 pub mod LoadLaws

@@ -14,8 +14,7 @@ use Rattle.own.proofs.WordLaws.{recs-length}
 use Rattle.up.specs.Ways.{up_words, upward}
 use Rattle.up.proofs.Laws.{up-words-long, upward-held}
 use Rattle.lines.specs.Form.{wide}
-use Rattle.lines.specs.Lines.{widths, line_bytes}
-use Rattle.load.specs.Form.{Form, older, newer, widths_of, form_of}
+use Rattle.load.specs.Form.{Form, older, widths_of, form_of}
 use Rattle.load.specs.FunctionTest.{is_whole}
 use Rattle.load.specs.Load.{ways_right, is_right, load_as, load_of, records_of, contents, words_of}
 use Rattle.load.specs.Meant.{meant, returned, not_loaded}
@@ -26,28 +25,14 @@ use Rattle.load.specs.declared.NotLoaded.TheVariants.{BadLine, NotWhole, NoRoom}
 use Rattle.load.specs.Listing.Read.{bad_line, first_bad, rows_from, lines_read, rec_of}
 use Rattle.load.proofs.Listing.RecordLaws.{lines-long}
 
--- A listing of the newer form is held against its widths.
-module _ {f : Form} (o : f ≡ newer) (text : List ℕ) where
-  pub newer-lines : {n : ℕ} → n ≡ length (lines_read (widths_of f) text) → n ≡ length text / line_bytes
-  newer-lines m = m ∙ lines-long (widths_of f) text ∙ ap (λ (g : Form). length text / wide (widths_of g)) o
-
-  pub newer-ways : {x : Bool} → x ≡ ways_right newer (lines_read widths text) → x ≡ ways_right newer (lines_read (widths_of f) text)
-  newer-ways t = t ∙ ap (λ (g : Form). ways_right newer (lines_read (widths_of g) text)) (sym o)
-
 -- Whether its lines are right, by both tests.
 module _ (f : Form) (vs : List (List ℕ)) {b : Bool} (whole : b ≡ is_whole (map rec_of vs)) where
-  pub right-not : b ≡ false → false ≡ is_right f vs
-  right-not e = ap (λ (x : Bool). x && ways_right f vs) (sym e ∙ whole)
-
   by_ways : b ≡ true → {x : Bool} → x ≡ ways_right f vs → x ≡ is_right f vs
   by_ways e t = t ∙ ap (λ (x : Bool). x && ways_right f vs) (sym e ∙ whole)
 
   pub right-older : f ≡ older → b ≡ true → true ≡ is_right f vs
   unfolding ways_right
   right-older o e = by_ways e (ap (λ (g : Form). ways_right g vs) (sym o))
-
-  pub right-newer : f ≡ newer → b ≡ true → {x : Bool} → x ≡ ways_right newer vs → x ≡ is_right f vs
-  right-newer o e t = by_ways e (t ∙ ap (λ (g : Form). ways_right g vs) (sym o))
 
 -- What the first bad line is, and that there is none.
 first-some : (n : ℕ) {l : ℕ} → Some l ≡ first_bad n → (l ≡ n) × (0 < l)

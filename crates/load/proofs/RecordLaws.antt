@@ -1,20 +1,26 @@
--- The numbers of a line in a buffer of as many words as a record is read from are the record of the line.
+-- The first six numbers of a line, by name, are the record of the line.
 -- Assumes nothing.
-use Rattle.std.specs.Prelude.{List, ◌≡◌, ℕ, ◌+◌, ◌≤◌, length, take, drop}
-use Rattle.std.proofs.Common.{ap, ◌∙◌, arith}
-use Rattle.std.proofs.lemmas.List.Edits.{sets, sets-eq}
-use Rattle.lines.specs.Lines.{six_widths, widths}
+use Rattle.std.specs.Prelude.{List, ◌≡◌, refl, ℕ, ◌*◌, ◌<◌, length, get_or, drop}
+use Rattle.std.proofs.Common.{sym, ap, ◌∙◌, arith}
+use Rattle.own.specs.Tree.{Rec}
+use Rattle.own.specs.Flat.{blank}
+use Rattle.lines.specs.Form.{wide}
+use Rattle.lines.specs.Lines.{six_widths}
 use Rattle.load.specs.Form.{Form, older, newer, widths_of}
-use Rattle.load.specs.Listing.LineForm.{six_fields}
-use Rattle.load.specs.Listing.Read.{values_of, rec_of}
-use Rattle.load.proofs.Listing.RecordLaws.{record-by-six, six-long}
+use Rattle.load.specs.Listing.Read.{values_of, records_in, rec_of}
+use Rattle.load.proofs.Listing.RecordLaws.{records-long, record-at}
 
-record-read : (ws bs o : List ℕ) {words : List ℕ} → six_fields ≤ length ws → length o ≡ six_fields → words ≡ sets o 0 (values_of (take six_fields ws) bs)
-    → rec_of words ≡ rec_of (values_of ws bs)
-record-read ws bs o full room e =
-    let vs = values_of (take six_fields ws) bs in
-    ap rec_of (e ∙ sets-eq vs o 0 (omega (arith, six-long ws bs full))) ∙ record-by-six ws bs (drop (0 + length vs) o) full
+abbrev named : List ℕ → Rec
+named l = record { kind = get_or l 0 0; start = get_or l 1 0; stop = get_or l 2 0; low = get_or l 3 0; high = get_or l 4 0; size = get_or l 5 0 }
 
-pub listing-read : (f : Form) (bs o : List ℕ) {words : List ℕ} → length o ≡ six_fields → words ≡ sets o 0 (values_of six_widths bs) → rec_of words ≡ rec_of (values_of (widths_of f) bs)
-listing-read older bs o room e = record-read six_widths bs o (omega arith) room e
-listing-read newer bs o room e = record-read widths bs o (omega arith) room e
+its-six : (f : Form) (bs : List ℕ) → named (values_of six_widths bs) ≡ rec_of (values_of (widths_of f) bs)
+unfolding values_of
+its-six older bs = refl
+its-six newer bs = refl
+
+pub record-named : (f : Form) (text : List ℕ) (i : ℕ) → i < length (records_in (widths_of f) text) → {l : List ℕ} → l ≡ values_of six_widths (drop (wide (widths_of f) * i) text)
+    → named l ≡ get_or (records_in (widths_of f) text) i blank
+record-named f text i h e =
+    ap named e
+    ∙ its-six f (drop (wide (widths_of f) * i) text)
+    ∙ sym (record-at (widths_of f) text i (omega (arith, h, records-long (widths_of f) text)))

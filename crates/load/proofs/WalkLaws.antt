@@ -1,12 +1,14 @@
 -- What the steps of the walk over a record's children give.
 -- Assumes nothing.
 use mathlib.Core.Bool.{Bool, true, false, cond}
-use mathlib.Core.List.{List}
+use mathlib.Core.List.{[]}
+use Rattle.text.specs.Lists.{all, count}
+use Rattle.text.proofs.ListLaws.{all-count}
 use mathlib.Core.Path.{◌≡◌, refl, ap, ◌∙◌}
 use Prim.Native.Nat.{ℕ, ◌+◌, ◌-◌, ◌*◌, ◌<◌, ◌≤◌}
 use native.Mathlib.Omega.{arith}
 use mir.Val.{bool_byte}
-use lib.Dec.{T, eqb, ltb, ltb→lt}
+use lib.Dec.{T, eqb, ltb, eqb→eq, ltb→lt}
 use lib.ListN.{length, get_or}
 use Rattle.text.specs.Table.{every}
 use Rattle.text.proofs.Table.{at}
@@ -39,14 +41,19 @@ entry-below q c h k =
     let i = in-steps q c h (omega arith) in
     ltb→lt (get_or steps (columns * q + c) 0) state_count (at (λ i x. ltb x state_count) steps 0 entries_below (columns * q + c) (omega (arith, steps-long)))
 
-steps-are : STEPS ≡ steps
-unfolding steps
-steps-are = refl
+-- The code's rows have the entries of the table.
+cell-is : ℕ → ℕ → Bool
+cell-is q c = eqb (get_or (get_or STEPS q []) c 0) (entry q c)
 
-pub entry-is : (q c : ℕ) {r : ℕ} → q < state_count → c ≤ cues → r ≡ get_or STEPS (columns * q + c) 0 → (r ≡ entry q c) × (r < state_count)
-unfolding entry
+cells-are : T (all (λ q. all (cell-is q) (count columns 0)) (count state_count 0))
+unfolding cell-is entry steps all count
+cells-are = tt
+
+pub entry-is : (q c : ℕ) {r : ℕ} → q < state_count → c ≤ cues → r ≡ get_or (get_or STEPS q []) c 0 → (r ≡ entry q c) × (r < state_count)
+unfolding entry cell-is
 entry-is q c {r} h k e =
-    let p : r ≡ get_or steps (columns * q + c) 0 = e ∙ ap (λ (l : List ℕ). get_or l (columns * q + c) 0) steps-are in
+    let row = all-count (λ j. all (cell-is j) (count columns 0)) state_count 0 q cells-are (omega arith) (omega arith) in
+    let p : r ≡ get_or steps (columns * q + c) 0 = e ∙ eqb→eq (get_or (get_or STEPS q []) c 0) (get_or steps (columns * q + c) 0) (all-count (cell-is q) columns 0 c row (omega arith) (omega arith)) in
     let i = in-steps q c h k in
     let b = ltb→lt (get_or steps (columns * q + c) 0) state_count (at (λ i x. ltb x state_count) steps 0 entries_below (columns * q + c) (omega (arith, steps-long))) in
     (p, omega arith)
@@ -74,13 +81,15 @@ cue-within k low high e = let h = cue-below k low high in omega arith
 
 -- Past one child more.
 pub past_is : (s : Seen) (c : Rec) {its a n p q : ℕ} → its ≡ cue c.kind c.low c.high → a ≡ entry s.state its → n ≡ one its cue.Name → p ≡ one its cue.Parameter → q ≡ one its cue.Pattern
-    → ◌≡◌ {A = Seen} (record { left = s.left - c.size; state = a; names = s.names + n; parameters = s.parameters + p; patterns = s.patterns + q }) (past s c)
+    → ◌≡◌ {A = Seen} (record { left = s.left - c.size; state = a; counts = record { names = s.counts.names + n; parameters = s.counts.parameters + p; patterns = s.counts.patterns + q } }) (past s c)
 unfolding past next
 past_is s c e a n p q i =
     record {
       left = s.left - c.size;
       state = (a ∙ ap (entry s.state) e) i;
-      names = s.names + (n ∙ ap (λ x. one x cue.Name) e) i;
-      parameters = s.parameters + (p ∙ ap (λ x. one x cue.Parameter) e) i;
-      patterns = s.patterns + (q ∙ ap (λ x. one x cue.Pattern) e) i;
+      counts = record {
+        names = s.counts.names + (n ∙ ap (λ x. one x cue.Name) e) i;
+        parameters = s.counts.parameters + (p ∙ ap (λ x. one x cue.Parameter) e) i;
+        patterns = s.counts.patterns + (q ∙ ap (λ x. one x cue.Pattern) e) i;
+      };
     }

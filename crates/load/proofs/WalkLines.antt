@@ -7,27 +7,24 @@ use Prim.Native.Nat.{ℕ, suc, ◌+◌, ◌*◌, ◌/◌, ◌<◌, ◌≤◌}
 use native.Mathlib.Omega.{arith}
 use native.Mathlib.Nat.{mul-suc, div-add-mod, div-le_self, mul-le-mul_left}
 use lib.Dec.{T}
-use lib.ListN.{length, get_or, drop}
-use Rattle.std.proofs.lemmas.List.Edits.{sets}
+use lib.ListN.{length, get_or}
 use Rattle.lines.specs.Form.{wide}
 use Rattle.lines.specs.Lines.{six_widths}
 use Rattle.load.specs.Form.{Form, widths_of}
 use Rattle.load.proofs.Listing.LineForm.{held-form, first-six}
 use Rattle.load.proofs.Listing.LineLaws.{wide-front}
-use Rattle.load.proofs.RecordLaws.{listing-read}
 use Rattle.own.specs.Tree.{Rec}
 use Rattle.own.specs.Flat.{blank}
 use Rattle.kinds.specs.Shape.{half_range}
-use Rattle.load.specs.Listing.Read.{values_of, records_in, rec_of}
+use Rattle.load.specs.Listing.Read.{lines_read, records_in}
 use Rattle.load.specs.Listing.LineForm.{six_fields, LineForm}
-use Rattle.load.proofs.Listing.RecordLaws.{records-long, record-at}
+use Rattle.load.proofs.Listing.RecordLaws.{records-long, lines-long}
 use Rattle.load.specs.Children.Table.{state_count}
 use Rattle.load.specs.Children.Cue.{cue}
 use Rattle.load.specs.Children.Run.{next}
 use Rattle.load.proofs.Children.Run.{cue-below}
-use Rattle.load.specs.Checks.Judge.{as_rec, sits, past}
+use Rattle.load.specs.Checks.Judge.{sits, past}
 use Rattle.load.proofs.Checks.Small.{sat}
-use Rattle.load.specs.declared.record.Record.{Record}
 use Rattle.load.specs.declared.walk.Seen.{Seen}
 use Rattle.load.proofs.WalkLaws.{entry-below}
 use Rattle.load.proofs.Walking.{Walking, walking-more}
@@ -45,12 +42,6 @@ module _ (ws text : List ℕ) {step : ℕ} (f : LineForm ws step) where
       let s : step * i ≡ wide ws * i = ap (λ (k : ℕ). k * i) f.bytes in
       let t : wide ws * (i + 1) ≡ wide ws * i + wide ws = mul-distrib-left (wide ws) i in
       omega (arith, s, m, t, div-add-mod (length text) (wide ws))
-
-  -- and the record that is read from it is that of the list
-  pub read_is : (i : ℕ) → i < length (records_in ws text) → {c : Record} → as_rec c ≡ rec_of (values_of ws (drop (step * i) text)) → as_rec c ≡ get_or (records_in ws text) i blank
-  read_is i h e =
-      let n = records-long ws text in
-      e ∙ ap (λ (k : ℕ). rec_of (values_of ws (drop k text))) (ap (λ (k : ℕ). k * i) f.bytes) ∙ sym (record-at ws text i (omega arith))
 
 -- There are no more records than bytes.
 pub in-listing : (ws text : List ℕ) (j n : ℕ) → j + n ≤ length (records_in ws text) → j + n ≤ length text
@@ -86,13 +77,9 @@ past-state s c h e =
     let b = entry-below s.state (cue c.kind c.low c.high) h (cue-below c.kind c.low c.high) in
     omega (arith, l, b)
 
--- The line of a record is one of the listing, and the record that is read from its first six fields is that of the list.
-module _ (f : Form) (text : List ℕ) {step : ℕ} (b : step ≡ wide (widths_of f)) (i : ℕ) (h : i < length (records_in (widths_of f) text)) where
-  pub its-line : step * i + wide six_widths ≤ length text
-  its-line =
+-- The first six fields of a line are there.
+module _ (f : Form) (text : List ℕ) {step : ℕ} (b : step ≡ wide (widths_of f)) (i : ℕ) where
+  pub its-line : i < length (lines_read (widths_of f) text) → step * i + wide six_widths ≤ length text
+  its-line h =
       let k = ap wide (first-six f) in
-      omega (arith, line-in (widths_of f) text (held-form f b) i h, wide-front six_fields (widths_of f), k)
-
-  pub its-record : (o : List ℕ) {words : List ℕ} → length o ≡ six_fields → words ≡ sets o 0 (values_of six_widths (drop (step * i) text)) → {c : Record} → as_rec c ≡ rec_of words
-      → as_rec c ≡ get_or (records_in (widths_of f) text) i blank
-  its-record o room e t = read_is (widths_of f) text (held-form f b) i h (t ∙ listing-read f (drop (step * i) text) o room e)
+      omega (arith, line-in (widths_of f) text (held-form f b) i (omega (arith, h, records-long (widths_of f) text, lines-long (widths_of f) text)), wide-front six_fields (widths_of f), k)

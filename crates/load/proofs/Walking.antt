@@ -15,9 +15,10 @@ use Rattle.own.specs.Tree.{Rec}
 use Rattle.own.specs.Flat.{blank, row, children}
 use Rattle.kinds.specs.Shape.{half_range}
 use Rattle.load.specs.Children.Table.{state_count}
+use Rattle.load.specs.Children.Begin.{start}
 use Rattle.load.specs.Children.Cue as cue
 use Rattle.load.specs.Children.Cue.{cue}
-use Rattle.load.specs.Checks.Judge.{sits, past, judge, before}
+use Rattle.load.specs.Checks.Judge.{sits, past, judge, before, begun}
 use Rattle.load.specs.Checks.Small.{Small}
 use Rattle.load.proofs.Checks.Small.{sat}
 use Rattle.load.specs.Checks.Parts.{left, left-next, all_left}
@@ -30,16 +31,17 @@ pub record Walking (rs : List Rec) (r : Rec) (whole : Option Seen) (i : ℕ) (s 
   pub fits : i + s.left < half_range * half_range
   pub rest : judge r s (left rs i s.left) ≡ whole
 
-pub walking_start : (rs : List Rec) (r : Rec) (j q : ℕ) → q < state_count → r ≡ get_or rs j blank → 0 < r.size → r.size ≤ half_range → j + r.size ≤ length rs → j + r.size < half_range * half_range
-    → Walking rs r (judge r (before r q) (children rs j)) (j + 1) (before r q)
-walking_start rs r j q h e s m k b =
+pub walking_start : (rs : List Rec) (r : Rec) (j : ℕ) {q : ℕ} → q ≡ start r.kind r.low r.high → q < state_count → r ≡ get_or rs j blank → 0 < r.size → r.size ≤ half_range → j + r.size ≤ length rs → j + r.size < half_range * half_range
+    → Walking rs r (judge r (begun r) (children rs j)) (j + 1) (before r q)
+walking_start rs r j {q} its h e s m k b =
     let at : 0 < (get_or rs j blank).size = subst (λ (x : Rec). 0 < x.size) e s in
     let in-it : j + (get_or rs j blank).size ≤ length rs = subst (λ (x : Rec). j + x.size ≤ length rs) e k in
     record {
       small = record { state = h; names = omega arith; parameters = omega arith; patterns = omega arith };
       room = omega arith;
       fits = omega arith;
-      rest = ap (judge r (before r q)) (sym (all_left rs j (omega arith) at in-it ∙ ap (λ (x : Rec). left rs (j + 1) (x.size - 1)) (sym e)));
+      rest = ap (judge r (before r q)) (sym (all_left rs j (omega arith) at in-it ∙ ap (λ (x : Rec). left rs (j + 1) (x.size - 1)) (sym e)))
+          ∙ ap (λ (x : ℕ). judge r (before r x) (children rs j)) its;
     }
 
 module _ {rs : List Rec} {r : Rec} {whole : Option Seen} {i : ℕ} {s : Seen} (w : Walking rs r whole i s) where

@@ -41,9 +41,6 @@ pub record Agreeing (ws text : List ℕ) (n p i : ℕ) : Type 0 where
   pub right : (q : ℕ) → q < i → get_or (ups_in ws text) q 0 ≡ way_up (sizes_in ws text) q
   pub at : p ≡ i - 1 - way_up (sizes_in ws text) (i - 1)
 
-pub agreeing-start : (ws text : List ℕ) (n : ℕ) → Agreeing ws text n 0 0
-agreeing-start ws text n = record { within = omega arith; right = λ q h. absurd (omega arith); at = omega arith }
-
 module _ {ws text : List ℕ} {n p i : ℕ} (x : Agreeing ws text n p i) (many : n ≡ length text / wide ws) where
   abbrev ups : List ℕ
   ups = ups_in ws text

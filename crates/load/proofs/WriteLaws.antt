@@ -1,9 +1,9 @@
 -- What the loops keep that write the numbers of a line, and of lines.
 -- Assumes nothing.
-use Rattle.std.specs.Prelude.{List, [], ◌∷◌, ◌++◌, map, ◌≡◌, refl, ℕ, zero, suc, ◌+◌, ◌*◌, ◌/◌, ◌<◌, ◌≤◌, length, get_or, set, take, drop}
-use Rattle.std.proofs.Common.{sym, ap, ◌∙◌, subst, arith, append-nil, append_assoc, mul-zero, mul-suc, length-set, length-take-le, take-append-drop, drop_of_length-le, drop-drop}
-use Rattle.std.proofs.Math.Nat.{mul-le-mul_left, mul-div-le}
-use Rattle.std.proofs.lemmas.List.{map-append}
+use Rattle.std.specs.Prelude.{List, [], ◌∷◌, ◌++◌, map, ◌≡◌, refl, ℕ, zero, suc, ◌+◌, ◌*◌, ◌<◌, ◌≤◌, length, get_or, set, take, drop}
+use Rattle.std.proofs.Common.{sym, ap, ◌∙◌, arith, append-nil, append_assoc, mul-zero, mul-suc, length-set, length-take-le, take-append-drop, drop_of_length-le, drop-drop}
+use borrow.Rule.Slice.PartMut.{put_mid}
+use Rattle.std.proofs.lemmas.List.{drop_more, map-append}
 use Rattle.std.proofs.Math.Seq.{length-sets}
 use Rattle.std.proofs.lemmas.List.Edits.{sets, sets-eq}
 use Rattle.text.specs.Widths.{rec_wide}
@@ -11,44 +11,65 @@ use Rattle.own.specs.Tree.{Rec}
 use Rattle.own.specs.Words.{recs}
 use Rattle.lines.specs.Form.{wide}
 use Rattle.lines.specs.Lines.{six_widths}
-use Rattle.load.specs.Form.{Form, widths_of}
-use Rattle.load.proofs.Listing.LineForm.{first-six}
 use Rattle.load.specs.Listing.LineForm.{six_fields, LineForm}
-use Rattle.load.specs.Listing.Read.{number_of, values_of, rows_from, lines_read, rec_of}
-use Rattle.load.proofs.Listing.LineLaws.{wide-front}
-use Rattle.load.proofs.Listing.RecordLaws.{record-by-six, six-long, lines-long}
-use Rattle.load.proofs.LineLaws.{next-width}
+use Rattle.load.specs.Listing.Read.{number_of, values_of, rows_from, rec_of}
+use Rattle.load.proofs.Listing.LineLaws.{values-long}
+use Rattle.load.proofs.Listing.RecordLaws.{record-by-six, six-long}
 
 -- What the loop of `values` keeps: the fields that are left, from p on, would complete the numbers of the line.
-pub record Filling (o ws text : List ℕ) (at w : ℕ) (l : List ℕ) (p k : ℕ) : Type 0 where
+pub record Filling (ws text l : List ℕ) (p k : ℕ) : Type 0 where
   pub within : k ≤ length ws
-  pub long : length l ≡ length o
-  pub room : p + wide (drop k ws) ≡ at + wide ws
-  pub left : sets l (w + k) (values_of (drop k ws) (drop p text)) ≡ sets o w (values_of ws (drop at text))
+  pub long : length l ≡ length ws
+  pub room : p + wide (drop k ws) ≡ wide ws
+  pub left : sets l k (values_of (drop k ws) (drop p text)) ≡ values_of ws text
 
-module _ {o ws text : List ℕ} {at w : ℕ} {l : List ℕ} {p k : ℕ} (x : Filling o ws text at w l p k) where
+-- As many numbers as there are words leave none of those.
+sets-all : (vs o : List ℕ) → length o ≡ length vs → sets o 0 vs ≡ vs
+sets-all vs o h = sets-eq vs o 0 (omega arith) ∙ ap (λ (l : List ℕ). vs ++ l) (drop_of_length-le o (omega arith)) ∙ append-nil vs
+
+pub filling-start : (ws text o : List ℕ) → length o ≡ length ws → Filling ws text o 0 0
+filling-start ws text o h =
+    record {
+      within = omega arith;
+      long = h;
+      room = omega arith;
+      left = sets-all (values_of ws text) o (omega (arith, values-long ws text));
+    }
+
+module _ {ws text l : List ℕ} {p k : ℕ} (x : Filling ws text l p k) where
   module _ (h : k < length ws) where
     -- the next field and the byte after it are inside the line
-    pub filling-room : p + get_or ws k 0 + 1 + wide (drop (k + 1) ws) ≡ at + wide ws
-    filling-room = omega (arith, ap wide (next-width ws k h), x.room)
+    pub filling-room : p + get_or ws k 0 + 1 + wide (drop (k + 1) ws) ≡ wide ws
+    filling-room = omega (arith, ap wide (drop_more ws k 0 h), x.room)
 
-    pub filling-more : {v : ℕ} → v ≡ number_of (get_or ws k 0) (drop p text) → Filling o ws text at w (set l (w + k) v) (p + get_or ws k 0 + 1) (k + 1)
+    pub filling-more : {v : ℕ} → v ≡ number_of (get_or ws k 0) (drop p text) → Filling ws text (set l k v) (p + get_or ws k 0 + 1) (k + 1)
     unfolding values_of
     filling-more {v} e =
         let n = get_or ws k 0 in
         let s : p + n + 1 ≡ p + (n + 1) = omega arith in
-        let j : w + (k + 1) ≡ suc (w + k) = omega arith in
+        let j : k + 1 ≡ suc k = omega arith in
         record {
           within = omega arith;
-          long = length-set l (w + k) v ∙ x.long;
+          long = length-set l k v ∙ x.long;
           room = filling-room;
-          left = (λ i. sets (set l (w + k) (e i)) (j i) (values_of (drop (k + 1) ws) ((ap (λ (m : ℕ). drop m text) s ∙ sym (drop-drop (n + 1) p text)) i)))
-              ∙ ap (λ (d : List ℕ). sets l (w + k) (values_of d (drop p text))) (sym (next-width ws k h)) ∙ x.left;
+          left = (λ i. sets (set l k (e i)) (j i) (values_of (drop (k + 1) ws) ((ap (λ (m : ℕ). drop m text) s ∙ sym (drop-drop (n + 1) p text)) i)))
+              ∙ ap (λ (d : List ℕ). sets l k (values_of d (drop p text))) (sym (drop_more ws k 0 h)) ∙ x.left;
         }
 
-  pub filling-end : length ws ≤ k → l ≡ sets o w (values_of ws (drop at text))
+  pub filling-end : length ws ≤ k → l ≡ values_of ws text
   unfolding values_of
-  filling-end h = ap (λ (d : List ℕ). sets l (w + k) (values_of d (drop p text))) (sym (drop_of_length-le ws h)) ∙ x.left
+  filling-end h = ap (λ (d : List ℕ). sets l k (values_of d (drop p text))) (sym (drop_of_length-le ws h)) ∙ x.left
+
+pub six-numbers : (bs : List ℕ) → length (values_of six_widths bs) ≡ six_fields
+six-numbers bs = values-long six_widths bs
+
+-- Numbers that stand in the place of as many words are written there.
+pub numbers-put : (at k : ℕ) (l : List ℕ) {ys vs : List ℕ} → ys ≡ vs → k ≡ length vs → at + k ≤ length l → put_mid at k l ys ≡ sets l at vs
+numbers-put at k l {ys} {vs} e n h =
+    ap (put_mid at k l) e
+    ∙ ap (λ (m : List ℕ). take at l ++ (vs ++ m)) (drop-drop k at l ∙ ap (λ (j : ℕ). drop (at + j) l) n)
+    ∙ sym (append_assoc (take at l) vs (drop (at + length vs) l))
+    ∙ sym (sets-eq vs l at (omega arith))
 
 -- The first records of a buffer are those of its first words, and those behind them.
 recs-split : (i k m : ℕ) (a b : List ℕ) → m ≡ i + k → length a ≡ rec_wide * i → recs m (a ++ b) ≡ recs i a ++ recs k b
@@ -91,23 +112,6 @@ pub writing-start : (ws text : List ℕ) (n : ℕ) (o : List ℕ) → Writing ws
 unfolding rows_from
 writing-start ws text n o = record { within = omega arith; long = refl; so_far = refl }
 
--- The next line is inside the text, and its record inside the words.
-pub fits-in : (a i n r : ℕ) → i < n → a * n ≤ r → a * i + a ≤ r
-fits-in a i n r h k = let m : a * suc i ≤ a * n = mul-le-mul_left a (omega arith) in omega (arith, mul-suc a i)
-
--- As many lines as the text has.
-pub lines-in : (f : Form) (text : List ℕ) {step n : ℕ} → step ≡ wide (widths_of f) → n ≤ length (lines_read (widths_of f) text) → step * n ≤ length text
-lines-in f text {step} {n} b h =
-    let m : wide (widths_of f) * n ≤ wide (widths_of f) * (length text / wide (widths_of f)) = mul-le-mul_left (wide (widths_of f)) (omega (arith, h, lines-long (widths_of f) text)) in
-    let e : step * n ≡ wide (widths_of f) * n = ap (λ (k : ℕ). k * n) b in
-    omega (arith, m, e, mul-div-le (length text) (wide (widths_of f)))
-
--- the line of the next record
-pub line-fits : (f : Form) (text : List ℕ) {step n i : ℕ} → step ≡ wide (widths_of f) → n ≤ length (lines_read (widths_of f) text) → i < n → step * i + wide six_widths ≤ length text
-line-fits f text {step} {n} {i} b k h =
-    let s = ap wide (first-six f) in
-    omega (arith, fits-in step i n (length text) h (lines-in f text b k), wide-front six_fields (widths_of f), s)
-
 module _ {ws text : List ℕ} {n : ℕ} {o l : List ℕ} {i : ℕ} (x : Writing ws text n o l i) where
   pub record_fits : i < n → rec_wide * n ≤ length o → rec_wide * i + rec_wide ≤ length l
   record_fits h k = omega (arith, x.long)
@@ -134,6 +138,3 @@ module _ {ws text : List ℕ} {n : ℕ} {o l : List ℕ} {i : ℕ} (x : Writing 
             ∙ sym (map-append rec_of (rows_from ws i text) (values_of ws (drop (wide ws * i) text) ∷ []))
             ∙ ap (map rec_of) (sym (rows-last ws i text) ∙ ap (λ (m : ℕ). rows_from ws m text) s);
       }
-
-  pub writing-end : n ≤ i → recs n l ≡ map rec_of (rows_from ws n text)
-  writing-end h = let w = x.within in let e : i ≡ n = omega arith in subst (λ (m : ℕ). recs m l ≡ map rec_of (rows_from ws m text)) e x.so_far

@@ -3,5 +3,6 @@ pub mod Parts
 pub mod Stands
 pub mod Judge
 pub mod Listed
+pub mod Heads
 pub mod Small
 pub mod GivenWays

@@ -3,30 +3,40 @@ ghost use Rattle.std.specs.Prelude.{◌≡◌, ◌<◌};
 ghost use Rattle.text.specs.Lists.{has};
 ghost use Rattle.load.specs.Children.Begin as spec;
 ghost use Rattle.load.specs.Children.Table as table;
+ghost use Rattle.load.specs.Checks.Heads.{asked_number, HeadOf};
 
 use crate::cue;
-use crate::table::HEADS;
-use own::kind::Kind;
+use crate::record::Record;
+use crate::table::{BEGINS, HEADS};
 
-// The table has a row for each number up to that of the last kind; a number is looked up as it stands in its line.
-const LAST: u32 = Kind::TypeItem as u32;
+// What a kind asks of low and high.
+#[derive(Clone, Copy)]
+pub(crate) enum Asked {
+    // There is no such kind.
+    Nothing,
+    // One of its lows, and high 0.
+    Low,
+    // One of its lows, and high the parameters.
+    Parameters,
+    // Any number.
+    Wide,
+    // A bound.
+    Bounded,
+    // Low the names, and high 0.
+    Names,
+    // Low the names, and high the pairs.
+    Pairs,
+    // Low the bits of an unsigned type, and high 0.
+    Bits,
+}
 
-// What a kind asks of low and high, as bytes of the table, which are matched as they stand there: nothing, where there is no such kind; one of its lows, and
-// high 0; one of its lows, and high the parameters; a bound (any number is 3, which is not tested); low the names, and high 0; low the names, and high the
-// pairs; low the bits of an unsigned type, and high 0.
-const NOTHING: u8 = 0;
-
-const LOW: u8 = 1;
-
-const PARAMETERS: u8 = 2;
-
-const BOUNDED: u8 = 4;
-
-const NAMES: u8 = 5;
-
-const PAIRS: u8 = 6;
-
-const BITS: u8 = 7;
+// What a kind asks, where the states of its lows stand among those that children begin in, and how many lows are looked up there.
+#[derive(Clone, Copy)]
+pub(crate) struct Head {
+    pub(crate) asked: Asked,
+    pub(crate) first: u8,
+    pub(crate) lows: u8,
+}
 
 // The state that nothing leads out of.
 const DEAD: usize = 0;
@@ -34,100 +44,93 @@ const DEAD: usize = 0;
 // The unsigned type with the most bits has so many.
 const MOST_BITS: u32 = 256;
 
-// The entries of a kind in the table: what it asks, where its states stand, how many lows are looked up there.
-const HEAD_COLUMNS: usize = 3;
-
-const FIRST: usize = 1;
-
-const LOWS: usize = 2;
-
-// Which of the lows it is.
-fn which(asked: u8, low: u32) -> usize
-    ensures { result ≡ spec.which asked low }
-{
-    match asked {
-        LOW | PARAMETERS => low as usize,
-        _ => 0,
-    }
-}
-
 // Whether there is an unsigned type of so many bits: `u1` to `u256`, powers of two only.
 fn is_bits(low: u32) -> bool
     ensures { result ≡ has spec.bits low }
 {
-    if low == 1 {
-        return true;
-    }
-    if low > MOST_BITS {
-        return false;
-    }
-    num::is_bound(Some(low as u64))
+    low == 1 || (low <= MOST_BITS && num::is_bound(Some(u64::from(low))))
 }
 
-// What is asked besides, before the children are seen.
-fn besides(asked: u8, low: u32, high: u32) -> bool
-    ensures { result ≡ spec.besides asked low high }
-{
-    match asked {
-        LOW | NAMES => high == 0,
-        BOUNDED => num::is_bound(Some(cue::number(low, high))),
-        BITS => is_bits(low) && high == 0,
-        _ => true,
+// How many children a record has of the sorts that its low and high may count.
+#[derive(Clone, Copy)]
+pub(crate) struct Counts {
+    pub(crate) names: usize,
+    pub(crate) parameters: usize,
+    pub(crate) patterns: usize,
+}
+
+impl Asked {
+    // Which of the lows it is.
+    #[tactic(auto, unfolding(crate::specs::Children::Begin::which))]
+    fn which(self, low: u32) -> usize
+        ensures { result ≡ spec.which (asked_number self) low }
+    {
+        match self {
+            Asked::Low | Asked::Parameters => low as usize,
+            _ => 0,
+        }
+    }
+
+    // What is asked besides, before the children are seen.
+    #[tactic(auto, unfolding(crate::specs::Children::Begin::besides, num::specs::Bound::bound_ok))]
+    fn besides(self, low: u32, high: u32) -> bool
+        ensures { result ≡ spec.besides (asked_number self) low high }
+    {
+        match self {
+            Asked::Low | Asked::Names => high == 0,
+            Asked::Bounded => num::is_bound(Some(cue::number(low, high))),
+            Asked::Bits => is_bits(low) && high == 0,
+            _ => true,
+        }
+    }
+
+    // Whether the numbers of children are what low and high say.
+    #[tactic(auto, unfolding(crate::specs::Children::Begin::agrees))]
+    fn agrees(self, low: u32, high: u32, counts: Counts) -> bool
+        ensures { result ≡ spec.agrees (asked_number self) low high counts.names counts.parameters counts.patterns }
+    {
+        match self {
+            Asked::Parameters => high as usize == counts.parameters,
+            Asked::Names => low as usize == counts.names,
+            Asked::Pairs => low as usize == counts.names && high as usize == counts.patterns,
+            _ => true,
+        }
     }
 }
 
-// Whether the numbers of names, parameters and patterns are what low and high say.
-fn agrees(asked: u8, low: u32, high: u32, names: usize, parameters: usize, patterns: usize) -> bool
-    ensures { result ≡ spec.agrees asked low high names parameters patterns }
+// The row of a kind; where there is no such kind, one that asks nothing and has no lows. A kind is a number, as it stands in its line.
+fn head_of(kind: u32) -> Head
+    ensures { HeadOf kind result }
 {
-    match asked {
-        PARAMETERS => high as usize == parameters,
-        NAMES => low as usize == names,
-        PAIRS => low as usize == names && high as usize == patterns,
-        _ => true,
+    match HEADS.get(kind as usize) {
+        Some(head) => *head,
+        None => Head {
+            asked: Asked::Nothing,
+            first: 0,
+            lows: 0,
+        },
     }
-}
-
-// What a kind asks; nothing, where there is no such kind.
-fn asked(kind: u32) -> u8
-    ensures { result ≡ spec.asked_of kind }
-{
-    if kind > LAST {
-        return NOTHING;
-    }
-    HEADS[HEAD_COLUMNS * (kind as usize)]
 }
 
 // The state that the children of a record begin in; the dead one if no form has its low and high.
-pub(crate) fn start(kind: u32, low: u32, high: u32) -> usize
-    ensures is { result ≡ spec.start kind low high }
+pub(crate) fn start(r: Record) -> usize
+    ensures is { result ≡ spec.start r.kind r.low r.high }
     ensures below { result < table.state_count }
 {
-    if kind > LAST {
+    let head = head_of(r.kind);
+    let i = head.asked.which(r.low);
+    if i >= usize::from(head.lows) {
         return DEAD;
     }
-    let row = HEAD_COLUMNS * (kind as usize);
-    let asked = HEADS[row];
-    let i = which(asked, low);
-    if i >= usize::from(HEADS[row + LOWS]) {
-        return DEAD;
-    }
-    if besides(asked, low, high) {
-        return usize::from(HEADS[usize::from(HEADS[row + FIRST]) + i]);
+    if head.asked.besides(r.low, r.high) {
+        return usize::from(BEGINS[usize::from(head.first) + i]);
     }
     DEAD
 }
 
 // Whether the numbers of children are what the kind, low and high of their record say.
-pub(crate) fn agreed(
-    kind: u32,
-    low: u32,
-    high: u32,
-    names: usize,
-    parameters: usize,
-    patterns: usize,
-) -> bool
-    ensures { result ≡ spec.agrees (spec.asked_of kind) low high names parameters patterns }
+pub(crate) fn agreed(r: Record, counts: Counts) -> bool
+    ensures { result ≡ spec.agrees (spec.asked_of r.kind) r.low r.high counts.names counts.parameters counts.patterns }
 {
-    agrees(asked(kind), low, high, names, parameters, patterns)
+    head_of(r.kind).asked.agrees(r.low, r.high, counts)
 }

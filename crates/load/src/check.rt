@@ -14,24 +14,12 @@ use crate::{begin, walk};
 use own::kind::Kind;
 
 // What the walk over its children says of a record.
+#[tactic(auto, unfolding(crate::specs::Checks::Judge::verdict))]
 fn verdict(r: Record, walked: Option<Seen>) -> bool
     requires below { Below walked }
     ensures { result ≡ spec.verdict (as_rec r) walked }
 {
-    let Some(seen) = walked else {
-        return false;
-    };
-    if walk::ends(seen.state) {
-        return begin::agreed(
-            r.kind,
-            r.low,
-            r.high,
-            seen.names,
-            seen.parameters,
-            seen.patterns,
-        );
-    }
-    false
+    walked.is_some_and(|seen| walk::ends(seen.state) && begin::agreed(r, seen.counts))
 }
 
 // Whether a record starts before it ends; a program may be empty.
@@ -48,18 +36,8 @@ fn stands(listing: &Listing, j: usize) -> bool
     ensures { result ≡ standing.stands (its_records listing.now) j }
 {
     let r = listing.record(j);
-    if r.size == 0 {
-        return false;
-    }
-    if r.size as usize > listing.count() - j {
-        return false;
-    }
-    if !placed(r) {
-        return false;
-    }
-    let state = begin::start(r.kind, r.low, r.high);
-    let walked = walk::walk(listing, j, r, state);
-    verdict(r, walked)
+    let left = listing.count() - j;
+    r.size != 0 && r.size as usize <= left && placed(r) && verdict(r, walk::walk(listing, j, r))
 }
 
 // Whether a record may be the top of a listing: a function, or a program that starts at 0.
@@ -78,16 +56,5 @@ pub(crate) fn is_whole(listing: &Listing) -> bool
         return false;
     }
     let top = listing.record(0);
-    if !is_top(top) {
-        return false;
-    }
-    if top.size as usize != n {
-        return false;
-    }
-    for j in 0..n {
-        if !stands(listing, j) {
-            return false;
-        }
-    }
-    true
+    is_top(top) && top.size as usize == n && (0..n).all(|j| stands(listing, j))
 }

@@ -3,6 +3,7 @@ ghost use Rattle.std.specs.Prelude.{◌≡◌, ◌<◌};
 ghost use Rattle.kinds.specs.Shape.{number};
 ghost use Rattle.load.specs.Children.Cue as spec;
 
+use crate::record::Record;
 use kinds::part;
 use own::arm::MatchPattern;
 
@@ -50,6 +51,7 @@ pub(crate) const CUES: usize = 21;
 const HALF_BITS: u64 = 32;
 
 // The 64-bit number that low and high hold together.
+#[tactic(auto, unfolding(kinds::specs::Shape::number))]
 pub(crate) fn number(low: u32, high: u32) -> u64
     ensures { result ≡ number low high }
 {
@@ -57,19 +59,19 @@ pub(crate) fn number(low: u32, high: u32) -> u64
 }
 
 // The cue of a built-in arm.
+#[tactic(auto, unfolding(crate::specs::Children::Cue::arm_cue))]
 fn arm_cue(low: u32) -> usize
     ensures { result ≡ spec.arm_cue low }
 {
-    if low == 0 {
-        return ARM;
+    if (1..=LAST_ARM).contains(&low) {
+        ARMS + low as usize
+    } else {
+        ARM
     }
-    if low > LAST_ARM {
-        return ARM;
-    }
-    ARMS + low as usize
 }
 
 // The cue of a number.
+#[tactic(auto, unfolding(crate::specs::Children::Cue::number_cue, num::specs::Bound::bound_ok))]
 fn number_cue(n: u64) -> usize
     ensures { result ≡ spec.number_cue n }
 {
@@ -82,11 +84,12 @@ fn number_cue(n: u64) -> usize
     SIZE
 }
 
-// The cue of a child of this kind, low and high.
-pub(crate) fn cue(kind: u32, low: u32, high: u32) -> usize
-    ensures { result ≡ spec.cue kind low high }
+// The cue of a child, by its kind, low and high.
+#[tactic(auto, using(crate::proofs::CueLaws::cue_by), unfolding(crate::specs::Children::Cue::place_from, crate::specs::Children::Cue::refined))]
+pub(crate) fn cue(child: Record) -> usize
+    ensures { result ≡ spec.cue child.kind child.low child.high }
 {
-    match kinds::category(kind) {
+    match kinds::category(child.kind) {
         part::NAME => NAME,
         part::PARAMETER => PARAMETER,
         part::TYPE => TYPE,
@@ -94,9 +97,9 @@ pub(crate) fn cue(kind: u32, low: u32, high: u32) -> usize
         part::LET_STATEMENT => LET,
         part::BLOCK => BLOCK,
         part::SINGLE => SINGLE,
-        part::BUILTIN_ARM => arm_cue(low),
+        part::BUILTIN_ARM => arm_cue(child.low),
         part::ENUM_ARM => ENUM_ARM,
-        part::NUMBER => number_cue(number(low, high)),
+        part::NUMBER => number_cue(number(child.low, child.high)),
         part::FUNCTION_ITEM => FUNCTION,
         part::TYPE_ITEM => TYPE_ITEM,
         _ => OTHER,

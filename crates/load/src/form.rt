@@ -23,7 +23,7 @@ impl Form {
         if text.len() < SIX_BYTES {
             return Form::Newer;
         }
-        if line::in_form(&WIDTHS[..SIX_FIELDS], text, 0) {
+        if line::in_form(&WIDTHS[..SIX_FIELDS], text) {
             return Form::Older;
         }
         Form::Newer

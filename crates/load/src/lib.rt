@@ -63,7 +63,7 @@ fn is_right(listing: &Listing) -> bool
     }
     match listing.form {
         Form::Older => true,
-        Form::Newer => ways::right(listing.text, listing.count()),
+        Form::Newer => ways::right(listing.text),
     }
 }
 

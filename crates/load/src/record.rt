@@ -1,10 +1,12 @@
 // The records of a listing, as its lines have them.
-ghost use Rattle.std.specs.Prelude.{◌≡◌, ◌*◌, ◌/◌, ◌<◌, ◌≤◌, map, eqb, length, get_or};
+ghost use Rattle.std.specs.Prelude.{◌≡◌, ◌*◌, ◌/◌, ◌<◌, ◌≤◌, map, eqb, length, get_or, drop};
 ghost use Rattle.text.specs.Widths.{rec_wide};
 ghost use Rattle.own.specs.Flat.{blank};
 ghost use Rattle.own.specs.Numbers.{kind_number};
 ghost use Rattle.own.specs.Words.{recs};
-ghost use Rattle.load.specs.Listing.Read.{rows_from, rec_of};
+ghost use Rattle.load.specs.Listing.Read.{values_of, rows_from, rec_of};
+ghost use Rattle.lines.specs.Form.{wide};
+ghost use Rattle.lines.specs.Lines.{six_widths};
 ghost use Rattle.load.specs.Checks.Listed.{fields, its_lines, its_records};
 ghost use Rattle.load.specs.Checks.Judge.{as_rec};
 
@@ -14,7 +16,7 @@ use lines::{SIX_FIELDS, WIDTHS};
 use own::kind::Kind;
 use text::RECORD_WORDS;
 
-// The first six words of a record by name.
+// The first six words of a record by name. Its kind is a number, since a line may have any two digits there.
 #[derive(Clone, Copy)]
 pub(crate) struct Record {
     pub(crate) kind: u32,
@@ -49,45 +51,43 @@ impl<'a> Listing<'a> {
         self.text.len() / self.form.bytes()
     }
 
-    // The record of line i: the first six numbers of the line, whatever its form.
+    // The first six numbers of line i, whatever its form.
+    #[inline(always)]
+    fn numbers(&self, i: usize) -> [u32; SIX_FIELDS]
+        requires { i < length (its_lines self.now) }
+        ensures { result ≡ values_of six_widths (drop (wide (fields self.now) * i) self.now.text.now) }
+    {
+        let at = self.form.bytes() * i;
+        line::values(&WIDTHS[..SIX_FIELDS], &self.text[at..])
+    }
+
+    // The record of line i.
     #[inline(always)]
     pub(crate) fn record(&self, i: usize) -> Record
         requires { i < length (its_records self.now) }
         ensures { as_rec result ≡ get_or (its_records self.now) i blank }
     {
-        let mut words = [0u32; SIX_FIELDS];
-        line::values(
-            &WIDTHS[..SIX_FIELDS],
-            self.text,
-            self.form.bytes() * i,
-            &mut words,
-            0,
-        );
+        let [kind, start, end, low, high, size] = self.numbers(i);
         Record {
-            kind: words[0],
-            start: words[1],
-            end: words[2],
-            low: words[3],
-            high: words[4],
-            size: words[5],
+            kind,
+            start,
+            end,
+            low,
+            high,
+            size,
         }
     }
 
     // Writes the first six words of the records of the first n lines. The last word of each is not written: it is worked out when all stand.
+    // The words are written by their places: std says nothing of the elements that `as_chunks_mut` leaves.
     pub(crate) fn write(&self, n: usize, tree: &mut [u32])
         requires n_in_lines { n ≤ length (its_lines self.now) }
         requires n_in_words { rec_wide * n ≤ length tree.old }
         ensures { recs n tree.new ≡ map rec_of (rows_from (fields self.now) n self.now.text.now) }
     {
-        let step = self.form.bytes();
         for i in 0..n {
-            line::values(
-                &WIDTHS[..SIX_FIELDS],
-                self.text,
-                step * i,
-                tree,
-                RECORD_WORDS * i,
-            );
+            let w = RECORD_WORDS * i;
+            tree[w..w + SIX_FIELDS].copy_from_slice(&self.numbers(i));
         }
     }
 }

@@ -10,18 +10,19 @@ ghost use Rattle.load.specs.Checks.Judge as spec;
 ghost use Rattle.load.specs.Checks.Judge.{as_rec};
 ghost use Rattle.load.specs.Checks.Small.{Small, Below};
 
-use crate::cue;
+use crate::begin::Counts;
 use crate::record::{Listing, Record};
-use crate::table::{COLUMNS, STEPS};
+use crate::table::STEPS;
+use crate::{begin, cue};
 
-// What has been found so far: how many records are left beneath the parent, the automaton's state, and how many names, parameters and patterns there are.
+// What has been found so far: how many records are left beneath the parent, the automaton's state, and how many children there are of the sorts that are
+// counted. That the state is one of the table's, `past` asks and `walk` promises: the definitions build what is seen (specs/Checks/Judge.antt), and with that
+// fact in this struct each of them would have to prove it.
 #[derive(Drop)]
 pub(crate) struct Seen {
     pub(crate) left: usize,
     pub(crate) state: usize,
-    pub(crate) names: usize,
-    pub(crate) parameters: usize,
-    pub(crate) patterns: usize,
+    pub(crate) counts: Counts,
 }
 
 // The entry of a state: by cue the state after a child, and behind the cues 1 where a record may end.
@@ -31,10 +32,11 @@ fn entry(state: usize, cue: usize) -> usize
     ensures is { result ≡ entry state cue }
     ensures below { result < table.state_count }
 {
-    usize::from(STEPS[COLUMNS * state + cue])
+    usize::from(STEPS[state][cue])
 }
 
 // Whether a record may end in this state.
+#[tactic(auto, unfolding(crate::specs::Children::Run::ended))]
 pub(crate) fn ends(state: usize) -> bool
     requires state_lt_state_count { state < table.state_count }
     ensures { result ≡ run.ended state }
@@ -60,32 +62,36 @@ fn past(seen: Seen, child: Record) -> Seen
     requires size_le_left { child.size ≤ seen.left }
     ensures { result ≡ spec.past seen (as_rec child) }
 {
-    let its = cue::cue(child.kind, child.low, child.high);
+    let its = cue::cue(child);
     Seen {
         left: seen.left - child.size as usize,
         state: entry(seen.state, its),
-        names: seen.names + usize::from(its == cue::NAME),
-        parameters: seen.parameters + usize::from(its == cue::PARAMETER),
-        patterns: seen.patterns + usize::from(its == cue::PATTERN),
+        counts: Counts {
+            names: seen.counts.names + usize::from(its == cue::NAME),
+            parameters: seen.counts.parameters + usize::from(its == cue::PARAMETER),
+            patterns: seen.counts.patterns + usize::from(its == cue::PATTERN),
+        },
     }
 }
 
-// What is seen of all children of the record at line j, the automaton beginning in this state; nothing, if one of them does not sit.
-pub(crate) fn walk(listing: &Listing, j: usize, parent: Record, state: usize) -> Option<Seen>
-    requires state_lt_state_count { state < table.state_count }
+// What is seen of all children of the record at line j; nothing, if one of them does not sit. The line of the next child is known when the one before it has
+// been read, so no range and no iterator of the library has their lines.
+pub(crate) fn walk(listing: &Listing, j: usize, parent: Record) -> Option<Seen>
     requires parent_value { as_rec parent ≡ get_or (its_records listing.now) j blank }
     requires size_nonzero { 0 < parent.size }
     requires size_in_bounds { j + parent.size ≤ length (its_records listing.now) }
-    ensures is { result ≡ spec.judge (as_rec parent) (spec.before (as_rec parent) state) (children (its_records listing.now) j) }
+    ensures is { result ≡ spec.judge (as_rec parent) (spec.begun (as_rec parent)) (children (its_records listing.now) j) }
     ensures below { Below result }
 {
     let mut i = j + 1;
     let mut seen = Seen {
         left: parent.size as usize - 1,
-        state,
-        names: 0,
-        parameters: 0,
-        patterns: 0,
+        state: begin::start(parent),
+        counts: Counts {
+            names: 0,
+            parameters: 0,
+            patterns: 0,
+        },
     };
     while 0 < seen.left {
         let child = listing.record(i);

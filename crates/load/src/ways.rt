@@ -1,70 +1,52 @@
 // The ways up that the lines of a listing of the newer form end with, against those that the sizes of their records give.
-ghost use Rattle.std.specs.Prelude.{◌≡◌, ◌<◌, ◌-◌, ◌/◌, ℕ, length, get_or};
-ghost use Rattle.up.specs.Ways.{way_up};
+ghost use Rattle.std.specs.Prelude.{◌≡◌, ◌/◌, ℕ, length, get_or};
 ghost use Rattle.lines.specs.Lines.{widths, line_bytes};
 ghost use Rattle.load.specs.Form.{newer};
 ghost use Rattle.load.specs.Load.{ways_right};
 ghost use Rattle.load.specs.Listing.Read.{lines_read};
-ghost use Rattle.load.specs.Checks.GivenWays.{sizes_in, ups_in};
+ghost use Rattle.load.specs.Checks.GivenWays.{sizes_in, given_in};
 
 use crate::line;
 use lines::{LINE_BYTES, PLACE_DIGITS, SIX_BYTES};
+use up::Records;
 
 // Where the size and the way up stand in a line: the way up behind the line of the older form, of which the size and the byte after it are the last.
 const UP_AT: usize = SIX_BYTES;
 
 const SIZE_AT: usize = UP_AT - 1 - PLACE_DIGITS;
 
-// The size of the record of line p.
-fn size(text: &[u8], p: usize) -> usize
-    requires p_in_bounds { p < length text.now / line_bytes }
-    ensures { result ≡ sizes_in widths text.now p }
-{
-    line::number(text, LINE_BYTES * p + SIZE_AT, PLACE_DIGITS) as usize
+// The lines of a listing of the newer form, as the sizes of their records and the ways up that they give.
+#[derive(Clone, Copy)]
+struct Given<'a> {
+    text: &'a [u8],
 }
 
-// The way up that line p gives.
-fn given(text: &[u8], p: usize) -> usize
-    requires p_in_bounds { p < length text.now / line_bytes }
-    ensures { result ≡ get_or (ups_in widths text.now) p 0 }
-{
-    line::number(text, LINE_BYTES * p + UP_AT, PLACE_DIGITS) as usize
+impl<'a> Records for Given<'a> {
+    ghost count = { λ l. length l.text.now / line_bytes };
+
+    ghost sizes = { λ l. sizes_in widths l.text.now };
+
+    ghost ways = { λ l. given_in widths l.text.now };
+
+    fn size(&self, i: usize) -> u32 {
+        line::number(self.text, LINE_BYTES * i + SIZE_AT, PLACE_DIGITS)
+    }
+
+    fn way(&self, i: usize) -> u32 {
+        line::number(self.text, LINE_BYTES * i + UP_AT, PLACE_DIGITS)
+    }
 }
 
-// The record that holds that of line i, where the lines before give their ways up rightly; i itself if none does. `before` is what holds the record before it,
-// or that record itself. As `above` of crate `up`, in lines.
-fn above(text: &[u8], before: usize, i: usize) -> usize
-    requires i_in_bounds { i < length text.now / line_bytes }
-    requires before_value { before ≡ i - 1 - way_up (sizes_in widths text.now) (i - 1) }
-    requires raised { (q : ℕ) → q < i → get_or (ups_in widths text.now) q 0 ≡ way_up (sizes_in widths text.now) q }
-    ensures { result ≡ i - way_up (sizes_in widths text.now) i }
-{
-    if i == 0 {
-        return 0;
-    }
-    if size(text, i - 1) > 1 {
-        return i - 1;
-    }
-    let mut p = before;
-    while i - p >= size(text, p) {
-        let up = given(text, p);
-        if up == 0 {
-            return i;
-        }
-        p -= up;
-    }
-    p
-}
-
-// Whether each of n lines ends with the way up of its record.
-pub(crate) fn right(text: &[u8], n: usize) -> bool
-    requires n_value { n ≡ length text.now / line_bytes }
+// Whether each line of a text ends with the way up of its record.
+pub(crate) fn right(text: &[u8]) -> bool
     ensures { result ≡ ways_right newer (lines_read widths text.now) }
 {
+    let given = Given { text };
+    let n = text.len() / LINE_BYTES;
     let mut p = 0;
     for i in 0..n {
-        p = above(text, p, i);
-        if given(text, i) != i - p {
+        p = up::above(&given, p, i);
+        if given.way(i) as usize != i - p {
             return false;
         }
     }

@@ -3,7 +3,7 @@
 // records written again are the listing, or where its lines are of 36 bytes those lines with a way up behind each, and the records, a line each.
 #![tactic(auto)]
 
-use cases::{BadCase, Case, Cases};
+use cases::{Cases, is_zero, zeros};
 use lines::{LINE_BYTES, SIX_BYTES};
 use std::alloc::Global;
 use std::io;
@@ -16,15 +16,6 @@ const MOST_WORDS: usize = 16384;
 
 // What a word holds before, so that one that is not written shows.
 const UNWRITTEN: u32 = 7;
-
-// Whether all words are 0 that must be.
-fn zeros(words: &[u32]) -> &'static str {
-    if words.iter().all(|word| *word == 0) {
-        "zeros"
-    } else {
-        "NOT ZERO"
-    }
-}
 
 // Whether lines of 36 bytes are those of 41 without the way up and the space before it.
 fn is_wider(listing: &[u8], lines: &[u8]) -> bool {
@@ -49,10 +40,11 @@ fn likeness(listing: &[u8], lines: &[u8]) -> &'static str {
     }
 }
 
-// The lines of the first records of a tree.
-fn list(alloc: Global, tree: &[u32], count: usize) -> io::Result<Vec<u8>> {
+// The lines of records, given by their words.
+fn list(alloc: Global, records: &[u32]) -> io::Result<Vec<u8>> {
+    let count = records.len() / RECORD_WORDS;
     let mut lines = vec![in alloc; 0; count.saturating_mul(LINE_BYTES)]?;
-    let used = lines::list(tree, count, &mut lines);
+    let used = lines::list(records, count, &mut lines);
     lines.truncate(used);
     Ok(lines)
 }
@@ -68,8 +60,9 @@ fn write_records(
     let Some((records, behind)) = tree.split_at_checked(count.saturating_mul(RECORD_WORDS)) else {
         return writeln!(out, " NOT ZERO NOT THE SAME");
     };
-    let lines = list(alloc, tree, count)?;
-    writeln!(out, " {} {}", zeros(behind), likeness(listing, &lines))?;
+    let lines = list(alloc, records)?;
+    let all = zeros(is_zero(behind));
+    writeln!(out, " {all} {}", likeness(listing, &lines))?;
     let (records, _) = records.as_chunks::<RECORD_WORDS>();
     for [kind, start, end, low, high, size, up] in records {
         writeln!(out, "{kind} {start} {end} {low} {high} {size} {up}")?;
@@ -87,34 +80,23 @@ fn write_case(out: &mut impl Write, alloc: Global, listing: &[u8], words: usize)
         }
         Err(not_loaded) => {
             let refused = Refused::from(not_loaded);
-            let number = u32::from(refused.refusal);
-            writeln!(out, "refused {number} {} {}", refused.place, zeros(&tree))
+            let refusal = refused.refusal;
+            let all = zeros(is_zero(&tree));
+            writeln!(out, "refused {refusal} {} {all}", refused.place)
         }
     }
 }
 
-// A case, where the buffer that it asks is not too long.
-fn fitting(case: Case<'_, 2>) -> Result<Case<'_, 2>, BadCase> {
-    if case.numbers[0] <= MOST_WORDS {
-        Ok(case)
-    } else {
-        Err(BadCase)
-    }
-}
-
-// No case is run after one that is wrong.
+// No case is run after one that is wrong: `Cases` ends there.
 fn main(rt: HostRuntime) -> io::Result<()> {
     let alloc = rt.alloc();
     let mut stream = Vec::new(alloc);
     rt.stdin().read_to_end(&mut stream)?;
     let mut out = BufWriter::new(alloc, io::writer(&rt))?;
-    for case in Cases::<2>::new(&stream) {
-        match case.and_then(fitting) {
+    for case in Cases::within(&stream, [MOST_WORDS, usize::MAX]) {
+        match case {
             Ok(case) => write_case(&mut out, alloc, case.text, case.numbers[0])?,
-            Err(bad) => {
-                writeln!(out, "{bad}")?;
-                break;
-            }
+            Err(bad) => writeln!(out, "{bad}")?,
         }
     }
     out.flush()

@@ -1,7 +1,6 @@
 -- What the tests of bounds, sizes and lengths say.
 -- Assumes nothing.
-use Rattle.std.specs.Prelude.{None, Some, true, false, ◌≡◌, refl, ℕ, zero, suc, ◌^◌, ◌≤◌, eqb}
-use Rattle.std.specs.Option.{is_some}
+use Rattle.std.specs.Prelude.{None, Some, true, ◌≡◌, refl, ℕ, zero, suc, ◌^◌, ◌≤◌, eqb}
 use Rattle.std.proofs.Common.{ap, arith, eq-eqb, ne_eqb, eqb→eq}
 use Rattle.text.proofs.Same.{differ}
 use Rattle.text.specs.Lists.{span}
@@ -41,21 +40,3 @@ pub length-iff : (v : Value) → (length_ok v ≡ true → Length v) × (Length 
 unfolding length_ok
 length-iff (Some n) = (λ e. (n, refl), λ p. refl)
 length-iff None = (λ e. differ e, λ p. let q = p.1 in let z : ◌≡◌ {A = ℕ} 0 1 = cc in absurd (omega arith))
-
--- The tests that the code makes.
-pub a_size : (v : Value) (n : ℕ) → v ≡ Some n → (n ≡ 0 → ⊥) → size_ok v ≡ true
-unfolding size_ok
-a_size v n e h = rw (e, ne_eqb n 0 h) refl
-
-pub zero_no_size : (v : Value) → v ≡ Some 0 → size_ok v ≡ false
-unfolding size_ok
-zero_no_size v e = rw e refl
-
-pub no_size : (v : Value) → v ≡ None → size_ok v ≡ false
-unfolding size_ok
-no_size v e = rw e refl
-
-pub some_length : (v : Value) → is_some v ≡ length_ok v
-unfolding length_ok
-some_length None = refl
-some_length (Some n) = refl

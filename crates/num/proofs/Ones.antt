@@ -5,23 +5,16 @@ use mathlib.Core.Path.{◌≡◌, refl, sym, ◌∙◌, ap}
 use Prim.Native.Nat.{ℕ, zero, suc, ◌+◌, ◌*◌, ◌/◌, ◌%◌, ◌^◌, ◌≤◌, ◌<◌}
 use native.Mathlib.Nat.{pow-suc}
 use native.Mathlib.Omega.{arith}
-use borrow.Author.Tests.{eqb-true, eq-eqb}
+use borrow.Author.Tests.{eqb-true, eq-eqb, ne_eqb}
 use lib.Count.{ones, ones_in, ones_step, ones_cat}
 use lib.Dec.{eqb}
 use lib.Pow.{pow_pos}
+use Rattle.std.proofs.lemmas.Nat.{zero_from_ones}
 use Rattle.text.proofs.Same.{differ}
 use Rattle.std.specs.Prelude.{None, Some}
 use Rattle.num.specs.Value.{Value}
 use Rattle.num.specs.Bound.{is_bound, bound_ok}
 use Rattle.num.proofs.BoundLaws.{power-of, power-passes}
-
-none-set : (k n : ℕ) → n < 2 ^ k → ones n ≡ 0 → n ≡ 0
-none-set zero n h e = omega arith
-none-set (suc k) n h e =
-    let s = ones_step n in
-    let p = pow-suc 2 k in
-    let z = none-set k (n / 2) (omega arith) (omega arith) in
-    omega arith
 
 -- by the lowest bit, with the claim for the others
 lowest : (k n : ℕ) → n < 2 ^ suc k → ones n ≡ 1 → (n / 2 < 2 ^ k → ones (n / 2) ≡ 1 → (j : ℕ) × (j < k) × (n / 2 ≡ 2 ^ j))
@@ -35,7 +28,7 @@ lowest k n h e above zero q =
 lowest k n h e above (suc b) q =
     let s = ones_step n in
     let p = pow-suc 2 k in
-    let z = none-set k (n / 2) (omega arith) (omega arith) in
+    let z = zero_from_ones (n / 2) (omega arith) in
     (0, omega arith, omega arith)
 
 one_set : (k n : ℕ) → n < 2 ^ k → ones n ≡ 1 → (j : ℕ) × (j < k) × (n ≡ 2 ^ j)
@@ -83,14 +76,18 @@ other_than_one zero h l = below_two 0 (omega arith)
 other_than_one (suc zero) h l = absurd (l refl)
 other_than_one (suc (suc n)) h l = one_bit (suc (suc n)) h (omega arith)
 
-pub bit_bound : (v : Value) (n : ℕ) → v ≡ Some n → n < 2 ^ 64 → (n ≡ 1 → ⊥) → bound_ok v ≡ eqb (ones n) 1
+pub bit_bound : (v : Value) (n : ℕ) → v ≡ Some n → n < 2 ^ 64 → (n ≡ 1 → ⊥) → ones n ≡ 1 → true ≡ bound_ok v
 unfolding bound_ok
-bit_bound v n e h l = rw e (sym (other_than_one n h l))
+bit_bound v n e h l o = rw e (sym (eq-eqb _ _ o) ∙ other_than_one n h l)
 
-pub one_no_bound : (v : Value) → v ≡ Some 1 → bound_ok v ≡ false
+pub bits_no_bound : (v : Value) (n : ℕ) → v ≡ Some n → n < 2 ^ 64 → (n ≡ 1 → ⊥) → (ones n ≡ 1 → ⊥) → false ≡ bound_ok v
 unfolding bound_ok
-one_no_bound v e = rw e (sym (below_two 1 (omega arith)))
+bits_no_bound v n e h l o = rw e (sym (ne_eqb _ _ o) ∙ other_than_one n h l)
 
-pub no_bound : (v : Value) → v ≡ None → bound_ok v ≡ false
+pub one_no_bound : (v : Value) (n : ℕ) → v ≡ Some n → n ≡ 1 → false ≡ bound_ok v
+unfolding bound_ok
+one_no_bound v n e o = rw (e, o) (below_two 1 (omega arith))
+
+pub no_bound : (v : Value) → v ≡ None → false ≡ bound_ok v
 unfolding bound_ok
 no_bound v e = rw e refl

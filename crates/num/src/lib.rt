@@ -7,7 +7,7 @@ ghost use Rattle.num.specs.Digits.{plain, after_base, digits_of, answer_of, buff
 ghost use Rattle.num.specs.Value.{fitted, number_of};
 ghost use Rattle.num.specs.Bound.{bound_ok, size_ok, length_ok};
 
-// The digit of a byte; 0 for one below `0`.
+// The digit of a byte; 0 for one below `0`, as the definition has it: it is total, and the lexer hands over digits only.
 fn digit(b: u8) -> u8
     ensures { result ≡ b - 48 }
 {
@@ -50,6 +50,7 @@ pub fn number(draft: &[u8], start: usize, end: usize) -> Option<u64>
 }
 
 // The bytes of a run without `_`, then zeros; how many there are, None where the buffer is too short for them.
+// `n` is the answer too, so it is counted here.
 fn write_plain(run: &[u8], out: &mut [u8]) -> Option<usize>
     ensures answer { result ≡ answer_of (plain run.now) (length out.old) }
     ensures buffer { out.new ≡ buffer_of (plain run.now) (length out.old) }
@@ -89,7 +90,7 @@ pub fn digits(draft: &[u8], start: usize, end: usize, out: &mut [u8]) -> Option<
 }
 
 // A good bound has one bit set, and that is not the lowest. The count of ones is the test that document 01 names.
-#[tactic(auto, using(crate::proofs::Ones::bit_bound, crate::proofs::Ones::one_no_bound, crate::proofs::Ones::no_bound))]
+// Like the two below it takes what `number` gives: one that is too large is none of them.
 pub fn is_bound(v: Option<u64>) -> bool
     ensures { result ≡ bound_ok v }
 {
@@ -97,7 +98,7 @@ pub fn is_bound(v: Option<u64>) -> bool
 }
 
 // A good size is a number other than 0.
-#[tactic(auto, using(crate::proofs::BoundLaws::a_size, crate::proofs::BoundLaws::zero_no_size, crate::proofs::BoundLaws::no_size))]
+#[tactic(auto, unfolding(crate::specs::Bound::size_ok))]
 pub fn is_size(v: Option<u64>) -> bool
     ensures { result ≡ size_ok v }
 {
@@ -105,7 +106,7 @@ pub fn is_size(v: Option<u64>) -> bool
 }
 
 // A good length is any number that is not too large, 0 too.
-#[tactic(auto, using(crate::proofs::BoundLaws::some_length))]
+#[tactic(auto, unfolding(crate::specs::Bound::length_ok))]
 pub fn is_length(v: Option<u64>) -> bool
     ensures { result ≡ length_ok v }
 {

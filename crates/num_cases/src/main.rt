@@ -21,6 +21,7 @@ fn write_value(out: &mut impl Write, value: Option<u64>) -> io::Result<()> {
     }
 }
 
+// What `is_bound`, `is_size` or `is_length` answers, which is a `bool`.
 fn write_good(out: &mut impl Write, good: bool) -> io::Result<()> {
     writeln!(out, " -> {}", if good { "good" } else { "bad" })
 }
@@ -38,7 +39,8 @@ fn write_digits(out: &mut impl Write, answer: Option<usize>, digits: &[u8]) -> i
     writeln!(out, "]")
 }
 
-// The digit text of a run, into buffers that are too short, just long enough and longer, and hold something else before.
+// The digit text of a run, into buffers that are too short, just long enough and longer, and hold something else before. What is lent is the front of an array,
+// as everywhere here: no buffer grows.
 fn write_digits_by_room(
     out: &mut impl Write,
     draft: &[u8],
@@ -93,7 +95,7 @@ fn write_run(
     }
 }
 
-// Each run of a list, with a space between two.
+// Each run of a list, with a space between two. `num` takes the start and the end of a run, which `split` does not give.
 fn write_runs(out: &mut impl Write, job: Job, list: &[u8]) -> io::Result<()> {
     let mut start = 0;
     for (place, byte) in list.iter().enumerate() {
@@ -141,6 +143,7 @@ fn write_long_run(out: &mut impl Write, name: &str, run: &[u8]) -> io::Result<()
     write_value(out, num::number(run, 0, run.len()))
 }
 
+// Each run is one array, of which some places are written anew.
 fn write_long_runs(out: &mut impl Write) -> io::Result<()> {
     let mut run = [b'0'; 9000];
     write_long_run(out, "9000 zeros", &run)?;

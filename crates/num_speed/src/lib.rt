@@ -22,7 +22,8 @@ pub extern "C" fn num_speed_number(draft: &[u8], start: usize, end: usize, said:
     ];
 }
 
-// The digit text of the token from start to end into out, with zeros after it, and how many digits it has; all zeros, and 0, if it does not fit.
+// The digit text of the token from start to end into out, with zeros after it, and how many digits it has; all zeros, and 0, if it does not fit: C has no
+// `Option`.
 #[unsafe(no_mangle)]
 pub extern "C" fn num_speed_digits(draft: &[u8], start: usize, end: usize, out: &mut [u8]) -> usize
     ensures count { result ≡ count_of (answer_of (digits_of (part_of draft.now start end)) (length out.old)) }

@@ -1,6 +1,6 @@
 -- Each token is owned by exactly one node, of those of its tree and of all trees beside it, and every other that holds it is wider.
 -- Assumes nothing.
-use Rattle.std.specs.Prelude.{◌≡◌, refl, Bool, false, ◌&&◌, not, List, [], ◌∷◌, map, ℕ, ◌<◌, ◌≤◌, length, T}
+use Rattle.std.specs.Prelude.{◌≡◌, refl, Bool, ◌&&◌, not, List, [], ◌∷◌, map, ℕ, ◌<◌, ◌≤◌, length, T}
 use Rattle.std.proofs.Common.{inl, inr, arith, T_not}
 use Rattle.text.proofs.Table.{first-of, second-of, pair, or_left, or_right}
 use Rattle.text.specs.Lists.{some}
@@ -46,16 +46,13 @@ pub record Found (t : Tok) (n : Node) : Type 0 where
   pub narrow : w ≤ width (record_of n)
   pub only : Only (Home t w) (Apart t w) (nodes n)
 
-not-any : {b : Bool} → b ≡ false → T (not b)
-not-any e = rw e tt
-
 found : (k l h : ℕ) (js : Items) (t : Tok) → T (holds (record_of (node k l h js)) t) → Spot (width (record_of (node k l h js))) t (kids js) (groups js)
     → Found t (node k l h js)
 found k l h js t held (own a) =
     let n = node k l h js in
     let home : Home t (width (record_of n)) n = record {
       owns = pair (holds (record_of n) t) (not (some (λ c. holds c t) (map record_of (kids js)))) held
-          (not-any (any_none t (all_map (λ c x. x.out) (heads js a))));
+          (let e = any_none t (all_map (λ c x. x.out) (heads js a)) in rw e tt);
       wide = refl;
     } in
     record { w = width (record_of n); narrow = omega arith; only = here home (all-concat (all-arrange (turned k js) (aparts (width (record_of n)) a))) }

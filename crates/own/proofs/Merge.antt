@@ -1,8 +1,8 @@
 -- A node's own tokens, merged with the nodes right beneath it in order of place, are its items.
 -- Assumes nothing.
 use Rattle.std.specs.Prelude.{◌≡◌, refl, Bool, true, false, List, [], ◌∷◌, map, ℕ, ◌<◌, ◌≤◌, ltb}
-use Rattle.std.proofs.Common.{sym, ap, ◌∙◌, subst, true≢false, arith, ltb→lt, lt→ltb}
-use Rattle.text.proofs.Table.{is_true, is_false}
+use Rattle.std.proofs.Common.{sym, ap, ◌∙◌, subst, true≢false, arith, ltb→lt}
+use Rattle.std.proofs.lemmas.Bool.{lt-ltb, le-ltb}
 use Rattle.own.specs.Tree.{Tok, Items, none, mark, sub, Node, node, yield, marks, kids, Marked, InOrder, end, exchange, arrange, Rec, record_of}
 use Rattle.own.specs.Flat.{Piece, tok, part, from, put, merge}
 use Rattle.own.specs.Law.{Ordered}
@@ -10,19 +10,13 @@ use Rattle.own.specs.Lists.{All, nil, ◌&◌}
 use Rattle.own.proofs.Lists.{all_map}
 use Rattle.own.proofs.Places.{order-left, order-right, order_le, end-append, node-bounded, bounded, heads}
 
-less : (a b : ℕ) → a < b → ltb a b ≡ true
-less a b h = is_true (ltb a b) (lt→ltb a b h)
-
-not-less : (a b : ℕ) → b ≤ a → ltb a b ≡ false
-not-less a b h = is_false (ltb a b) (λ t. let p = ltb→lt a b t in omega arith)
-
 -- one put before all others; a token that stands before all that are put in
 put_front : (r : Rec) (l : List Piece) → All (λ p. r.start < from p) l → put r l ≡ part r ∷ l
 put_front r [] a = refl
-put_front r (p ∷ l) (h & a) = rw (less r.start (from p) h)
+put_front r (p ∷ l) (h & a) = rw (lt-ltb r.start (from p) h)
 
 put-past : (r : Rec) (t : Tok) (l : List Piece) → t.start ≤ r.start → put r (tok t ∷ l) ≡ tok t ∷ put r l
-put-past r t l h = rw (not-less r.start t.start h)
+put-past r t l h = rw (le-ltb r.start t.start h)
 
 merge-front : (t : Tok) (ts : List Tok) {cs : List Node} → All (λ c. t.start ≤ (record_of c).start) cs
     → merge (map record_of cs) (t ∷ ts) ≡ tok t ∷ merge (map record_of cs) ts
@@ -75,14 +69,14 @@ ordered-kids (sub k l h js r) at o m =
 
 -- the order in which two are put in does not matter
 put-swap : (a b : Rec) → a.start < b.start → (l : List Piece) → put b (put a l) ≡ put a (put b l)
-put-swap a b h [] = rw (not-less b.start a.start (omega arith), less a.start b.start h)
+put-swap a b h [] = rw (le-ltb b.start a.start (omega arith), lt-ltb a.start b.start h)
 put-swap a b h (p ∷ l) = go (ltb a.start (from p)) (ltb b.start (from p)) refl refl (put-swap a b h l)
   where
     ba : ltb b.start a.start ≡ false
-    ba = not-less b.start a.start (omega arith)
+    ba = le-ltb b.start a.start (omega arith)
 
     ab : ltb a.start b.start ≡ true
-    ab = less a.start b.start h
+    ab = lt-ltb a.start b.start h
 
     go : (x y : Bool) → ltb a.start (from p) ≡ x → ltb b.start (from p) ≡ y → put b (put a l) ≡ put a (put b l)
         → put b (put a (p ∷ l)) ≡ put a (put b (p ∷ l))
@@ -90,7 +84,7 @@ put-swap a b h (p ∷ l) = go (ltb a.start (from p)) (ltb b.start (from p)) refl
     go true false ex ey i = simp (ex, ey, ba)
     go false true ex ey i =
         let u = ltb→lt b.start (from p) (rw ey tt) in
-        let v = less a.start (from p) (omega arith) in
+        let v = lt-ltb a.start (from p) (omega arith) in
         let z : true ≡ false = cc in
         absurd (true≢false z)
     go false false ex ey i = simp (ex, ey) (ap (λ m. p ∷ m) i)

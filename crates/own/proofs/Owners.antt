@@ -7,6 +7,7 @@ use mathlib.Core.List.{List, [], ◌∷◌, ◌++◌, map, append_assoc, append-
 use Rattle.std.proofs.Math.Decide.{ℕ_discrete}
 use Rattle.std.proofs.Math.Dec.{T}
 use Rattle.std.proofs.Math.ListN.{length, length-map}
+use Rattle.std.proofs.lemmas.List.{drop-map, get_or-map}
 use Rattle.text.proofs.Table.{first-of}
 use Rattle.text.specs.Lists.{some, keep}
 use Rattle.own.specs.Tree.{Tok, Items, none, mark, sub, Node, node, roots, yield, marks, kids, Marked, InOrder, begin, end, turned, groups, below, Rec, record_of, tokens, all, records, Fine}
@@ -16,7 +17,7 @@ use Rattle.own.specs.Lists.{All, nil, ◌&◌}
 use Rattle.own.proofs.Lists.{all_map, all-arrange, all-concat, all-at, only_at, keep-and, keep-ext, arrange-map}
 use Rattle.own.proofs.Places.{order-left, order-right, order-begin, end-any, marks-few, held, own-marks}
 use Rattle.own.proofs.Homes.{mine, Housed, homes}
-use Rattle.own.proofs.Shape.{leads-all, leads-at, head-children, any-arrange, drop-map, get_d_map}
+use Rattle.own.proofs.Shape.{leads-all, leads-at, head-children, any-arrange}
 use Rattle.own.proofs.Merge.{pieces, merge-kids, merge-arrange, ordered-kids}
 use Rattle.own.proofs.Count.{own-all, total-same, total-least, total-own}
 
@@ -70,13 +71,13 @@ module _ (ns : List Node) (fine : Fine ns) where
 
     is-record : get_or (records ns) j blank ≡ record_of (at j)
     unfolding at
-    is-record = get_d_map record_of (all ns) j no_node blank inside
+    is-record = get_or-map record_of (all ns) j no_node blank inside
 
     is-children : children (records ns) j ≡ map record_of (below (at j))
     unfolding at
     is-children =
         let (rest, e) = leads-at j no_node inside (leads-all ns) in
-        ap head_children (drop-map record_of (all ns) j ∙ ap (map record_of) e) ∙ head-children (at j) rest
+        ap head_children (drop-map record_of j (all ns) ∙ ap (map record_of) e) ∙ head-children (at j) rest
 
     is-owns : (t : Tok) → owns (records ns) j t ≡ mine (at j) t
     is-owns t =

@@ -2,7 +2,7 @@
 -- Assumes nothing.
 use Rattle.std.specs.Prelude.{◌≡◌, refl, Bool, true, false, ◌||◌, List, [], ◌∷◌, ◌++◌, map, ℕ, zero, suc, ◌-◌, ◌<◌, ◌≤◌, length, get_or, take, drop}
 use Rattle.std.proofs.Common.{sym, ap, ◌∙◌, append_assoc, append-nil, arith, length-append, take_at, drop_at}
-use Rattle.std.proofs.lemmas.List.{length-map}
+use Rattle.std.proofs.lemmas.List.{length-map, map-append}
 use Rattle.text.specs.Lists.{some}
 use Rattle.own.specs.Tree.{Tok, Items, none, mark, sub, Node, node, kids, turned, exchange, arrange, concat, groups, nodes, below, roots, all, Rec, record_of, records}
 use Rattle.own.specs.Flat.{holds, row, head_children}
@@ -46,10 +46,6 @@ groups-kids (sub k l h js r) = ap (λ m. nodes (node k l h js) ∷ m) (groups-ki
 nodes-below : (n : Node) → nodes n ≡ n ∷ concat (map nodes (below n))
 nodes-below n = ap (λ m. n ∷ concat m) (ap (arrange (turned n.kind n.items)) (groups-kids n.items) ∙ sym
     (arrange-map nodes (turned n.kind n.items) (kids n.items)))
-
-map-append : {A B : Type 0} (f : A → B) (k l : List A) → map f (k ++ l) ≡ map f k ++ map f l
-map-append f [] l = refl
-map-append f (a ∷ k) l = ap (λ m. f a ∷ m) (map-append f k l)
 
 -- a row of nodes, each with all beneath it, by the sizes
 row-nodes : (cs : List Node) (f : ℕ) → length cs ≤ f → row f (map record_of (concat (map nodes cs))) ≡ map record_of cs
@@ -128,16 +124,3 @@ any_swap t (e ∷ a ∷ b ∷ c ∷ l) = refl
 pub any-arrange : (t : Tok) (b : Bool) (l : List Rec) → some (λ c. holds c t) (arrange b l) ≡ some (λ c. holds c t) l
 any-arrange t true l = any_swap t l
 any-arrange t false l = refl
-
--- a list's image, from a place on and at a place
-pub drop-map : {A B : Type 0} (f : A → B) (l : List A) (j : ℕ) → drop j (map f l) ≡ map f (drop j l)
-drop-map f [] zero = refl
-drop-map f [] (suc j) = refl
-drop-map f (a ∷ l) zero = refl
-drop-map f (a ∷ l) (suc j) = drop-map f l j
-
--- A list's image at a place.
-pub get_d_map : {A B : Type 0} (f : A → B) (l : List A) (j : ℕ) (d : A) (e : B) → j < length l → get_or (map f l) j e ≡ f (get_or l j d)
-get_d_map f [] j d e h = absurd (omega arith)
-get_d_map f (a ∷ l) zero d e h = refl
-get_d_map f (a ∷ l) (suc j) d e h = get_d_map f l j d e (omega arith)

@@ -1,3 +1,4 @@
 -- Words of records.
 pub mod Splice
+pub mod Words
 pub mod Numbers

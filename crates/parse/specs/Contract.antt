@@ -40,6 +40,8 @@ use Rattle.parse.specs.declared.State.{State}
 use Rattle.parse.specs.declared.fault.Fault as code
 use Rattle.parse.specs.declared.token.Lexeme.{Lexeme}
 use Rattle.parse.specs.declared.token.Source.{Source}
+use Rattle.parse.specs.declared.token.Brackets.{Brackets}
+use Rattle.parse.specs.declared.token.Brackets.TheVariants as brackets
 use Rattle.parse.specs.declared.Step.{Step}
 use Rattle.parse.specs.declared.names.NameSort.{NameSort}
 use Rattle.parse.specs.declared.names.NameSort.TheVariants as name
@@ -247,14 +249,14 @@ unfoldable pub next : ℕ → ℕ → ℕ
 next at n = cond (nat_lt at n) (at + 1) at
 
 -- The inner state with the earliest refusal: that of the outer state, this one, that of the inner state.
-pub record Judged (outer inner : State) (refusal : std.Option Refusal) (place : ℕ) (r : State) : Type 0 where
+pub record Judged (outer inner : State) (own : Option Fault) (r : State) : Type 0 where
   pub at_is : r.at ≡ inner.at
   pub class_is : r.class ≡ inner.class
   pub start_is : r.start ≡ inner.start
   pub stop_is : r.stop ≡ inner.stop
   pub end_is : r.end ≡ inner.end
   pub out_is : r.out ≡ inner.out
-  pub kept_is : kept r ≡ sooner (kept outer) (sooner (fault_at refusal place) (kept inner))
+  pub kept_is : kept r ≡ sooner (kept outer) (sooner own (kept inner))
 
 -- The refusal of a bound, of a size and of a length, if there is one.
 unfoldable pub bound_fault : Value → std.Option Refusal
@@ -335,6 +337,34 @@ abbrev pub Only : ℕ → List Sort → Type 0
 Only c [] = Unit {0}
 Only c (word d ∷ w) = (d ≡ c) × Only c w
 Only c (child k l h d ∷ w) = Only c w
+
+-- The class that opens brackets,
+abbrev pub opening_class : Brackets → ℕ
+opening_class brackets.Round = t.LParen
+opening_class brackets.Square = t.LBracket
+
+-- the one that closes them,
+abbrev pub closing_class : Brackets → ℕ
+closing_class brackets.Round = t.RParen
+closing_class brackets.Square = t.RBracket
+
+-- the alternative of a pattern in them, and its kind;
+abbrev pub pattern_choice : Brackets → ℕ
+pattern_choice brackets.Round = choice.TuplePattern
+pattern_choice brackets.Square = choice.ArrayPattern
+
+abbrev pub pattern_kind : Brackets → ℕ
+pattern_kind brackets.Round = kind.TuplePattern
+pattern_kind brackets.Square = kind.ArrayPattern
+
+-- and those of an expression in them: parentheses make no tuple of one expression without a comma, where the number is 1.
+abbrev pub single_choice : Brackets → ℕ
+single_choice brackets.Round = choice.Parens
+single_choice brackets.Square = choice.Array
+
+abbrev pub single_kind : Brackets → ℕ → ℕ
+single_kind brackets.Round a = cond (a == 1) kind.Parenthesised kind.Tuple
+single_kind brackets.Square a = kind.Array
 
 -- Parts with commas between them.
 pub record Commas (J L : Items) (m a b : ℕ) : Type 0 where

@@ -1,7 +1,7 @@
 -- What `parse` hands over (document 01, "What the reader hands over": row 6 for a count that is too large, and from row 8 on; 19 among 9 to 14): from a
 -- draft and the words of its token buffer to the answer and every word of the tree buffer. What the draft is read as, and how many tokens there may be, are parameters.
 -- Assumes nothing: these are definitions.
-use Rattle.std.specs.Prelude.{◌≡◌, ℕ, ◌*◌, Bool, true, false, cond, ◌||◌, List, [], ◌∷◌, length, replicate, nat_le, nat_lt}
+use Rattle.std.specs.Prelude.{◌≡◌, ℕ, ◌*◌, Bool, false, cond, ◌||◌, List, [], ◌∷◌, length, replicate, nat_le, nat_lt}
 use Rattle.std.specs.Prelude.{Option, Some, None, Result, Ok, Err}
 use Rattle.std.proofs.Math.Option.{none}
 use Rattle.lexer.specs.Lexemes.{Token}
@@ -78,6 +78,10 @@ pub record Starts (x : Text) (st : State) : Type 0 where
   pub out_is : st.out ≡ 0
   pub kept_is : kept st ≡ none
 
+-- A refusal of a shape as the caller sees it.
+abbrev pub as_refused : Fault → Refused
+as_refused f = record { refusal = f.refusal; place = f.place }
+
 -- The code's answer that refuses,
 abbrev pub refuses : Refusal → ℕ → Result ℕ Refused
 refuses r p = Err (record { refusal = r; place = p })
@@ -85,7 +89,7 @@ refuses r p = Err (record { refusal = r; place = p })
 -- and that of a refusal that was kept, or else this one.
 abbrev pub unless_kept : Option Fault → Result ℕ Refused → Result ℕ Refused
 unless_kept None r = r
-unless_kept (Some f) r = refuses f.refusal f.place
+unless_kept (Some f) r = Err (as_refused f)
 
 -- Where a token starts, or the length at the end.
 abbrev pub place_in : Source → ℕ → ℕ

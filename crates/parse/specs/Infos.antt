@@ -22,6 +22,8 @@ use Rattle.text.specs.Widths.{rec_wide}
 use Rattle.parse.specs.Contract.{Text, as_items, Parsed, Put, Moved, Only, Turned, countable, reserved, head_sort}
 use Rattle.parse.specs.Choice as choice
 use Rattle.parse.specs.declared.State.{State}
+use Rattle.parse.specs.declared.expr.c.GenericCall.{GenericCall}
+use Rattle.parse.specs.declared.expr.c.GenericCall.TheVariants as call
 use Rattle.parse.specs.declared.Step.{Step}
 use Rattle.parse.specs.declared.Step.TheVariants.{Next, Refused}
 use Rattle.parse.specs.Orders as order
@@ -64,16 +66,26 @@ pub record Begun (x : Text) (st b : State) : Type 0 where
   pub colons : a.class ≡ t.DoubleColon
   pub second : Moved x a b
 
--- A name of this class that `::<..>` may follow, by its rule.
-pub record Generic (c rule : ℕ) : Type 0 where
-  pub chosen : choose table n-single c ≡ rule
-  pub one_of : (rule ≡ choice.Typed) ⊎ (rule ≡ choice.Folding) ⊎ (rule ≡ choice.ForWhile)
+-- The same where `<` follows.
+pub record Angled (x : Text) (st b : State) : Type 0 where
+  pub begun : Begun x st b
+  pub angle : b.class ≡ t.LAngle
+
+-- The alternative of each call that `::<..>` may belong to,
+abbrev pub alternative : GenericCall → ℕ
+alternative call.Typed = choice.Typed
+alternative call.Folding = choice.Folding
+alternative call.ForWhile = choice.ForWhile
+
+-- and a name of this class that begins such a call.
+abbrev pub Generic : ℕ → GenericCall → Type 0
+Generic c g = choose table n-single c ≡ alternative g
 
 -- A name of the class c and `::`, with a token of the class b behind them, begin an enum construction.
 pub data Leads (c b : ℕ) : Type 0 where
   named_leads : choose table n-single c ≡ choice.Named → Leads c b
   bare_leads : choose table n-single c ≡ choice.Bare → Leads c b
-  generic_leads : {rule : ℕ} → Generic c rule → (b ≢ t.LAngle) → Leads c b
+  generic_leads : (g : GenericCall) → Generic c g → (b ≢ t.LAngle) → Leads c b
 
 -- A name of the class c begins an enum path in an arm's head, with a token of the class b behind it.
 pub data Leading (c b : ℕ) : Type 0 where

@@ -5,12 +5,12 @@ ghost use Rattle.own.specs.Numbers.{kind_number};
 ghost use Rattle.parse.specs.Orders as orders;
 ghost use Rattle.parse.specs.Infos.{arm_kind, arm_low, arm_high, ArmKind, pair_arm, after_arm, order_kind, order_fault, Arranged};
 
-use crate::tree;
+use crate::tree::{self, Head};
 use own::arm::MatchPattern;
 use own::kind::Kind;
 use text::refusal::Refusal;
 
-// The order of arms, as specs/Orders.antt has it: a number, since it is one of the two that a step has, whose form document 01 names.
+// The order of arms, as specs/Orders.antt has it: a number, since it is one of the two that a step has, and all steps are of one type (lib.rt says why).
 // None yet, or one built-in arm, by its low; enum arms;
 const NO_ARM: u32 = 0;
 
@@ -28,42 +28,32 @@ const MORE: u32 = 11;
 
 const MIXED: u32 = 12;
 
-// Two lows as one number, and those of partners.
-const APART: u32 = 8;
+// The lows of built-in arms; by `as`, since `From` makes no constant.
+const LEFT: u32 = MatchPattern::Left as u32;
 
-const LEFT_RIGHT: u32 = APART * MatchPattern::Left as u32 + MatchPattern::Right as u32;
+const RIGHT: u32 = MatchPattern::Right as u32;
 
-const NONE_SOME: u32 = APART * MatchPattern::None as u32 + MatchPattern::Some as u32;
+const NONE: u32 = MatchPattern::None as u32;
 
-const FALSE_TRUE: u32 = APART * MatchPattern::False as u32 + MatchPattern::True as u32;
+const SOME: u32 = MatchPattern::Some as u32;
 
-const RIGHT_LEFT: u32 = APART * MatchPattern::Right as u32 + MatchPattern::Left as u32;
+const FALSE: u32 = MatchPattern::False as u32;
 
-const SOME_NONE: u32 = APART * MatchPattern::Some as u32 + MatchPattern::None as u32;
-
-const TRUE_FALSE: u32 = APART * MatchPattern::True as u32 + MatchPattern::False as u32;
-
-// Kind, low and high of an arm.
-#[derive(Drop)]
-pub(crate) struct Arm {
-    pub(crate) kind: Kind,
-    pub(crate) low: u32,
-    pub(crate) high: u32,
-}
+const TRUE: u32 = MatchPattern::True as u32;
 
 // The record of an arm: a built-in one where there is no name, otherwise an enum arm.
 #[tactic(auto, unfolding(crate::specs::Infos::arm_kind, crate::specs::Infos::arm_low, crate::specs::Infos::arm_high))]
-pub(crate) fn head(number: u32, other: u32) -> Arm
+pub(crate) fn head(number: u32, other: u32) -> Head
     ensures { (kind_number result.kind ≡ arm_kind number) × (result.low ≡ arm_low number other) × (result.high ≡ arm_high number other) }
 {
     if number == 0 {
-        return Arm {
+        return Head {
             kind: Kind::BuiltinArm,
             low: other,
             high: 0,
         };
     }
-    Arm {
+    Head {
         kind: Kind::EnumArm,
         low: number,
         high: other,
@@ -76,18 +66,19 @@ fn pair(a: u32, b: u32) -> u32
     requires { (a ≤ arm.True) × (b ≤ arm.True) }
     ensures { result ≡ pair_arm a b }
 {
-    match APART * a + b {
-        LEFT_RIGHT => PAIRED,
-        NONE_SOME => PAIRED,
-        FALSE_TRUE => PAIRED,
-        RIGHT_LEFT => TURNED,
-        SOME_NONE => TURNED,
-        TRUE_FALSE => TURNED,
+    match (a, b) {
+        (LEFT, RIGHT) => PAIRED,
+        (NONE, SOME) => PAIRED,
+        (FALSE, TRUE) => PAIRED,
+        (RIGHT, LEFT) => TURNED,
+        (SOME, NONE) => TURNED,
+        (TRUE, FALSE) => TURNED,
         _ => UNPAIRED,
     }
 }
 
 // The order of arms with one arm more.
+// An arm comes as its kind and low, the two numbers of its step.
 #[tactic(auto, unfolding(crate::specs::Infos::after_arm))]
 pub(crate) fn after(order: u32, kind: u32, low: u32) -> u32
     requires { ArmKind kind low }

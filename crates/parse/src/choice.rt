@@ -13,7 +13,11 @@ const CLASSES: u32 = 97;
 // Those from this one on are the names of types, which all lead to the same alternative; a table has an entry for each of the others.
 const TYPE_NAMES: u32 = 63;
 
-type Choices = [u8; 63];
+// The alternatives of the classes below those, and what all names of types lead to.
+struct Choices {
+    of: [u8; 63],
+    named: u32,
+}
 
 // At a class that begins none of the alternatives.
 pub(crate) const ABSENT: u32 = 0;
@@ -31,11 +35,14 @@ pub(crate) const TUPLE_TYPE: u32 = 5;
 
 pub(crate) const ARRAY_TYPE: u32 = 6;
 
-const TYPES: Choices = *b"\
+const TYPES: Choices = Choices {
+    of: *b"\
     \0\0\0\0\0\0\0\0\0\0\0\0\0\0\0\0\
     \0\0\0\0\x05\0\x06\0\0\0\0\0\0\0\0\0\
     \x04\0\0\0\0\x04\x04\x04\x04\x01\x02\x03\x04\x04\x04\x04\
-    \x04\x04\x04\x04\0\x04\x04\x04\x04\0\0\0\0\0\0";
+    \x04\x04\x04\x04\0\x04\x04\x04\x04\0\0\0\0\0\0",
+    named: NAMED_TYPE,
+};
 
 // A pattern.
 pub(crate) const NAME_PATTERN: u32 = 1;
@@ -44,11 +51,14 @@ pub(crate) const TUPLE_PATTERN: u32 = 2;
 
 pub(crate) const ARRAY_PATTERN: u32 = 3;
 
-const PATTERNS: Choices = *b"\
+const PATTERNS: Choices = Choices {
+    of: *b"\
     \0\0\0\0\0\0\0\0\0\0\0\0\0\0\0\0\
     \0\0\0\0\x02\0\x03\0\0\0\0\0\0\0\0\0\
     \x01\0\0\0\0\x01\x01\x01\x01\x01\x01\x01\x01\x01\x01\x01\
-    \x01\x01\x01\x01\0\x01\x01\x01\x01\0\0\0\0\0\0";
+    \x01\x01\x01\x01\0\x01\x01\x01\x01\0\0\0\0\0\0",
+    named: NAME_PATTERN,
+};
 
 // An expression that is no block.
 pub(crate) const LITERAL: u32 = 1;
@@ -75,29 +85,38 @@ pub(crate) const FOLDING: u32 = 11;
 
 pub(crate) const FOR_WHILE: u32 = 12;
 
-const SINGLES: Choices = *b"\
+const SINGLES: Choices = Choices {
+    of: *b"\
     \0\0\0\0\0\0\0\0\0\x05\0\0\0\0\0\0\
     \0\0\0\0\x02\0\x03\0\0\0\x07\0\x01\x01\x01\0\
     \x08\x06\x01\x01\0\x08\x08\x08\x09\x08\x08\x08\x0a\x0a\x0b\x0c\
-    \x0a\x08\x09\x09\0\x09\x0b\x09\x0a\x06\x06\x06\x04\x01\x01";
+    \x0a\x08\x09\x09\0\x09\x0b\x09\x0a\x06\x06\x06\x04\x01\x01",
+    named: NAMED,
+};
 
 // A name.
 pub(crate) const RESERVED_NAME: u32 = 1;
 
 pub(crate) const FUNCTION_NAME: u32 = 2;
 
-const NAMES: Choices = *b"\
+const NAMES: Choices = Choices {
+    of: *b"\
     \0\0\0\0\0\0\0\0\0\0\0\0\0\0\0\0\
     \0\0\0\0\0\0\0\0\0\0\0\0\0\0\0\0\
     \x02\0\0\0\0\x02\x02\x02\x02\x02\x02\x02\x01\x01\x01\x01\
-    \x01\x01\x01\x01\0\x01\x01\x01\x01\0\0\0\0\0\0";
+    \x01\x01\x01\x01\0\x01\x01\x01\x01\0\0\0\0\0\0",
+    named: FUNCTION_NAME,
+};
 
 // A type item's name.
-const ALIASES: Choices = *b"\
+const ALIASES: Choices = Choices {
+    of: *b"\
     \0\0\0\0\0\0\0\0\0\0\0\0\0\0\0\0\
     \0\0\0\0\0\0\0\0\0\0\0\0\0\0\0\0\
     \x01\0\0\0\0\x02\x03\x04\x05\0\0\0\x06\x07\x08\x09\
-    \x0a\x0b\x0c\x0d\0\x0e\x0f\x10\x11\0\0\0\0\0\0";
+    \x0a\x0b\x0c\x0d\0\x0e\x0f\x10\x11\0\0\0\0\0\0",
+    named: ABSENT,
+};
 
 // An arm's head, where an arm begins.
 pub(crate) const FALSE_HEAD: u32 = 1;
@@ -110,57 +129,62 @@ pub(crate) const WRAPPED_HEAD: u32 = 4;
 
 pub(crate) const NAMED_HEAD: u32 = 5;
 
-const HEADS: Choices = *b"\
+const HEADS: Choices = Choices {
+    of: *b"\
     \0\0\0\0\0\0\0\0\0\0\0\0\0\0\0\0\
     \0\0\0\0\0\0\0\0\0\0\0\0\0\0\0\0\
     \x05\0\0\0\0\x04\x04\x04\x03\x05\x05\x05\x05\x05\x05\x05\
-    \x05\x05\x05\x05\0\x05\x05\x05\x05\0\0\0\0\x01\x02";
+    \x05\x05\x05\x05\0\x05\x05\x05\x05\0\0\0\0\x01\x02",
+    named: NAMED_HEAD,
+};
 
 // The second mark: what follows is written by hand.
-// The entry of a class, and what all names of types lead to.
-#[tactic(auto, unfolding(crate::specs::Contract::entry_in))]
-#[inline(always)]
-fn entry(table: &Choices, class: u32, named: u32) -> u32
-    ensures { result ≡ entry_in table.now class named }
-{
-    if class < TYPE_NAMES {
-        return u32::from(table[class as usize]);
+impl Choices {
+    // What a class leads to.
+    #[tactic(auto, unfolding(crate::specs::Contract::entry_in))]
+    #[inline(always)]
+    fn at(&self, class: u32) -> u32
+        ensures { result ≡ entry_in self.now.of class self.now.named }
+    {
+        if class < TYPE_NAMES {
+            return u32::from(self.of[class as usize]);
+        }
+        if class < CLASSES { self.named } else { ABSENT }
     }
-    if class < CLASSES { named } else { ABSENT }
 }
 
 pub(crate) fn types(class: u32) -> u32
     ensures { result ≡ choose table n-type class }
 {
-    entry(&TYPES, class, NAMED_TYPE)
+    TYPES.at(class)
 }
 
 pub(crate) fn patterns(class: u32) -> u32
     ensures { result ≡ choose table n-pattern class }
 {
-    entry(&PATTERNS, class, NAME_PATTERN)
+    PATTERNS.at(class)
 }
 
 pub(crate) fn singles(class: u32) -> u32
     ensures { result ≡ choose table n-single class }
 {
-    entry(&SINGLES, class, NAMED)
+    SINGLES.at(class)
 }
 
 pub(crate) fn names(class: u32) -> u32
     ensures { result ≡ name_sort class }
 {
-    entry(&NAMES, class, FUNCTION_NAME)
+    NAMES.at(class)
 }
 
 pub(crate) fn aliases(class: u32) -> u32
     ensures { result ≡ choose table n-alias_name class }
 {
-    entry(&ALIASES, class, ABSENT)
+    ALIASES.at(class)
 }
 
 pub(crate) fn heads(class: u32) -> u32
     ensures { result ≡ head_sort class }
 {
-    entry(&HEADS, class, NAMED_HEAD)
+    HEADS.at(class)
 }

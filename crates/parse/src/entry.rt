@@ -1,31 +1,24 @@
 // From the first token to the answer: the parser's refusals in their order.
 ghost use Rattle.std.specs.Prelude.{◌≡◌, ◌*◌, ◌≤◌, false, length, take};
 ghost use Rattle.text.specs.Widths.{tok_wide};
-ghost use Rattle.text.specs.Front.{Held};
-ghost use Rattle.lexer.specs.Buffer.{tokens_in};
-ghost use Rattle.own.specs.Words.{rec_words};
-ghost use Rattle.grammar.specs.Answers.Answer.{records_in};
-ghost use Rattle.parse.specs.Contract.{text, countable, Ready};
-ghost use Rattle.parse.specs.Entry.{entry_of, too_many, too_long, WholeRead, Starts, place_in, ended, judged, meant, reading_of, answer_of, tree_of};
+ghost use Rattle.parse.specs.Contract.{text, Ready};
+ghost use Rattle.parse.specs.Entry.{entry_of, too_many, too_long, WholeRead, Starts, place_in, ended, judged};
 
 use crate::token::Source;
 use crate::{ReadAs, State, Step, file, program};
 use text::refusal::{Refusal, Refused};
 use text::{RECORD_WORDS, TOKEN_WORDS};
 
-// So many numbers a word has.
-const U32_COUNT: usize = 4294967296;
-
 // Whether there are more tokens than there may be, or than so many words hold.
 #[tactic(auto, unfolding(crate::specs::Entry::too_many))]
-fn too_many(most: usize, count: usize, words: usize) -> bool
+pub(crate) fn too_many(most: usize, count: usize, words: usize) -> bool
     ensures { result ≡ too_many most count words }
 {
     most < count || words / TOKEN_WORDS < count
 }
 
 // The draft with the words of so many tokens.
-fn source<'a>(draft: &'a [u8], tokens: &'a [u32], count: usize) -> Source<'a>
+pub(crate) fn source<'a>(draft: &'a [u8], tokens: &'a [u32], count: usize) -> Source<'a>
     requires { tok_wide * count ≤ length tokens.now }
     ensures draft { result.draft.now ≡ draft.now }
     ensures tokens { result.tokens.now ≡ take (tok_wide * count) tokens.now }
@@ -37,7 +30,7 @@ fn source<'a>(draft: &'a [u8], tokens: &'a [u32], count: usize) -> Source<'a>
 }
 
 // The state at the first token.
-fn start(source: &Source) -> State
+pub(crate) fn start(source: &Source) -> State
     ensures { Starts (text source.now) result }
 {
     let t = source.token(0);
@@ -75,10 +68,7 @@ fn end(source: &Source, room: usize, z: State) -> Result<usize, Refused>
         });
     }
     if let Some(fault) = z.fault {
-        return Err(Refused {
-            refusal: fault.refusal,
-            place: fault.place as usize,
-        });
+        return Err(fault.into());
     }
     let records = z.out as usize;
     if room < RECORD_WORDS * records {
@@ -91,7 +81,7 @@ fn end(source: &Source, room: usize, z: State) -> Result<usize, Refused>
 }
 
 // The answer of a step, likewise.
-fn judge(source: &Source, room: usize, step: Step) -> Result<usize, Refused>
+pub(crate) fn judge(source: &Source, room: usize, step: Step) -> Result<usize, Refused>
     ensures { result ≡ judged source.now room step }
 {
     match step {
@@ -105,14 +95,14 @@ fn judge(source: &Source, room: usize, step: Step) -> Result<usize, Refused>
 
 // Whether a file is longer than its first record can say.
 #[tactic(auto, unfolding(crate::specs::Entry::too_long))]
-fn too_long(what: ReadAs, bytes: usize) -> bool
+pub(crate) fn too_long(what: ReadAs, bytes: usize) -> bool
     ensures { result ≡ too_long (entry_of what) bytes }
 {
-    what == ReadAs::File && bytes >= U32_COUNT
+    what == ReadAs::File && u32::try_from(bytes).is_err()
 }
 
 // Reads a whole draft: a file, or one function.
-fn whole(source: &Source, tree: &mut [u32], st: State, what: ReadAs) -> Step
+pub(crate) fn whole(source: &Source, tree: &mut [u32], st: State, what: ReadAs) -> Step
     requires ready { Ready (text source.now) st }
     requires draft_value { too_long (entry_of what) (length source.now.draft.now) ≡ false }
     ensures { WholeRead (text source.now) (length source.now.draft.now) st tree.old tree.new result (entry_of what) }
@@ -121,58 +111,4 @@ fn whole(source: &Source, tree: &mut [u32], st: State, what: ReadAs) -> Step
         ReadAs::File => file::file(source, tree, st),
         ReadAs::Function => program::function(source, tree, st),
     }
-}
-
-// Writes the records of a draft of so many tokens at most, a file or one function, and leaves what is behind them.
-pub(crate) fn parse_front_within(
-    draft: &[u8],
-    tokens: &[u32],
-    count: usize,
-    tree: &mut [u32],
-    most: usize,
-    what: ReadAs,
-) -> Result<usize, Refused>
-    requires { most ≤ countable }
-    ensures answer { meant count result ≡ answer_of (entry_of what) most draft.now tokens.now count (length tree.old) }
-    ensures held { Held (meant count result) (rec_words (records_in (reading_of (entry_of what) draft.now (tokens_in count tokens.now)))) tree.old tree.new }
-{
-    if too_many(most, count, tokens.len()) {
-        return Err(Refused {
-            refusal: Refusal::TooMany,
-            place: 0,
-        });
-    }
-    if too_long(what, draft.len()) {
-        return Err(Refused {
-            refusal: Refusal::TooLong,
-            place: 0,
-        });
-    }
-    let source = source(draft, tokens, count);
-    let st = start(&source);
-    let step = whole(&source, tree, st, what);
-    judge(&source, tree.len(), step)
-}
-
-// The same with zeros behind the records; on a refusal every word is 0.
-pub(crate) fn parse_within(
-    draft: &[u8],
-    tokens: &[u32],
-    count: usize,
-    tree: &mut [u32],
-    most: usize,
-    what: ReadAs,
-) -> Result<usize, Refused>
-    requires { most ≤ countable }
-    ensures answer { meant count result ≡ answer_of (entry_of what) most draft.now tokens.now count (length tree.old) }
-    ensures tree_after { tree.new ≡ tree_of (entry_of what) most draft.now tokens.now count (length tree.old) }
-{
-    let answer = parse_front_within(draft, tokens, count, tree, most, what);
-    let Ok(records) = answer else {
-        tree.fill(0);
-        return answer;
-    };
-    let used = RECORD_WORDS * records;
-    text::clear_from(tree, used);
-    Ok(records)
 }

@@ -8,24 +8,35 @@ ghost use Rattle.theory.specs.Machine.{choose};
 ghost use Rattle.grammar.specs.Shapes.Tables.{table};
 ghost use Rattle.grammar.specs.Shapes.TablesIndex.{n-expression, n-block, n-elements, n-assignment, n-single, n-list-expression, n-many-arm, n-arm, n-arm-choice};
 ghost use Rattle.parse.specs.Choice as choice;
-ghost use Rattle.parse.specs.Contract.{text, Ready, Parses, Node, ExprKind};
+ghost use Rattle.parse.specs.Contract.{text, Ready, Parses, Node, ExprKind, single_choice, single_kind};
 ghost use Rattle.parse.specs.Infos.{LetKind, Elements, Lone, Arms, Arm, Body};
 
 mod c;
 
-use crate::token::Source;
+use crate::token::{Brackets, Source};
+use crate::tree::Head;
 use crate::{State, Step, arms, choice, fault, heads, names, pattern, token, tree, types};
+use c::GenericCall;
 use lexer::classes as class;
 use own::kind::Kind;
 
-// The first kind for one expression without a comma, otherwise the second. `lone` is a number of a step: 1 is that, and 0 no expression yet.
-fn only(lone: u32, a: Kind, b: Kind) -> Kind
-    ensures { kind_number result ≡ (if nat_eq lone 1 then kind_number a else kind_number b) }
+// The kind of what brackets enclose. `lone` is a number of a step, as lib.rt says why: 1 is one expression without a comma, and 0 no expression yet.
+fn kind(brackets: Brackets, lone: u32) -> Kind
+    ensures { kind_number result ≡ single_kind brackets lone }
 {
-    if lone == 1 { a } else { b }
+    match brackets {
+        Brackets::Round => {
+            if lone == 1 {
+                Kind::Parenthesised
+            } else {
+                Kind::Tuple
+            }
+        }
+        Brackets::Square => Kind::Array,
+    }
 }
 
-// At the end of a list without a comma behind the last item: 1 if that is the only one.
+// The same number at the end of a list without a comma behind the last item: 1 if that is the only one.
 fn first(lone: u32) -> u32
     ensures { result ≡ (if nat_eq lone 0 then 1 else 2) }
 {
@@ -40,14 +51,7 @@ fn literal(source: &Source, tree: &mut [u32], st: State) -> Step
     ensures { Parses n-single (Node ExprKind) (text source.now) st tree.old tree.new result }
 {
     let a = source.advance(tree::reserve(st));
-    tree::close(
-        tree,
-        st,
-        a,
-        names::literal(st.class),
-        names::truth(st.class),
-        0,
-    );
+    tree::close(tree, st, a, names::literal(st.class));
     Step::Next(a, 0, 0)
 }
 
@@ -82,7 +86,7 @@ pub(crate) fn block(source: &Source, tree: &mut [u32], st: State) -> Step
     let Step::Next(z, _, _) = brace else {
         return brace;
     };
-    tree::close(tree, st, z, Kind::Block, last, 0);
+    tree::close(tree, st, z, Head::with_low(Kind::Block, last));
     Step::Next(z, 0, 0)
 }
 
@@ -148,7 +152,7 @@ fn assign(source: &Source, tree: &mut [u32], st: State) -> Step
     let Step::Next(z, _, _) = right else {
         return right;
     };
-    tree::close(tree, st, z, Kind::Let, 0, 0);
+    tree::close(tree, st, z, Head::plain(Kind::Let));
     Step::Next(z, 0, 0)
 }
 
@@ -162,28 +166,28 @@ pub(crate) fn single(source: &Source, tree: &mut [u32], st: State) -> Step
 {
     let step = match choice::singles(st.class) {
         choice::LITERAL => return literal(source, tree, st),
-        choice::PARENS => parens(source, tree, st),
-        choice::ARRAY => array(source, tree, st),
+        choice::PARENS => bracketed(source, tree, st, Brackets::Round),
+        choice::ARRAY => bracketed(source, tree, st, Brackets::Square),
         choice::LIST => list(source, tree, st),
         choice::MATCH => cases(source, tree, st),
         choice::SIMPLE_CALL => c::simple(source, tree, st),
         choice::CAST_CALL => c::cast(source, tree, st),
         choice::NAMED => return c::named(source, tree, st),
         choice::BARE => c::bare(source, tree, st),
-        choice::TYPED => c::generic(source, tree, st, choice::TYPED),
-        choice::FOLDING => c::generic(source, tree, st, choice::FOLDING),
-        choice::FOR_WHILE => c::generic(source, tree, st, choice::FOR_WHILE),
+        choice::TYPED => c::generic(source, tree, st, GenericCall::Typed),
+        choice::FOLDING => c::generic(source, tree, st, GenericCall::Folding),
+        choice::FOR_WHILE => c::generic(source, tree, st, GenericCall::ForWhile),
         _ => return Step::Refused(st.at),
     };
     step
 }
 
-// `(e)`, or a tuple.
+// `(e)`, a tuple `(e, …)` or an array `[e, …]`.
 #[cycle(expression)]
 #[inline(never)]
-fn parens(source: &Source, tree: &mut [u32], st: State) -> Step
+fn bracketed(source: &Source, tree: &mut [u32], st: State, brackets: Brackets) -> Step
     requires ready { Ready (text source.now) st }
-    requires class_value { choose table n-single st.class ≡ choice.Parens }
+    requires class_value { choose table n-single st.class ≡ single_choice brackets }
     ensures { Parses n-single (Node ExprKind) (text source.now) st tree.old tree.new result }
 {
     let a = source.advance(tree::reserve(st));
@@ -191,43 +195,15 @@ fn parens(source: &Source, tree: &mut [u32], st: State) -> Step
     let Step::Next(b, lone, _) = inner else {
         return inner;
     };
-    let paren = source.eat(b, class::RPAREN);
-    let Step::Next(z, _, _) = paren else {
-        return paren;
+    let end = source.eat(b, brackets.end());
+    let Step::Next(z, _, _) = end else {
+        return end;
     };
-    tree::close(
-        tree,
-        st,
-        z,
-        only(lone, Kind::Parenthesised, Kind::Tuple),
-        0,
-        0,
-    );
+    tree::close(tree, st, z, Head::plain(kind(brackets, lone)));
     Step::Next(z, 0, 0)
 }
 
-// `[e, …]`
-#[cycle(expression)]
-#[inline(never)]
-fn array(source: &Source, tree: &mut [u32], st: State) -> Step
-    requires ready { Ready (text source.now) st }
-    requires class_value { choose table n-single st.class ≡ choice.Array }
-    ensures { Parses n-single (Node ExprKind) (text source.now) st tree.old tree.new result }
-{
-    let a = source.advance(tree::reserve(st));
-    let inner = exprs(source, tree, a);
-    let Step::Next(b, _, _) = inner else {
-        return inner;
-    };
-    let bracket = source.eat(b, class::RBRACKET);
-    let Step::Next(z, _, _) = bracket else {
-        return bracket;
-    };
-    tree::close(tree, st, z, Kind::Array, 0, 0);
-    Step::Next(z, 0, 0)
-}
-
-// `list![e, …]`
+// `list![e, …]`: a word before the brackets, and another rule of the table, than `bracketed` has.
 #[cycle(expression)]
 #[inline(never)]
 fn list(source: &Source, tree: &mut [u32], st: State) -> Step
@@ -248,11 +224,11 @@ fn list(source: &Source, tree: &mut [u32], st: State) -> Step
     let Step::Next(z, _, _) = bracket else {
         return bracket;
     };
-    tree::close(tree, st, z, Kind::List, 0, 0);
+    tree::close(tree, st, z, Head::plain(Kind::List));
     Step::Next(z, 0, 0)
 }
 
-// Expressions with commas between them, up to what closes them; and 1 if it is one without a comma.
+// Expressions with commas between them, up to what closes them, and 1 if it is one without a comma: a loop of its own, as `types::types` says.
 #[cycle(expression)]
 #[inline(always)]
 pub(crate) fn exprs(source: &Source, tree: &mut [u32], st: State) -> Step
@@ -301,8 +277,8 @@ fn cases(source: &Source, tree: &mut [u32], st: State) -> Step
         return brace;
     };
     arms::arrange(tree, order, b.out, mid, g.out);
-    tree::close(tree, st, g, arms::kind(order), 0, 0);
-    let z = fault::judged(st, g, arms::fault(order), st.start);
+    tree::close(tree, st, g, Head::plain(arms::kind(order)));
+    let z = fault::judged(st, g, fault::placed(arms::fault(order), st.start));
     Step::Next(z, 0, 0)
 }
 
@@ -350,7 +326,7 @@ fn arm(source: &Source, tree: &mut [u32], st: State) -> Step
         return rest;
     };
     let h = arms::head(number, other);
-    tree::close(tree, st, z, h.kind, h.low, h.high);
+    tree::close(tree, st, z, h);
     Step::Next(z, u32::from(h.kind), h.low)
 }
 

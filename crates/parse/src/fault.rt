@@ -1,15 +1,35 @@
 // The refusals of shapes: the earliest is kept.
 ghost use Rattle.std.specs.Prelude.{◌≡◌};
-ghost use Rattle.parse.specs.Contract.{cleaned, fault, sooner, Judged, bound_fault, size_fault, length_fault};
+ghost use Rattle.parse.specs.Contract.{cleaned, fault, fault_at, sooner, Judged, bound_fault, size_fault, length_fault};
+ghost use Rattle.parse.specs.Entry.{as_refused};
 
 use crate::State;
-use text::refusal::Refusal;
+use text::refusal::{Refusal, Refused};
 
 // A refusal, and the byte where it stands.
-#[derive(Clone, Copy)]
+#[derive(Clone, Copy, PartialEq, Eq, Debug)]
 pub(crate) struct Fault {
     pub(crate) refusal: Refusal,
     pub(crate) place: u32,
+}
+
+impl From<Fault> for Refused {
+    ghost from_gives = { λ f r. r ≡ as_refused f };
+
+    fn from(fault: Fault) -> Refused {
+        Refused {
+            refusal: fault.refusal,
+            place: fault.place as usize,
+        }
+    }
+}
+
+// The refusal, if there is one, at this place.
+#[tactic(auto, unfolding(crate::specs::Contract::fault, crate::specs::Contract::fault_at))]
+pub(crate) fn placed(refusal: Option<Refusal>, place: u32) -> Option<Fault>
+    ensures { fault result ≡ fault_at refusal place }
+{
+    refusal.map(|refusal| Fault { refusal, place })
 }
 
 // The state without a refusal.
@@ -20,7 +40,8 @@ pub(crate) fn clean(st: State) -> State
     State { fault: None, ..st }
 }
 
-// Of two refusals the earlier; the first if they are at one place, and the other one if one is none.
+// Of two refusals the earlier; the first if they are at one place, and the other one if one is none. `a.into_iter().chain(b).min_by_key(|f| f.place)` was
+// tried: what it promises is said by the runs of the chain and the keys that were given, and no search closes that; of the match it finds all.
 #[tactic(auto, unfolding(crate::specs::Contract::fault, grammar::specs::Records::Faults::earlier))]
 fn earlier(a: Option<Fault>, b: Option<Fault>) -> Option<Fault>
     ensures { fault result ≡ sooner (fault a) (fault b) }
@@ -31,19 +52,18 @@ fn earlier(a: Option<Fault>, b: Option<Fault>) -> Option<Fault>
     }
 }
 
-// The second state with the earliest refusal: of the first state, this one at this place, of the second state.
-#[tactic(auto, unfolding(crate::specs::Contract::fault, crate::specs::Contract::fault_at))]
-pub(crate) fn judged(outer: State, inner: State, refusal: Option<Refusal>, place: u32) -> State
-    ensures { Judged outer inner refusal place result }
+// The second state with the earliest refusal: of the first state, this one, of the second state.
+pub(crate) fn judged(outer: State, inner: State, own: Option<Fault>) -> State
+    ensures { Judged outer inner (fault own) result }
 {
-    let own = refusal.map(|refusal| Fault { refusal, place });
     State {
         fault: earlier(outer.fault, earlier(own, inner.fault)),
         ..inner
     }
 }
 
-// The refusal of a number that is no bound.
+// The refusal of a number that is no bound. This and the next two are no one function of a test's answer and a refusal: the contract of each names the
+// definition from which grammar's refusals are proved, and such a function would be the same line with both parts handed in.
 #[tactic(auto, unfolding(crate::specs::Contract::bound_fault))]
 pub(crate) fn bound(v: Option<u64>) -> Option<Refusal>
     ensures { result ≡ bound_fault v }

@@ -6,14 +6,12 @@ ghost use Rattle.parse.specs.Contract.{text, Ready, Parses, Node, u32_count};
 ghost use Rattle.parse.specs.Infos.{TypeItemKind, ItemKind, item_at, FileItems, behind, FileRead};
 
 use crate::names::NameSort;
-use crate::token::Source;
+use crate::token::{END, Source};
+use crate::tree::Head;
 use crate::{State, Step, names, program, tree, types};
 use lexer::classes as class;
 use own::kind::Kind;
 use text::RECORD_WORDS;
-
-// The class of the end, where no token stands.
-const END: u32 = 0;
 
 // `type name = T;`, where `type` stands.
 fn type_item(source: &Source, tree: &mut [u32], st: State) -> Step
@@ -38,7 +36,7 @@ fn type_item(source: &Source, tree: &mut [u32], st: State) -> Step
     let Step::Next(z, _, _) = semi else {
         return semi;
     };
-    tree::close(tree, st, z, Kind::TypeItem, 0, 0);
+    tree::close(tree, st, z, Head::plain(Kind::TypeItem));
     Step::Next(z, 0, 0)
 }
 
@@ -89,6 +87,7 @@ pub(crate) fn file(source: &Source, tree: &mut [u32], st: State) -> Step
         return step;
     };
     let all = tree::reserve(z);
+    // Its length is a word, as `too_long` has seen: `u32::try_from` again would have an answer here that cannot be.
     tree::top(tree, source.draft.len() as u32, all.out);
     Step::Next(all, 0, 0)
 }

@@ -52,7 +52,8 @@ fn none(source: &Source, tree: &mut [u32], st: State) -> Step
     enum_path(source, tree, st, a)
 }
 
-// Which built-in head Left, Right or Some is.
+// Which built-in head Left, Right or Some is. `names::wrapper` tells an expression's kind by the same words: that is another enum, with other numbers in
+// document 01, and has none for other words.
 fn wrapper(class: u32) -> MatchPattern
     ensures { arm_number result ≡ (if nat_eq class t.Left then arm.Left else (if nat_eq class t.Right then arm.Right else arm.Some)) }
 {
@@ -92,7 +93,7 @@ fn enum_path(source: &Source, tree: &mut [u32], st: State, a: State) -> Step
     requires moved { Moved (text source.now) st a }
     ensures { Parses n-head ArmHead (text source.now) st tree.old tree.new result }
 {
-    let c = tree::child(tree, st, a, Kind::Name, 0, 0);
+    let c = tree::name(tree, st, a);
     let rest = path(source, tree, c);
     let Step::Next(z, number, many) = rest else {
         return rest;
@@ -165,6 +166,7 @@ fn pairs(source: &Source, tree: &mut [u32], st: State) -> Step
 }
 
 // What follows the first pair, up to the parenthesis; and how many pairs there are with it.
+// A loop of its own, as `types::types` says.
 fn more(source: &Source, tree: &mut [u32], st: State) -> Step
     requires { Ready (text source.now) st }
     ensures { Parses n-tail-pair MorePairs (text source.now) st tree.old tree.new result }

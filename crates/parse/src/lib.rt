@@ -6,7 +6,6 @@ ghost use Rattle.text.specs.Front.{Held};
 ghost use Rattle.lexer.specs.Limits.{draft_limits};
 ghost use Rattle.lexer.specs.Buffer.{tokens_in};
 ghost use Rattle.own.specs.Words.{rec_words};
-ghost use Rattle.grammar.specs.Entry.{single_function, whole_file};
 ghost use Rattle.grammar.specs.Answers.Answer.{records_in};
 ghost use Rattle.parse.specs.Entry.{entry_of, meant, reading_of, answer_of, tree_of};
 
@@ -25,11 +24,15 @@ mod tree;
 mod types;
 
 use fault::Fault;
-use text::refusal::Refused;
+use text::RECORD_WORDS;
+use text::refusal::{Refusal, Refused};
 
 // Where the parser stands: the number of the next token with its class, start and end; the end of the token before it; how many records
 // there are so far; and the earliest refusal of a shape, if there is one.
-#[derive(Clone, Copy)]
+// That it is at its token is a clause (`Ready`) and no ghost field: it fails while a record is reserved and no token passed (`Near`), and speaks of the
+// text. A cursor of source and state with that field was tried on `names::decimal`, and is proved; but each function takes it apart, each call makes
+// one, and what is promised speaks of `here.entry.source` and `here.entry.st`: no plainer than the clause.
+#[derive(Clone, Copy, PartialEq, Eq, Debug)]
 struct State {
     at: usize,
     class: u32,
@@ -41,8 +44,9 @@ struct State {
 }
 
 // What a step of the parser answers: the next state, with two numbers that some steps have besides; or the token where it is stuck.
-// Document 01 names this form: an enum whose answers are taken apart by `let .. else`.
-#[derive(Clone, Copy)]
+// Document 01 names this form: an enum whose answers are taken apart by `let .. else`. It is one type for all steps, whatever their numbers say, so that a
+// refusal is passed up whole (`let Step::Next(..) = inner else { return inner; };`); a `Step<T>` would be taken apart and made anew wherever `T` changes.
+#[derive(Clone, Copy, PartialEq, Eq, Debug)]
 enum Step {
     Next(State, u32, u32),
     Refused(usize),
@@ -55,43 +59,30 @@ pub enum ReadAs {
     File,
 }
 
-// Writes the records of one function and says how many: a draft with so many tokens, `RECORD_WORDS` words each, and zeros behind them; on a refusal
-// every word is 0. The last word of each record, its way up, is 0 too: crate `up` fills it.
-pub fn parse(draft: &[u8], tokens: &[u32], count: usize, tree: &mut [u32]) -> Result<usize, Refused>
-    ensures answer { meant count result ≡ answer_of single_function draft_limits.tokens draft.now tokens.now count (length tree.old) }
-    ensures tree { tree.new ≡ tree_of single_function draft_limits.tokens draft.now tokens.now count (length tree.old) }
-{
-    entry::parse_within(
-        draft,
-        tokens,
-        count,
-        tree,
-        lexer::DRAFT_TOKENS,
-        ReadAs::Function,
-    )
-}
-
-// The same of a file: its first record is that of the whole file.
-pub fn parse_file(
+// Writes the records of a draft and says how many: one with so many tokens, `RECORD_WORDS` words each, and zeros behind them; on a refusal every word
+// is 0. The first record of a file is that of the whole file. The last word of each record, its way up, is 0 too: crate `up` fills it.
+// The buffer may be longer than its tokens, so their number stands beside it.
+pub fn parse(
     draft: &[u8],
     tokens: &[u32],
     count: usize,
     tree: &mut [u32],
+    what: ReadAs,
 ) -> Result<usize, Refused>
-    ensures answer { meant count result ≡ answer_of whole_file draft_limits.tokens draft.now tokens.now count (length tree.old) }
-    ensures tree { tree.new ≡ tree_of whole_file draft_limits.tokens draft.now tokens.now count (length tree.old) }
+    ensures answer { meant count result ≡ answer_of (entry_of what) draft_limits.tokens draft.now tokens.now count (length tree.old) }
+    ensures tree { tree.new ≡ tree_of (entry_of what) draft_limits.tokens draft.now tokens.now count (length tree.old) }
 {
-    entry::parse_within(
-        draft,
-        tokens,
-        count,
-        tree,
-        lexer::DRAFT_TOKENS,
-        ReadAs::File,
-    )
+    let answer = parse_front(draft, tokens, count, tree, what);
+    let Ok(records) = answer else {
+        tree.fill(0);
+        return answer;
+    };
+    let used = RECORD_WORDS * records;
+    text::clear_from(tree, used);
+    Ok(records)
 }
 
-// As `parse` or `parse_file`, for a caller that needs no zeros: the words behind the records stay; on a refusal the words may be anything.
+// As `parse`, for a caller that needs no zeros: the words behind the records stay; on a refusal the words may be anything.
 pub fn parse_front(
     draft: &[u8],
     tokens: &[u32],
@@ -102,5 +93,20 @@ pub fn parse_front(
     ensures answer { meant count result ≡ answer_of (entry_of what) draft_limits.tokens draft.now tokens.now count (length tree.old) }
     ensures held { Held (meant count result) (rec_words (records_in (reading_of (entry_of what) draft.now (tokens_in count tokens.now)))) tree.old tree.new }
 {
-    entry::parse_front_within(draft, tokens, count, tree, lexer::DRAFT_TOKENS, what)
+    if entry::too_many(lexer::DRAFT_TOKENS, count, tokens.len()) {
+        return Err(Refused {
+            refusal: Refusal::TooMany,
+            place: 0,
+        });
+    }
+    if entry::too_long(what, draft.len()) {
+        return Err(Refused {
+            refusal: Refusal::TooLong,
+            place: 0,
+        });
+    }
+    let source = entry::source(draft, tokens, count);
+    let st = entry::start(&source);
+    let step = entry::whole(&source, tree, st, what);
+    entry::judge(&source, tree.len(), step)
 }

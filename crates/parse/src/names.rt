@@ -10,6 +10,7 @@ ghost use Rattle.grammar.specs.Records.Records.{head, plain, type_name_head, pat
 ghost use Rattle.parse.specs.Contract.{text, name_nt, is_name, Ready, Near, Parsed, Parses, as_items, NameAt, Decimal, Names, Called, Wraps, bound_fault, size_fault};
 
 use crate::token::Source;
+use crate::tree::Head;
 use crate::{State, Step, choice, fault, tree};
 use lexer::classes as class;
 use own::call::CallName;
@@ -17,7 +18,7 @@ use own::kind::Kind;
 use text::refusal::Refusal;
 
 // The names that are records of their own.
-#[derive(Clone, Copy)]
+#[derive(Clone, Copy, PartialEq, Eq, Debug)]
 pub(crate) enum NameSort {
     Identifier,
     Function,
@@ -44,11 +45,12 @@ pub(crate) fn name(source: &Source, tree: &mut [u32], st: State, sort: NameSort)
         return Step::Refused(st.at);
     }
     let a = source.advance(st);
-    let b = tree::child(tree, st, a, Kind::Name, 0, 0);
+    let b = tree::name(tree, st, a);
     Step::Next(b, 0, 0)
 }
 
 // Names joined by `::`, each a record, and how many.
+// A loop of its own, as `types::types` says.
 pub(crate) fn names(source: &Source, tree: &mut [u32], st: State) -> Step
     requires { Ready (text source.now) st }
     ensures { Parsed (text source.now) (nt n-identifier ∷ nt n-path-many-DoubleColon ∷ []) as_items Names st tree.old tree.new result }
@@ -71,46 +73,24 @@ pub(crate) fn names(source: &Source, tree: &mut [u32], st: State) -> Step
     Step::Next(here, number, 0)
 }
 
-// Kind and low of a record.
-#[derive(Drop)]
-pub(crate) struct Head {
-    pub(crate) kind: Kind,
-    pub(crate) low: u32,
-}
-
 // What a name is as a type: an alias, `bool`, an unsigned type or a built-in alias.
 #[tactic(auto, unfolding(grammar::specs::Records::Records::type_name_head, grammar::specs::Records::Records::place_in, text::specs::Lists::has))]
 pub(crate) fn type_name(class: u32) -> Head
-    ensures { head (kind_number result.kind) result.low 0 ≡ type_name_head class }
+    ensures { head (kind_number result.kind) result.low result.high ≡ type_name_head class }
 {
     if class < class::BOOL_TYPE {
-        return Head {
-            kind: Kind::Alias,
-            low: 0,
-        };
+        return Head::plain(Kind::Alias);
     }
     if class == class::BOOL_TYPE {
-        return Head {
-            kind: Kind::BoolType,
-            low: 0,
-        };
+        return Head::plain(Kind::BoolType);
     }
     if class < class::CTX8 {
-        return Head {
-            kind: Kind::Unsigned,
-            low: 1 << (class - class::U1),
-        };
+        return Head::with_low(Kind::Unsigned, 1 << (class - class::U1));
     }
     if class <= class::LAST {
-        return Head {
-            kind: Kind::Builtin,
-            low: class - class::CTX8,
-        };
+        return Head::with_low(Kind::Builtin, class - class::CTX8);
     }
-    Head {
-        kind: Kind::Alias,
-        low: 0,
-    }
+    Head::plain(Kind::Alias)
 }
 
 // What a name is as a pattern: an identifier, or `_`.
@@ -121,21 +101,19 @@ pub(crate) fn pattern_name(draft: &[u8], st: State) -> Kind
         return Kind::IdentifierPattern;
     }
     let t = text::part(draft, st.start as usize, st.stop as usize);
-    if t.len() == 1 {
-        if t[0] == b'_' {
-            return Kind::IgnorePattern;
-        }
+    if t == b"_".as_slice() {
+        return Kind::IgnorePattern;
     }
     Kind::IdentifierPattern
 }
 
-// The kind of a literal.
+// A literal: its kind, and 1 for `true`.
 #[tactic(auto, unfolding(grammar::specs::Records::Records::literal_head))]
 #[inline(always)]
-pub(crate) fn literal(class: u32) -> Kind
-    ensures { kind_number result ≡ (literal_head class).kind }
+pub(crate) fn literal(class: u32) -> Head
+    ensures { head (kind_number result.kind) result.low result.high ≡ literal_head class }
 {
-    match class {
+    let kind = match class {
         class::FALSE => Kind::Boolean,
         class::TRUE => Kind::Boolean,
         class::DEC_LITERAL => Kind::Decimal,
@@ -143,15 +121,8 @@ pub(crate) fn literal(class: u32) -> Kind
         class::BIN_LITERAL => Kind::Binary,
         class::WITNESS => Kind::Witness,
         _ => Kind::ParameterValue,
-    }
-}
-
-// 1 for `true`.
-#[tactic(auto, unfolding(grammar::specs::Records::Records::literal_head))]
-pub(crate) fn truth(class: u32) -> u32
-    ensures { result ≡ (literal_head class).low }
-{
-    u32::from(class == class::TRUE)
+    };
+    Head::with_low(kind, u32::from(class == class::TRUE))
 }
 
 // Which of the fourteen calls begins with a token of this class: a custom function where no other does.
@@ -189,7 +160,7 @@ pub(crate) fn alone(class: u32) -> Kind
     }
 }
 
-// The kind of a wrapper, Left, Right or Some; none for any other class.
+// The kind of a wrapper, Left, Right or Some; none for any other class. As a head of an arm such a word has a number of its own (`heads::wrapper`).
 #[tactic(auto, unfolding(grammar::specs::Records::Records::wrapper_head, grammar::specs::Records::Records::place_in, text::specs::Lists::has))]
 pub(crate) fn wrapper(class: u32) -> Option<Kind>
     ensures { Wraps class result }
@@ -207,10 +178,10 @@ pub(crate) fn callee(tree: &mut [u32], st: State, a: State) -> State
     ensures { Called st a tree.old tree.new result }
 {
     if st.class == class::JET {
-        return tree::child(tree, st, a, Kind::Name, 0, 0);
+        return tree::name(tree, st, a);
     }
     if choice::names(st.class) == choice::FUNCTION_NAME {
-        return tree::child(tree, st, a, Kind::Name, 0, 0);
+        return tree::name(tree, st, a);
     }
     a
 }
@@ -231,7 +202,7 @@ pub(crate) fn decimal(source: &Source, tree: &mut [u32], st: State) -> Step
         return Step::Refused(st.at);
     }
     let a = source.advance(st);
-    let b = tree::child_number(tree, st, a, number(source.draft, st));
+    let b = tree::decimal(tree, st, a, number(source.draft, st));
     Step::Next(b, 0, 0)
 }
 

@@ -4,9 +4,11 @@ ghost use Rattle.theory.specs.Machine.{choose};
 ghost use Rattle.grammar.specs.Shapes.Tables.{table};
 ghost use Rattle.grammar.specs.Shapes.TablesIndex.{n-pattern, n-list-pattern};
 ghost use Rattle.parse.specs.Choice as choice;
-ghost use Rattle.parse.specs.Contract.{text, Ready, Parses, Node, PatternKind, Commas};
+ghost use Rattle.own.specs.Numbers.{kind_number};
+ghost use Rattle.parse.specs.Contract.{text, Ready, Parses, Node, PatternKind, Commas, pattern_kind, pattern_choice};
 
-use crate::token::Source;
+use crate::token::{Brackets, Source};
+use crate::tree::Head;
 use crate::{State, Step, choice, names, token, tree};
 use lexer::classes as class;
 use own::kind::Kind;
@@ -19,8 +21,8 @@ pub(crate) fn pattern(source: &Source, tree: &mut [u32], st: State) -> Step
 {
     let step = match choice::patterns(st.class) {
         choice::NAME_PATTERN => return named(source, tree, st),
-        choice::TUPLE_PATTERN => tuple(source, tree, st),
-        choice::ARRAY_PATTERN => array(source, tree, st),
+        choice::TUPLE_PATTERN => bracketed(source, tree, st, Brackets::Round),
+        choice::ARRAY_PATTERN => bracketed(source, tree, st, Brackets::Square),
         _ => return Step::Refused(st.at),
     };
     step
@@ -35,16 +37,26 @@ fn named(source: &Source, tree: &mut [u32], st: State) -> Step
 {
     let a = source.advance(tree::reserve(st));
     let kind = names::pattern_name(source.draft, st);
-    tree::close(tree, st, a, kind, 0, 0);
+    tree::close(tree, st, a, Head::plain(kind));
     Step::Next(a, 0, 0)
 }
 
-// `(p, …)`
+// The kind of a pattern in brackets.
+fn kind(brackets: Brackets) -> Kind
+    ensures { kind_number result ≡ pattern_kind brackets }
+{
+    match brackets {
+        Brackets::Round => Kind::TuplePattern,
+        Brackets::Square => Kind::ArrayPattern,
+    }
+}
+
+// `(p, …)` and `[p, …]`
 #[cycle(pattern)]
 #[inline(never)]
-fn tuple(source: &Source, tree: &mut [u32], st: State) -> Step
+fn bracketed(source: &Source, tree: &mut [u32], st: State, brackets: Brackets) -> Step
     requires ready { Ready (text source.now) st }
-    requires class_value { choose table n-pattern st.class ≡ choice.TuplePattern }
+    requires class_value { choose table n-pattern st.class ≡ pattern_choice brackets }
     ensures { Parses n-pattern (Node PatternKind) (text source.now) st tree.old tree.new result }
 {
     let a = source.advance(tree::reserve(st));
@@ -52,36 +64,15 @@ fn tuple(source: &Source, tree: &mut [u32], st: State) -> Step
     let Step::Next(b, _, _) = inner else {
         return inner;
     };
-    let paren = source.eat(b, class::RPAREN);
-    let Step::Next(c, _, _) = paren else {
-        return paren;
+    let end = source.eat(b, brackets.end());
+    let Step::Next(c, _, _) = end else {
+        return end;
     };
-    tree::close(tree, st, c, Kind::TuplePattern, 0, 0);
+    tree::close(tree, st, c, Head::plain(kind(brackets)));
     Step::Next(c, 0, 0)
 }
 
-// `[p, …]`: beside `tuple`, since the rule, both brackets, the kind and the form of the shape differ, and each would be an argument with a fact.
-#[cycle(pattern)]
-#[inline(never)]
-fn array(source: &Source, tree: &mut [u32], st: State) -> Step
-    requires ready { Ready (text source.now) st }
-    requires class_value { choose table n-pattern st.class ≡ choice.ArrayPattern }
-    ensures { Parses n-pattern (Node PatternKind) (text source.now) st tree.old tree.new result }
-{
-    let a = source.advance(tree::reserve(st));
-    let inner = patterns(source, tree, a);
-    let Step::Next(b, _, _) = inner else {
-        return inner;
-    };
-    let bracket = source.eat(b, class::RBRACKET);
-    let Step::Next(c, _, _) = bracket else {
-        return bracket;
-    };
-    tree::close(tree, st, c, Kind::ArrayPattern, 0, 0);
-    Step::Next(c, 0, 0)
-}
-
-// Patterns with commas between them, up to what closes them.
+// Patterns with commas between them, up to what closes them: a loop of its own, as `types::types` says.
 #[cycle(pattern)]
 fn patterns(source: &Source, tree: &mut [u32], st: State) -> Step
     requires { Ready (text source.now) st }

@@ -7,6 +7,7 @@ ghost use Rattle.parse.specs.Infos.{ParameterKind, FunctionKind, Parameters, Opt
 
 use crate::names::NameSort;
 use crate::token::Source;
+use crate::tree::Head;
 use crate::{State, Step, expr, names, tree, types};
 use lexer::classes as class;
 use own::kind::Kind;
@@ -33,11 +34,11 @@ fn parameter(source: &Source, tree: &mut [u32], st: State) -> Step
     let Step::Next(c, _, _) = inner else {
         return inner;
     };
-    tree::close(tree, st, c, Kind::Parameter, 0, 0);
+    tree::close(tree, st, c, Head::plain(Kind::Parameter));
     Step::Next(c, 0, 0)
 }
 
-// Parameters with commas between them, up to what closes them; and how many.
+// Parameters with commas between them, up to what closes them, and how many: a loop of its own, as `types::types` says.
 fn parameters(source: &Source, tree: &mut [u32], st: State) -> Step
     requires { Ready (text source.now) st }
     ensures { Parses n-list-parameter Parameters (text source.now) st tree.old tree.new result }
@@ -123,7 +124,12 @@ pub(crate) fn function(source: &Source, tree: &mut [u32], st: State) -> Step
     let Step::Next(z, _, _) = body else {
         return body;
     };
-    tree::close(tree, st, z, Kind::Function, low + more, number);
+    let head = Head {
+        kind: Kind::Function,
+        low: low + more,
+        high: number,
+    };
+    tree::close(tree, st, z, head);
     Step::Next(z, 0, 0)
 }
 

@@ -1,12 +1,17 @@
 // The tokens of a draft, one by one. All is inlined where it is called, so that a state stays in registers, but for the look-up of words.
 ghost use Rattle.std.specs.Prelude.{◌≡◌, ◌||◌, ◌==◌};
 ghost use Rattle.lexer.specs.Classes as t;
-ghost use Rattle.parse.specs.Contract.{text, count_of, tok_at, Gives, next, Moved, Eaten};
+ghost use Rattle.parse.specs.Contract.{text, count_of, tok_at, Gives, next, Moved, Eaten, closing_class};
 
 use crate::{State, Step};
 use lexer::classes as class;
 use text::TOKEN_WORDS;
 
+// The class past the last token, where none stands; its start and its end are 0 too.
+pub(crate) const END: u32 = 0;
+
+// A token. A state has these three words as fields of its own and no `Lexeme`: contracts and code say `st.class` at a hundred places, which would all be
+// `st.token.class`, and a state is made of a token in two functions only.
 #[derive(Drop)]
 pub(crate) struct Lexeme {
     pub(crate) class: u32,
@@ -14,7 +19,9 @@ pub(crate) struct Lexeme {
     pub(crate) stop: u32,
 }
 
-// What is read: a draft and the words of its tokens.
+// What is read: a draft and the words of its tokens. It goes to each function beside the tree and the state. A struct that lends the tree too was tried
+// on `program::parameters`: a method by `&mut self` has to promise besides that the source stays, each answer behind a call to carry that over, and the
+// borrow checker does not cover one that reads the source by its field in a loop.
 #[derive(Clone, Copy)]
 pub(crate) struct Source<'a> {
     pub(crate) draft: &'a [u8],
@@ -30,7 +37,8 @@ impl Source<'_> {
         self.tokens.len() / TOKEN_WORDS
     }
 
-    // The token of this number: its class, start and end; zeros past the last one.
+    // The token of this number: its class, start and end; `END` with zeros past the last one.
+    // As the definitions read past the end; an `Option` would be asked for at each look at a class.
     #[inline(always)]
     pub(crate) fn token(&self, at: usize) -> Lexeme
         ensures { Gives result (tok_at (text self.now) at) }
@@ -43,7 +51,7 @@ impl Source<'_> {
             return Lexeme { class, start, stop };
         }
         Lexeme {
-            class: 0,
+            class: END,
             start: 0,
             stop: 0,
         }
@@ -86,6 +94,25 @@ fn after(at: usize, count: usize) -> usize
     ensures { result ≡ next at count }
 {
     if at < count { at + 1 } else { at }
+}
+
+// The brackets of a list: `(..)` of a tuple, `[..]` of an array.
+#[derive(Clone, Copy, PartialEq, Eq, Debug)]
+pub(crate) enum Brackets {
+    Round,
+    Square,
+}
+
+impl Brackets {
+    // The class that closes them.
+    pub(crate) fn end(self) -> u32
+        ensures { result ≡ closing_class self }
+    {
+        match self {
+            Brackets::Round => class::RPAREN,
+            Brackets::Square => class::RBRACKET,
+        }
+    }
 }
 
 // Whether a token of this class closes a list: `)` or `]`.

@@ -2,10 +2,12 @@
 ghost use Rattle.std.specs.Prelude.{◌≡◌, ◌-◌};
 ghost use Rattle.grammar.specs.Records.Records.{low_half, high_half};
 ghost use Rattle.own.specs.Kinds as kind;
-ghost use Rattle.own.specs.Numbers.{kind_number};
+ghost use Rattle.own.specs.Numbers.{kind_number, call_number};
+ghost use Rattle.own.specs.declared.kind.Kind.TheVariants as kinds;
 ghost use Rattle.parse.specs.Contract.{reserved, Put, PutNumber, Turned};
 
 use crate::State;
+use own::call::CallName;
 use own::kind::Kind;
 use text::RECORD_WORDS;
 
@@ -20,31 +22,6 @@ pub(crate) fn reserve(st: State) -> State
     State {
         out: st.out.wrapping_add(1),
         ..st
-    }
-}
-
-// Writes the record of this number, if it fits.
-fn put(
-    tree: &mut [u32],
-    here: u32,
-    kind: Kind,
-    start: u32,
-    end: u32,
-    low: u32,
-    high: u32,
-    size: u32,
-)
-    ensures { Put tree.old here (kind_number kind) start end low high size tree.new }
-{
-    let base = RECORD_WORDS * here as usize;
-    if base + RECORD_WORDS <= tree.len() {
-        tree[base] = u32::from(kind);
-        tree[base + 1] = start;
-        tree[base + 2] = end;
-        tree[base + 3] = low;
-        tree[base + 4] = high;
-        tree[base + 5] = size;
-        tree[base + 6] = 0;
     }
 }
 
@@ -63,85 +40,115 @@ fn high(n: u64) -> u32
     (n / HALF_RANGE) as u32
 }
 
-// Writes a record that holds a number, if it fits. One that is too large has no halves: its draft is refused, and nothing is written.
-fn put_number(
-    tree: &mut [u32],
-    here: u32,
-    kind: Kind,
-    start: u32,
-    end: u32,
-    v: Option<u64>,
-    size: u32,
-)
-    ensures { PutNumber tree.old here (kind_number kind) start end v size tree.new }
+// What a record says of itself beside its place and its size: its kind, and the two numbers that go with the kind.
+#[derive(Clone, Copy, PartialEq, Eq, Debug)]
+pub(crate) struct Head {
+    pub(crate) kind: Kind,
+    pub(crate) low: u32,
+    pub(crate) high: u32,
+}
+
+impl Head {
+    // Of a kind alone.
+    pub(crate) fn plain(kind: Kind) -> Head
+        ensures { result ≡ record { kind = kind; low = 0; high = 0 } }
+    {
+        Head::with_low(kind, 0)
+    }
+
+    // Of a kind and a first number.
+    pub(crate) fn with_low(kind: Kind, low: u32) -> Head
+        ensures { result ≡ record { kind = kind; low = low; high = 0 } }
+    {
+        Head { kind, low, high: 0 }
+    }
+
+    // Of a call.
+    pub(crate) fn of_call(name: CallName) -> Head
+        ensures { result ≡ record { kind = kinds.Call; low = call_number name; high = 0 } }
+    {
+        Head::with_low(Kind::Call, u32::from(name))
+    }
+
+    // Of a kind and the two halves of a number.
+    fn of_number(kind: Kind, n: u64) -> Head
+        ensures { result ≡ record { kind = kind; low = low_half n; high = high_half n } }
+    {
+        Head {
+            kind,
+            low: low(n),
+            high: high(n),
+        }
+    }
+}
+
+// Writes the record of this number, if it fits.
+fn put(tree: &mut [u32], here: u32, head: Head, start: u32, end: u32, size: u32)
+    ensures { Put tree.old here (kind_number head.kind) start end head.low head.high size tree.new }
+{
+    let base = RECORD_WORDS * here as usize;
+    if base + RECORD_WORDS <= tree.len() {
+        tree[base] = u32::from(head.kind);
+        tree[base + 1] = start;
+        tree[base + 2] = end;
+        tree[base + 3] = head.low;
+        tree[base + 4] = head.high;
+        tree[base + 5] = size;
+        tree[base + 6] = 0;
+    }
+}
+
+// Writes the record that was reserved at the first state, over all that was read up to the second.
+pub(crate) fn close(tree: &mut [u32], from: State, to: State, head: Head)
+    ensures { Put tree.old from.out (kind_number head.kind) from.start to.end head.low head.high (to.out - from.out) tree.new }
+{
+    let size = to.out.saturating_sub(from.out);
+    put(tree, from.out, head, from.start, to.end, size);
+}
+
+// The same of a record that holds a number. One that is too large has no halves: its draft is refused, and nothing is written.
+pub(crate) fn close_number(tree: &mut [u32], from: State, to: State, kind: Kind, v: Option<u64>)
+    ensures { PutNumber tree.old from.out (kind_number kind) from.start to.end v (to.out - from.out) tree.new }
 {
     let Some(n) = v else {
         return;
     };
-    put(tree, here, kind, start, end, low(n), high(n), size);
-}
-
-// Writes the record that was reserved at the first state, over all that was read up to the second.
-pub(crate) fn close(tree: &mut [u32], from: State, to: State, kind: Kind, low: u32, high: u32)
-    ensures { Put tree.old from.out (kind_number kind) from.start to.end low high (to.out - from.out) tree.new }
-{
-    put(
-        tree,
-        from.out,
-        kind,
-        from.start,
-        to.end,
-        low,
-        high,
-        to.out.saturating_sub(from.out),
-    );
-}
-
-// The same of a record that holds a number.
-pub(crate) fn close_number(tree: &mut [u32], from: State, to: State, kind: Kind, v: Option<u64>)
-    ensures { PutNumber tree.old from.out (kind_number kind) from.start to.end v (to.out - from.out) tree.new }
-{
-    put_number(
-        tree,
-        from.out,
-        kind,
-        from.start,
-        to.end,
-        v,
-        to.out.saturating_sub(from.out),
-    );
+    close(tree, from, to, Head::of_number(kind, n));
 }
 
 // A record of one token, that of the first state, behind all records up to the second.
-pub(crate) fn child(
-    tree: &mut [u32],
-    from: State,
-    to: State,
-    kind: Kind,
-    low: u32,
-    high: u32,
-) -> State
-    ensures put { Put tree.old to.out (kind_number kind) from.start from.stop low high 1 tree.new }
+fn child(tree: &mut [u32], from: State, to: State, head: Head) -> State
+    ensures put { Put tree.old to.out (kind_number head.kind) from.start from.stop head.low head.high 1 tree.new }
     ensures value { result ≡ reserved to }
 {
-    put(tree, to.out, kind, from.start, from.stop, low, high, 1);
+    put(tree, to.out, head, from.start, from.stop, 1);
     reserve(to)
 }
 
-// The same of a decimal, whose record holds its number.
-pub(crate) fn child_number(tree: &mut [u32], from: State, to: State, v: Option<u64>) -> State
+// Such a record of a name,
+pub(crate) fn name(tree: &mut [u32], from: State, to: State) -> State
+    ensures put { Put tree.old to.out kind.Name from.start from.stop 0 0 1 tree.new }
+    ensures value { result ≡ reserved to }
+{
+    child(tree, from, to, Head::plain(Kind::Name))
+}
+
+// and of a decimal, which holds its number.
+pub(crate) fn decimal(tree: &mut [u32], from: State, to: State, v: Option<u64>) -> State
     ensures put_number { PutNumber tree.old to.out kind.Number from.start from.stop v 1 tree.new }
     ensures value { result ≡ reserved to }
 {
-    put_number(tree, to.out, Kind::Number, from.start, from.stop, v, 1);
-    reserve(to)
+    let Some(n) = v else {
+        return reserve(to);
+    };
+    child(tree, from, to, Head::of_number(Kind::Number, n))
 }
 
 // The first record, that of a whole file of so many bytes and records.
 pub(crate) fn top(tree: &mut [u32], end: u32, size: u32)
     ensures { Put tree.old 0 kind.Program 0 end 0 0 size tree.new }
 {
-    put(tree, 0, Kind::Program, 0, end, 0, 0, size);
+    put(tree, 0, Head::plain(Kind::Program), 0, end, size);
 }
 
 // The records from `from` up to `mid` change places with those from `mid` up to `to`.

@@ -7,6 +7,7 @@ ghost use Rattle.parse.specs.Choice as choice;
 ghost use Rattle.parse.specs.Contract.{text, Ready, Parses, Node, TypeKind, Commas};
 
 use crate::token::Source;
+use crate::tree::Head;
 use crate::{State, Step, choice, fault, names, tree};
 use lexer::classes as class;
 use own::kind::Kind;
@@ -38,11 +39,12 @@ fn named(source: &Source, tree: &mut [u32], st: State) -> Step
 {
     let a = source.advance(tree::reserve(st));
     let h = names::type_name(st.class);
-    tree::close(tree, st, a, h.kind, h.low, 0);
+    tree::close(tree, st, a, h);
     Step::Next(a, 0, 0)
 }
 
-// `Either<A, B>`, or the name alone.
+// `Either<A, B>`, or the name alone. `option` and `list` begin with the same lines. A function for them would answer the state behind `<` or the step of the
+// alias, so each of the three would take that apart with a `let .. else` and cite a contract over both ways: as many lines as it would save.
 #[cycle(types)]
 #[inline(never)]
 fn either(source: &Source, tree: &mut [u32], st: State) -> Step
@@ -52,7 +54,7 @@ fn either(source: &Source, tree: &mut [u32], st: State) -> Step
 {
     let a = source.advance(tree::reserve(st));
     if a.class != class::LANGLE {
-        tree::close(tree, st, a, Kind::Alias, 0, 0);
+        tree::close(tree, st, a, Head::plain(Kind::Alias));
         return Step::Next(a, 0, 0);
     }
     let b = source.advance(a);
@@ -72,7 +74,7 @@ fn either(source: &Source, tree: &mut [u32], st: State) -> Step
     let Step::Next(f, _, _) = angle else {
         return angle;
     };
-    tree::close(tree, st, f, Kind::EitherType, 0, 0);
+    tree::close(tree, st, f, Head::plain(Kind::EitherType));
     Step::Next(f, 0, 0)
 }
 
@@ -86,7 +88,7 @@ fn option(source: &Source, tree: &mut [u32], st: State) -> Step
 {
     let a = source.advance(tree::reserve(st));
     if a.class != class::LANGLE {
-        tree::close(tree, st, a, Kind::Alias, 0, 0);
+        tree::close(tree, st, a, Head::plain(Kind::Alias));
         return Step::Next(a, 0, 0);
     }
     let b = source.advance(a);
@@ -98,7 +100,7 @@ fn option(source: &Source, tree: &mut [u32], st: State) -> Step
     let Step::Next(d, _, _) = angle else {
         return angle;
     };
-    tree::close(tree, st, d, Kind::OptionType, 0, 0);
+    tree::close(tree, st, d, Head::plain(Kind::OptionType));
     Step::Next(d, 0, 0)
 }
 
@@ -112,8 +114,8 @@ fn list(source: &Source, tree: &mut [u32], st: State) -> Step
 {
     let a = source.advance(tree::reserve(fault::clean(st)));
     if a.class != class::LANGLE {
-        tree::close(tree, st, a, Kind::Alias, 0, 0);
-        let z = fault::judged(st, a, None, 0);
+        tree::close(tree, st, a, Head::plain(Kind::Alias));
+        let z = fault::judged(st, a, None);
         return Step::Next(z, 0, 0);
     }
     let b = source.advance(a);
@@ -135,11 +137,11 @@ fn list(source: &Source, tree: &mut [u32], st: State) -> Step
     };
     let v = names::number(source.draft, d);
     tree::close_number(tree, st, f, Kind::ListType, v);
-    let g = fault::judged(st, f, fault::bound(v), d.start);
+    let g = fault::judged(st, f, fault::placed(fault::bound(v), d.start));
     Step::Next(g, 0, 0)
 }
 
-// `(A, …)`
+// `(A, …)`: the one list in brackets here, since `[A; n]` is none, so there is nothing to choose by `Brackets`.
 #[cycle(types)]
 #[inline(never)]
 fn tuple(source: &Source, tree: &mut [u32], st: State) -> Step
@@ -156,7 +158,7 @@ fn tuple(source: &Source, tree: &mut [u32], st: State) -> Step
     let Step::Next(c, _, _) = paren else {
         return paren;
     };
-    tree::close(tree, st, c, Kind::TupleType, 0, 0);
+    tree::close(tree, st, c, Head::plain(Kind::TupleType));
     Step::Next(c, 0, 0)
 }
 
@@ -187,12 +189,13 @@ fn array(source: &Source, tree: &mut [u32], st: State) -> Step
     };
     let v = names::number(source.draft, c);
     tree::close_number(tree, st, e, Kind::ArrayType, v);
-    let f = fault::judged(st, e, fault::array_length(v), c.start);
+    let f = fault::judged(st, e, fault::placed(fault::array_length(v), c.start));
     Step::Next(f, 0, 0)
 }
 
-// Types with commas between them, up to what closes them. The lists of patterns, expressions and parameters are loops of their own: an item is
-// read by a function of the cycle, and a closure that calls it would have to say all that the loop says of its item.
+// Types with commas between them, up to what closes them. Patterns, expressions and parameters have loops of their own. One loop was tried in small: over
+// a trait's method a cycle of calls gets no proof. Over a closure it does, but a closure there has to state both clauses of its item and to capture
+// the place from which it may be called, and no ghost argument can name its rule: each would be as long as its loop.
 #[cycle(types)]
 fn types(source: &Source, tree: &mut [u32], st: State) -> Step
     requires { Ready (text source.now) st }

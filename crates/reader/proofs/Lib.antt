@@ -1,6 +1,5 @@
 pub mod Laws
 pub mod LineLaws
-pub mod LoadingLaws
 pub mod EntryLaws
 pub mod Fits
 pub mod Refusing

@@ -1,10 +1,11 @@
 -- Buffers that are shorter than the limits give the same listing, where they have room for the tokens of a draft: it has no more of them than bytes; and for
 -- as many records, and the one over.
 -- Assumes nothing.
-use Rattle.std.specs.Prelude.{Bool, List, [], ◌∷◌, ◌≡◌, ℕ, ◌+◌, ◌*◌, ◌/◌, ◌≤◌, get_or}
+use Rattle.std.specs.Prelude.{Bool, List, [], ◌∷◌, ◌⊎◌, ◌≡◌, ℕ, ◌+◌, ◌*◌, ◌/◌, ◌≤◌, ◌<◌, min, get_or}
 use Rattle.std.proofs.Math.Bool.{true, false, cond}
 use Rattle.std.proofs.Math.Path.{refl, sym, ap}
-use Rattle.std.proofs.Common.{◌∙◌, arith, le-ltb}
+use Rattle.std.proofs.Common.{inl, inr, ◌∙◌, arith, le-ltb}
+use Rattle.std.proofs.lemmas.Bool.{cases_lt}
 use Rattle.std.proofs.Math.Dec.{ltb}
 use Rattle.std.proofs.Math.ListN.{length}
 use Rattle.lexer.specs.Lexemes.{Token, Lexemes, tokens, refused_at, lexemes}
@@ -101,6 +102,15 @@ same-records draft n tw rw rw' e h h' =
 pub short-listing : (draft : List ℕ) (tw : ℕ) → length draft ≤ tw / tok_wide → tw ≤ tok_wide * draft_limits.tokens → listing whole_file draft_limits draft tw (rec_wide * records_most) ≡ listing_of draft
 unfolding room
 short-listing draft tw h k = same-tokens draft (length draft) (few-tokens draft) tw (tok_wide * draft_limits.tokens) (rec_wide * records_most) (omega arith) (omega arith)
+
+-- So it is where that buffer has room for as many tokens as the draft has bytes or as any may have, whichever are fewer.
+pub roomy_listing : (draft : List ℕ) (tw : ℕ) {n : ℕ} → n ≡ tw → (tok_wide * min (length draft) draft_limits.tokens ≤ tw) × (tw ≤ tok_wide * draft_limits.tokens)
+    → listing whole_file draft_limits draft n (rec_wide * records_most) ≡ listing_of draft
+roomy_listing draft tw {n} e h = go (cases_lt draft_limits.tokens (length draft))
+  where
+    go : (draft_limits.tokens < length draft) ⊎ (length draft ≤ draft_limits.tokens) → listing whole_file draft_limits draft n (rec_wide * records_most) ≡ listing_of draft
+    go (inl l) = let q : n ≡ tok_wide * draft_limits.tokens = omega (arith, e, h, l) in ap (λ (m : ℕ). listing whole_file draft_limits draft m (rec_wide * records_most)) q
+    go (inr l) = short-listing draft n (omega (arith, e, h, l)) (omega (arith, e, h))
 
 -- And by buffers for as many tokens as it has bytes, and the records of as many.
 pub short-buffers : (draft : List ℕ) (k : ℕ) → length draft ≤ k → k ≤ draft_limits.tokens

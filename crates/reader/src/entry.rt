@@ -1,5 +1,5 @@
 // The listing of a draft into a buffer of bytes, as the entry for C does it (crate togmelic).
-ghost use Rattle.std.specs.Prelude.{◌≡◌, [], ◌↔◌, ◌+◌, ◌*◌, ◌/◌, ◌<◌, ◌≤◌, length};
+ghost use Rattle.std.specs.Prelude.{◌≡◌, [], ◌↔◌, ◌+◌, ◌*◌, ◌<◌, ◌≤◌, min, length};
 ghost use Rattle.text.specs.Refusals.{refused_by};
 ghost use Rattle.text.specs.Widths.{tok_wide, rec_wide};
 ghost use Rattle.lexer.specs.Limits.{draft_limits};
@@ -20,7 +20,7 @@ const RECORDS_OVER: usize = 1;
 // Room for the lines of every draft.
 pub const LISTING_BYTES: usize = lines::LINE_BYTES * (lexer::DRAFT_TOKENS + RECORDS_OVER);
 
-// Rising sizes of arrays, in words, for tokens and for records. An array is cleared where it is made, so the smallest that will do is taken.
+// Rising sizes of arrays, in words, for tokens and for records: there is no heap. An array is cleared where it is made, so the smallest that will do is taken.
 const STEP_1: usize = 128;
 
 const STEP_2: usize = 512;
@@ -77,28 +77,16 @@ fn list_counted(lexed: &Lexed, out: &mut [u8]) -> usize
     ensures used { result ≡ used (listing_by lexed.now.draft.now (length lexed.now.words.now)) (length out.old) }
     ensures bytes { out.new ≡ padded (listing_by lexed.now.draft.now (length lexed.now.words.now)) (length out.old) }
 {
-    if lexed.count < STEP_1 / RECORD_WORDS {
-        return list_in::<STEP_1>(lexed, out);
+    match RECORD_WORDS * (lexed.count + RECORDS_OVER) {
+        0..=STEP_1 => list_in::<STEP_1>(lexed, out),
+        0..=STEP_2 => list_in::<STEP_2>(lexed, out),
+        0..=STEP_3 => list_in::<STEP_3>(lexed, out),
+        0..=STEP_4 => list_in::<STEP_4>(lexed, out),
+        0..=STEP_5 => list_in::<STEP_5>(lexed, out),
+        0..=STEP_6 => list_in::<STEP_6>(lexed, out),
+        0..=STEP_7 => list_in::<STEP_7>(lexed, out),
+        _ => list_in::<MOST_RECORDS>(lexed, out),
     }
-    if lexed.count < STEP_2 / RECORD_WORDS {
-        return list_in::<STEP_2>(lexed, out);
-    }
-    if lexed.count < STEP_3 / RECORD_WORDS {
-        return list_in::<STEP_3>(lexed, out);
-    }
-    if lexed.count < STEP_4 / RECORD_WORDS {
-        return list_in::<STEP_4>(lexed, out);
-    }
-    if lexed.count < STEP_5 / RECORD_WORDS {
-        return list_in::<STEP_5>(lexed, out);
-    }
-    if lexed.count < STEP_6 / RECORD_WORDS {
-        return list_in::<STEP_6>(lexed, out);
-    }
-    if lexed.count < STEP_7 / RECORD_WORDS {
-        return list_in::<STEP_7>(lexed, out);
-    }
-    list_in::<MOST_RECORDS>(lexed, out)
 }
 
 // Lists a draft by way of this buffer for its tokens.
@@ -119,10 +107,10 @@ fn list_lexed(draft: &[u8], out: &mut [u8], tokens: &mut [u32]) -> usize
     }
 }
 
-// Lists a draft by way of an array of so many words, which has room for as many tokens as it has bytes.
+// Lists a draft by way of an array of so many words, which has room for as many tokens as the draft has bytes, or as any may have.
 #[inline(never)]
-fn list_short<const WORDS: usize>(draft: &[u8], out: &mut [u8]) -> usize
-    requires { (length draft.now ≤ WORDS / tok_wide) × (WORDS ≤ tok_wide * draft_limits.tokens) }
+fn list_with<const WORDS: usize>(draft: &[u8], out: &mut [u8]) -> usize
+    requires { (tok_wide * min (length draft.now) draft_limits.tokens ≤ WORDS) × (WORDS ≤ tok_wide * draft_limits.tokens) }
     ensures used { result ≡ used_of draft.now (length out.old) }
     ensures bytes { out.new ≡ bytes_of draft.now (length out.old) }
 {
@@ -130,43 +118,24 @@ fn list_short<const WORDS: usize>(draft: &[u8], out: &mut [u8]) -> usize
     list_lexed(draft, out, &mut tokens)
 }
 
-// Lists any draft by way of an array that has room for as many tokens as a draft may have.
-#[inline(never)]
-fn list_long(draft: &[u8], out: &mut [u8]) -> usize
-    ensures used { result ≡ used_of draft.now (length out.old) }
-    ensures bytes { out.new ≡ bytes_of draft.now (length out.old) }
-{
-    let mut tokens = [0u32; MOST_TOKENS];
-    list_lexed(draft, out, &mut tokens)
-}
-
-// By way of the smallest array that has room for as many tokens as the draft has bytes.
+// By way of the smallest array that has room for as many tokens as the draft has bytes, or as any may have.
 fn list_sized(draft: &[u8], out: &mut [u8]) -> usize
     ensures used { result ≡ used_of draft.now (length out.old) }
     ensures bytes { out.new ≡ bytes_of draft.now (length out.old) }
 {
-    if draft.len() <= STEP_1 / TOKEN_WORDS {
-        return list_short::<STEP_1>(draft, out);
+    match draft.len().saturating_mul(TOKEN_WORDS) {
+        0..=STEP_1 => list_with::<STEP_1>(draft, out),
+        0..=STEP_2 => list_with::<STEP_2>(draft, out),
+        0..=STEP_3 => list_with::<STEP_3>(draft, out),
+        0..=STEP_4 => list_with::<STEP_4>(draft, out),
+        0..=STEP_5 => list_with::<STEP_5>(draft, out),
+        0..=STEP_6 => list_with::<STEP_6>(draft, out),
+        _ => list_with::<MOST_TOKENS>(draft, out),
     }
-    if draft.len() <= STEP_2 / TOKEN_WORDS {
-        return list_short::<STEP_2>(draft, out);
-    }
-    if draft.len() <= STEP_3 / TOKEN_WORDS {
-        return list_short::<STEP_3>(draft, out);
-    }
-    if draft.len() <= STEP_4 / TOKEN_WORDS {
-        return list_short::<STEP_4>(draft, out);
-    }
-    if draft.len() <= STEP_5 / TOKEN_WORDS {
-        return list_short::<STEP_5>(draft, out);
-    }
-    if draft.len() <= STEP_6 / TOKEN_WORDS {
-        return list_short::<STEP_6>(draft, out);
-    }
-    list_long(draft, out)
 }
 
-// Lists a draft: its lines, zeros behind them; 0 and zeros alone if the buffer is too short for them.
+// Lists a draft: its lines, zeros behind them; 0 and zeros alone if the buffer is too short for them, as the interface for C has it.
+// `list_sized` gives the answer; here stands besides what an answer of 0 says.
 pub fn list_draft(draft: &[u8], out: &mut [u8]) -> usize
     ensures used { result ≡ used_of draft.now (length out.old) }
     ensures bytes { out.new ≡ bytes_of draft.now (length out.old) }

@@ -5,6 +5,7 @@ ghost use Rattle.lexer.specs.Lexemes.{lexemes};
 ghost use Rattle.lexer.specs.Limits.{draft_limits, lexed_of, tokens_of};
 ghost use Rattle.lexer.specs.Buffer.{tokens_in};
 
+// The words are all of the buffer, whose length is in what is answered, so the number of tokens stands beside them.
 #[derive(Clone, Copy)]
 pub(crate) struct Lexed<'a> {
     pub(crate) draft: &'a [u8],

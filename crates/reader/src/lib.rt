@@ -41,6 +41,7 @@ pub fn read(draft: &[u8], tokens: &mut [u32], tree: &mut [u32]) -> Result<Counts
 }
 
 // Reads a file, functions and type items: the same, and the first record is that of the whole file.
+// Two functions, since both are promised by name.
 pub fn read_file(draft: &[u8], tokens: &mut [u32], tree: &mut [u32]) -> Result<Counts, Refused>
     ensures answer { meant result ≡ answer whole_file draft_limits draft.now (length tokens.old) (length tree.old) }
     ensures values { returned result ≡ values (answer whole_file draft_limits draft.now (length tokens.old) (length tree.old)) }
@@ -51,7 +52,8 @@ pub fn read_file(draft: &[u8], tokens: &mut [u32], tree: &mut [u32]) -> Result<C
     read_as(draft, tokens, tree, ReadAs::File)
 }
 
-// Reads a draft as a file, or as one function; what is behind the words of both buffers is cleared, on a refusal every word.
+// Reads a draft as a file, or as one function; what is behind the words of both buffers is cleared, on a refusal every word. The buffers stay two parameters,
+// as the public entries have them: with a struct of both, each function would have to say that it keeps the borrow of each.
 fn read_as(
     draft: &[u8],
     tokens: &mut [u32],

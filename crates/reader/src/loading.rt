@@ -7,7 +7,7 @@ ghost use Rattle.reader.specs.Loading.{records_loaded, refusal_loaded, Refusing}
 use text::refusal::Refused;
 
 // Loads a listing: the number of records, seven words each, zeros behind them, and 0 and 0 as the refusal. Or 0, every word 0, and the refusal: its number,
-// and the first bad line from 1, or 0.
+// and the first bad line from 1, or 0. These are the numbers that the interface for C has.
 pub fn load_listing(listing: &[u8], words: &mut [u32], refusal: &mut [usize; 2]) -> usize
     ensures records { result ≡ records_loaded listing.now (length words.old) }
     ensures words { words.new ≡ words_of listing.now (length words.old) }

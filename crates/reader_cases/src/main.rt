@@ -6,7 +6,7 @@
 
 ghost use Rattle.std.specs.Prelude.{◌<◌};
 
-use cases::{BadCase, Case, Cases};
+use cases::{Case, Cases, is_zero, zeros};
 use owned::{Accepted, RecordWords, TokenWords};
 use reader::Counts;
 use std::alloc::Global;
@@ -29,7 +29,7 @@ const UNWRITTEN: u32 = 7;
 
 const UNWRITTEN_BYTE: u8 = 7;
 
-// The reader's entries for one function and for a file.
+// The reader's entries for one function and for a file; an enum of its own beside `parse::ReadAs`, since it is printed.
 #[derive(Clone, Copy)]
 enum Entry {
     Function,
@@ -59,14 +59,6 @@ impl Entry {
             Entry::File => accepted.is_file_owned(),
         }
     }
-}
-
-fn zeros(all: bool) -> &'static str {
-    if all { "zeros" } else { "NOT ZERO" }
-}
-
-fn is_zero(words: &[u32]) -> bool {
-    words.iter().all(|word| *word == 0)
 }
 
 // The first tokens or records of a buffer, and the words behind them; none if it does not hold so many.
@@ -122,9 +114,9 @@ fn write_reading(
             Ok(Some(tree))
         }
         Err(refused) => {
-            let number = u32::from(refused.refusal);
+            let refusal = refused.refusal;
             let all = zeros(is_zero(&tokens) && is_zero(&tree));
-            write!(out, " refused {number} {} {all}", refused.place)?;
+            write!(out, " refused {refusal} {} {all}", refused.place)?;
             Ok(None)
         }
     }
@@ -164,32 +156,20 @@ fn write_listing(out: &mut impl Write, alloc: Global, case: Case<'_, 4>) -> io::
     out.write_all(lines)
 }
 
-// A case, where no buffer that it asks is too long.
-fn fitting(case: Case<'_, 4>) -> Result<Case<'_, 4>, BadCase> {
-    let [token_words, record_words, bytes, _] = case.numbers;
-    if token_words <= MOST_TOKEN_WORDS && record_words <= MOST_RECORD_WORDS && bytes <= MOST_BYTES {
-        Ok(case)
-    } else {
-        Err(BadCase)
-    }
-}
-
-// No case is run after one that is wrong.
+// No case is run after one that is wrong: `Cases` ends there.
 fn main(rt: HostRuntime) -> io::Result<()> {
     let alloc = rt.alloc();
     let mut stream = Vec::new(alloc);
     rt.stdin().read_to_end(&mut stream)?;
     let mut out = BufWriter::new(alloc, io::writer(&rt))?;
-    for case in Cases::<4>::new(&stream) {
-        match case.and_then(fitting) {
+    let limits = [MOST_TOKEN_WORDS, MOST_RECORD_WORDS, MOST_BYTES, usize::MAX];
+    for case in Cases::within(&stream, limits) {
+        match case {
             Ok(case) => {
                 write_readings(&mut out, alloc, case)?;
                 write_listing(&mut out, alloc, case)?;
             }
-            Err(bad) => {
-                writeln!(out, "{bad}")?;
-                break;
-            }
+            Err(bad) => writeln!(out, "{bad}")?,
         }
     }
     out.flush()

@@ -55,6 +55,7 @@ impl From<&TokenWords> for Token {
 }
 
 // A record by its words.
+// All seven words; the record of `load` is the six that a line of either form has, and stays in its crate.
 #[derive(Clone, Copy, PartialEq, Eq, Debug)]
 struct Record {
     kind: u32,
@@ -239,14 +240,9 @@ impl<'a> Accepted<'a> {
 
     // Check 3.
     fn counts_agree(self) -> bool {
-        let mut left = self.tokens.len();
-        for node in Nodes(self.records) {
-            let Some(fewer) = left.checked_sub(node.count_owned(self.tokens)) else {
-                return false;
-            };
-            left = fewer;
-        }
-        left == 0
+        Nodes(self.records).try_fold(self.tokens.len(), |left, node| {
+            left.checked_sub(node.count_owned(self.tokens))
+        }) == Some(0)
     }
 
     // Whether all four checks hold of trees side by side.

@@ -12,13 +12,14 @@ pub const TOKEN_WORDS: usize = 3;
 pub const RECORD_WORDS: usize = 7;
 
 // The raw text of a start and an end: that part of the caller's draft, or the empty part at 0 if it is out of range.
+// Start and end are words of a token and may be any numbers: something is promised for each pair.
 pub fn part(draft: &[u8], start: usize, end: usize) -> &[u8]
     ensures { result.now ≡ part_of draft.now start end }
 {
     draft.get(start..end).unwrap_or(&draft[..0])
 }
 
-// The byte at i, 0 past the end.
+// The byte at i, 0 past the end, as the definitions read a draft (`get_or`): callers compare it with marks, digits and letters, and none of these is 0.
 pub fn peek(s: &[u8], i: usize) -> u8
     ensures { result ≡ get_or s.now i 0 }
 {

@@ -1,6 +1,9 @@
 // The refusals: document 01, "What the reader hands over"; from 16 on those of the later requests. A refusal's number is what callers see.
-ghost use Rattle.std.specs.Prelude.{◌≡◌};
+ghost use Rattle.std.specs.Prelude.{◌≡◌, Some};
+ghost use Rattle.std.specs.Fmt.{decimal};
 ghost use Rattle.text.specs.Refusals.{refusal_number};
+
+use std::fmt;
 
 #[derive(Clone, Copy, PartialEq, Eq, Debug)]
 pub enum Refusal {
@@ -55,7 +58,17 @@ impl From<Refusal> for u32 {
     }
 }
 
-// Why a draft is refused, and where.
+// A refusal is shown as its number.
+impl fmt::Display for Refusal {
+    ghost output = { λ r. Some (decimal (refusal_number r)) };
+
+    fn fmt<W: fmt::Write>(&self, f: &mut fmt::Formatter<W>) -> fmt::Result {
+        let number = u32::from(*self);
+        write!(f, "{number}")
+    }
+}
+
+// Why a draft is refused, and where; the place is 0 where a refusal has none, as document 01 says of the numbers that callers see.
 #[derive(Clone, Copy, PartialEq, Eq, Debug)]
 pub struct Refused {
     pub refusal: Refusal,

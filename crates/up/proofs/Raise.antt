@@ -74,9 +74,6 @@ pub record Raised (w : List ℕ) (n : ℕ) (l : List ℕ) (p i : ℕ) : Type 0 w
   pub done : l ≡ placed (way_up (size_in w)) i w
   pub at : p ≡ i - 1 - way_up (size_in w) (i - 1)
 
-pub raise-start : (w : List ℕ) (n : ℕ) → rec_wide * n ≤ length w → (n ≡ 0 → ⊥) → Raised w n (set w up_place 0) 0 1
-raise-start w n h k = record { room = h; some = omega arith; within = omega (arith, k); long = length-set w up_place 0; done = refl; at = omega arith }
-
 module _ {w : List ℕ} {n : ℕ} {l : List ℕ} {p i : ℕ} (x : Raised w n l p i) where
   abbrev f : ℕ → ℕ
   f = way_up (size_in w)

@@ -9,6 +9,10 @@ size_place = 5
 abbrev pub up_place : ℕ
 up_place = 6
 
--- The size of the record of this number.
+-- The size of the record of this number;
 abbrev pub size_in : List ℕ → ℕ → ℕ
 size_in w i = get_or w (rec_wide * i + size_place) 0
+
+-- and its way up, as it stands there.
+abbrev pub up_in : List ℕ → ℕ → ℕ
+up_in w i = get_or w (rec_wide * i + up_place) 0

@@ -1,11 +1,11 @@
 // The way up: how many records back the parent of each record begins, found through the sizes of records that lie one after the other.
 #![tactic(auto)]
 
-ghost use Rattle.std.specs.Prelude.{◌≡◌, ◌≤◌, ◌<◌, ◌*◌, ◌+◌, ◌-◌, ℕ, length, get_or};
+ghost use Rattle.std.specs.Prelude.{◌≡◌, ◌≤◌, ◌<◌, ◌*◌, ◌+◌, ◌-◌, ◌/◌, ℕ, length, get_or};
 ghost use Rattle.std.proofs.Common.{Fits, w32};
 ghost use Rattle.text.specs.Widths.{rec_wide};
 ghost use Rattle.up.specs.Ways.{way_up, upward};
-ghost use Rattle.up.specs.Buffer.{up_place, size_in};
+ghost use Rattle.up.specs.Buffer.{size_in, up_in};
 
 use text::RECORD_WORDS;
 
@@ -14,23 +14,44 @@ const SIZE: usize = 5;
 
 pub const UP: usize = 6;
 
+// Records one after the other, of which each has a size and may have a way up: the words of a tree, or the lines of a listing.
+pub trait Records {
+    // How many there are, and what the place of each says.
+    ghost count: { Self → ℕ };
+
+    ghost sizes: { Self → ℕ → ℕ };
+
+    ghost ways: { Self → ℕ → ℕ };
+
+    fn size(&self, i: usize) -> u32
+        requires { i < count self.now }
+        ensures { result ≡ sizes self.now i };
+
+    fn way(&self, i: usize) -> u32
+        requires { i < count self.now }
+        ensures { result ≡ ways self.now i };
+}
+
 // The record that holds record i, where those before it have their ways up; i itself if none does. `before` is what holds the record
 // before it, or that record itself. If the record before holds i, there is no way to go; else from `before` on, from parent to parent, up to the first that
 // reaches over i. Each record is passed at most once in all, since it is no parent of what comes after.
-fn above(tree: &[u32], before: usize, i: usize) -> usize
-    requires i_nonzero { 0 < i }
-    requires i_in_bounds { rec_wide * i ≤ length tree.now }
-    requires before_value { before ≡ i - 1 - way_up (size_in tree.now) (i - 1) }
-    requires raised { (q : ℕ) → q < i → get_or tree.now (rec_wide * q + up_place) 0 ≡ way_up (size_in tree.now) q }
-    ensures is { result ≡ i - way_up (size_in tree.now) i }
+// `i` itself where none does, so that `i` less the answer is the way up.
+pub fn above<R: Records>(records: &R, before: usize, i: usize) -> usize
+    requires i_in_bounds { i ≤ R.count records.now }
+    requires before_value { before ≡ i - 1 - way_up (R.sizes records.now) (i - 1) }
+    requires raised { (q : ℕ) → q < i → R.ways records.now q ≡ way_up (R.sizes records.now) q }
+    ensures is { result ≡ i - way_up (R.sizes records.now) i }
     ensures small { Fits w32 (i - result) }
 {
-    if tree[RECORD_WORDS * (i - 1) + SIZE] > 1 {
+    if i == 0 {
+        return 0;
+    }
+    if records.size(i - 1) > 1 {
         return i - 1;
     }
     let mut p = before;
-    while i - p >= tree[RECORD_WORDS * p + SIZE] as usize {
-        let up = tree[RECORD_WORDS * p + UP] as usize;
+    while i - p >= records.size(p) as usize {
+        let up = records.way(p) as usize;
         if up == 0 {
             return i;
         }
@@ -39,7 +60,31 @@ fn above(tree: &[u32], before: usize, i: usize) -> usize
     p
 }
 
-// Gives each of the first records its way up, where the buffer has so many.
+// The words of a tree.
+// They are read by place: `way_up` writes between two looks, and std says nothing of what `as_chunks_mut` leaves.
+#[derive(Clone, Copy)]
+struct Tree<'a> {
+    words: &'a [u32],
+}
+
+impl<'a> Records for Tree<'a> {
+    ghost count = { λ t. length t.words.now / rec_wide };
+
+    ghost sizes = { λ t. size_in t.words.now };
+
+    ghost ways = { λ t. up_in t.words.now };
+
+    fn size(&self, i: usize) -> u32 {
+        self.words[RECORD_WORDS * i + SIZE]
+    }
+
+    fn way(&self, i: usize) -> u32 {
+        self.words[RECORD_WORDS * i + UP]
+    }
+}
+
+// Gives each of the first records its way up, where the buffer has so many. A lent buffer may be longer than its tree, so the number of records stands beside
+// it.
 pub fn way_up(tree: &mut [u32], records: usize)
     ensures { tree.new ≡ upward records tree.old }
 {
@@ -52,7 +97,7 @@ pub fn way_up(tree: &mut [u32], records: usize)
     tree[UP] = 0;
     let mut p = 0;
     for i in 1..records {
-        p = above(tree, p, i);
+        p = above(&Tree { words: tree }, p, i);
         tree[RECORD_WORDS * i + UP] = (i - p) as u32;
     }
 }

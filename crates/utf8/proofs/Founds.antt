@@ -1,6 +1,6 @@
 -- What a sequence that is found, or none, says of the bytes there.
 -- Assumes nothing.
-use Rattle.std.specs.Prelude.{ℕ, zero, suc, ◌≡◌, refl, Option, None, Some, unwrap_or, is_some}
+use Rattle.std.specs.Prelude.{ℕ, zero, suc, ◌≡◌, refl, None, Some, unwrap_or, is_some}
 use Rattle.std.proofs.Common.{ap, arith, sym}
 use Rattle.text.proofs.Same.{differ}
 use Rattle.utf8.specs.Found.{if_any}

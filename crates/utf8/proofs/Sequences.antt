@@ -4,7 +4,7 @@
 use Rattle.std.specs.Prelude.{Bool, true, false, cond, ◌&&◌, ◌||◌, List, [], ◌∷◌, ◌++◌, ◌≡◌, refl, ℕ, zero, suc, ◌≤◌, ◌<◌, leb, ltb, length, get_or, take, drop}
 use Rattle.std.proofs.Math.Bool.{and-false}
 use Rattle.std.proofs.Common.{sym, ◌∙◌, ap, subst, arith, le-leb, leb-true, ltb-true, lt-ltb, length-drop, drop-cons}
-use Rattle.std.proofs.lemmas.Bool.{lt-leb}
+use Rattle.std.proofs.lemmas.Bool.{lt-leb, or_right}
 use Rattle.text.specs.Ranges.{Range, of}
 use Rattle.text.proofs.Same.{differ}
 use Rattle.text.proofs.Table.{both_left, both_right}
@@ -90,10 +90,6 @@ unfolding fits spells
 fits-spells [] r e = refl
 fits-spells (g ∷ gs) [] e = differ e
 fits-spells (g ∷ gs) (b ∷ r) e = rw (both_left (of g b) (fits gs r) e) (fits-spells gs r (both_right (of g b) (fits gs r) e))
-
-or_right : (a b : Bool) → b ≡ true → (a || b) ≡ true
-or_right true b e = refl
-or_right false b e = e
 
 pub sequence-one : (alts : List (List Range)) (r : List ℕ) (n : ℕ) → sequence alts r ≡ suc n → is_one alts (take (suc n) r) ≡ true
 unfolding sequence is_one

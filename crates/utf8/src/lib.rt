@@ -54,8 +54,8 @@ fn most_second(b: u8) -> u8
     }
 }
 
-// How many bytes the sequence at i has, whose first byte b is over 127.
-fn wide(s: &[u8], i: usize, b: u8) -> Option<usize>
+// How many bytes the sequence at i has, whose first byte b is over 127: `sequence` for a caller that has looked at the byte.
+pub fn wide(s: &[u8], i: usize, b: u8) -> Option<usize>
     requires { (i < length s.now) × (b ≡ get_or s.now i 0) × (128 ≤ b) }
     ensures { result ≡ char_found (drop i s.now) }
 {
@@ -75,6 +75,7 @@ fn wide(s: &[u8], i: usize, b: u8) -> Option<usize>
     if outside(c, least_second(b), most_second(b)) {
         return None;
     }
+    // Byte by byte: `peek` gives 0 past the end, which is no tail, so a sequence that is cut off needs no test of its own.
     if outside(peek(s, i + 2), TAIL, LAST_TAIL) {
         return None;
     }
@@ -87,24 +88,14 @@ fn wide(s: &[u8], i: usize, b: u8) -> Option<usize>
     Some(4)
 }
 
-// The answer of `sequence`, whose law is proved once, of whatever is answered.
-fn length_at(s: &[u8], i: usize) -> Option<usize>
-    ensures { result ≡ char_found (drop i s.now) }
-{
-    if i >= s.len() {
-        return None;
-    }
-    let b = s[i];
-    if b <= LAST_ASCII {
-        return Some(1);
-    }
-    wide(s, i, b)
-}
-
 // How many bytes the sequence at i has, if one stands there: none does at the end of the text, or past it.
 pub fn sequence(s: &[u8], i: usize) -> Option<usize>
     ensures answer { result ≡ char_found (drop i s.now) }
     ensures law { Told (drop i s.now) (unwrap_or result 0) }
 {
-    length_at(s, i)
+    let b = *s.get(i)?;
+    if b <= LAST_ASCII {
+        return Some(1);
+    }
+    wide(s, i, b)
 }

@@ -1,107 +1,87 @@
 -- The rules of the constants against the lists of words, each computed once over the whole table, and what the proofs cite of them.
 -- Assumes nothing.
-use mathlib.Core.Bool.{Bool, true}
+use mathlib.Core.Bool.{Bool, true, ◌&&◌}
 use mathlib.Core.List.{List, [], ◌∷◌}
 use mathlib.Core.Path.{◌≡◌, refl, sym, ◌∙◌, ap}
-use Prim.Native.Nat.{ℕ, ◌+◌, ◌%◌, ◌≤◌, ◌<◌}
+use Prim.Native.Nat.{ℕ, ◌+◌, ◌≤◌, ◌<◌}
 use native.Mathlib.Omega.{arith}
 use lib.Dec.{T, eqb, leb, eqb→eq, leb→le}
 use lib.ListN.{length, get_or, take, drop}
+use Rattle.std.specs.Prelude.{None}
+use Rattle.std.proofs.lemmas.List.{length-take-le, length-drop, get_or-take, get_or-drop}
 use Rattle.text.specs.Ascii.{ascii, ascii_from}
 use Rattle.text.specs.Same.{same}
 use Rattle.text.specs.Table.{every, all}
-use Rattle.text.proofs.Table.{at, table_at, each, is_true}
+use Rattle.text.proofs.Table.{at, each, is_true, first-of, second-of}
 use Rattle.text.proofs.SameLaws.{same_true}
 use Rattle.words.specs.Words.{FUNCTION_RESERVED, KEYWORDS, MACROS, MODULE_RESERVED, RULE_NAMES, BOOLEANS, RULE_WORDS, UINT_TYPES, BUILTIN_ALIASES, BOOL, TYPE_NAMES}
-use Rattle.words.specs.Layout.{tables, entries, letters, slot_of, Hash, hashes}
-use Rattle.words.specs.Lies.{Lies, Only, AtMost}
+use Rattle.words.specs.declared.lookup.Words.{Words}
+use Rattle.words.specs.Layout.{entries, letters, slot_of}
+use Rattle.words.specs.Lies.{Lies, listed, Finds, Only}
 use Rattle.words.proofs.Right.{Says}
-use Rattle.std.specs.Prelude.{None}
-use Rattle.words.proofs.Constants.{starts, sizes, bases, counts, longest, slots, function_reserved_slots, keywords_slots, macros_slots, module_reserved_slots, rule_words_slots}
+use Rattle.words.proofs.Constants.{starts, sizes}
 
--- ---- one test for each word of each table
+-- ---- one test for each word of a table
 
--- the test passes at each table's number, each word's number and the word
-abbrev every_word : (ℕ → ℕ → List ℕ → Bool) → Bool
-every_word f = every (λ t ws. every (f t) 0 ws) 0 tables
+entry-count : length entries ≡ 77
+unfolding entries FUNCTION_RESERVED KEYWORDS MACROS MODULE_RESERVED RULE_NAMES BOOLEANS RULE_WORDS UINT_TYPES BUILTIN_ALIASES BOOL TYPE_NAMES
+entry-count = refl
 
-word_at : (f : ℕ → ℕ → List ℕ → Bool) → T (every_word f) → (t k : ℕ) → t < length tables → k < length (get_or tables t []) → T (f t k (get_or (get_or tables t []) k []))
-word_at f test t k h l = at (f t) (get_or tables t []) [] (at (λ t ws. every (f t) 0 ws) tables [] test t h) k l
+-- what is tested of the word at place k, whose bytes are l: it has two bytes or more, and no more than the longest, and its slot holds its place
+abbrev word_tests : Words → ℕ → List ℕ → List Bool
+word_tests w k l =
+    leb 2 (length l) ∷
+    leb (length l) w.longest ∷
+    eqb (get_or w.slots (slot_of w.multipliers l) 0) k ∷ []
 
-table-count : length tables ≡ 5
-unfolding tables
-table-count = refl
+-- the words of a table's constants are found, as a test
+abbrev pub are_found : Words → Bool
+are_found w = leb (w.first + w.count) (length entries) && every (λ k l. all (word_tests w k l)) 0 (listed w)
 
-abbrev none : Hash
-none = record { size = 1; first = 0; second = 0; last = 0 }
+pub listed-length : (w : Words) → w.first + w.count ≤ length entries → length (listed w) ≡ w.count
+unfolding listed
+listed-length w h = length-take-le w.count (drop w.first entries) (omega (arith, length-drop w.first entries))
 
--- what stands in the slot of p in table t
-abbrev pub at_slot : ℕ → List ℕ → ℕ
-at_slot t p = get_or (get_or slots t []) (slot_of (get_or hashes t none).first (get_or hashes t none).second (get_or hashes t none).last p % (get_or hashes t none).size) 0
+pub listed-at : (w : Words) (k : ℕ) → k < w.count → get_or (listed w) k [] ≡ get_or entries (w.first + k) []
+unfolding listed
+listed-at w k h = get_or-take w.count (drop w.first entries) k [] h ∙ get_or-drop w.first entries k []
 
--- what is tested of word k of table t, whose bytes are w: it has two bytes or more, and no more than the longest, its slot holds its number, its entry is the word
-abbrev tests : ℕ → ℕ → List ℕ → List Bool
-tests t k w =
-    leb 2 (length w) ∷
-    leb (length w) (get_or longest t 0) ∷
-    eqb (at_slot t w) k ∷
-    leb (get_or bases t 0 + k + 1) 77 ∷
-    same (get_or entries (get_or bases t 0 + k) []) w ∷ []
+pub found : (w : Words) → T (are_found w) → Finds w
+found w t =
+    let within : w.first + w.count ≤ length entries = leb→le (w.first + w.count) (length entries) (first-of _ _ t) in
+    let pass : (k : ℕ) → k < w.count → (i : ℕ) → T (get_or (word_tests w k (get_or (listed w) k [])) i true) =
+    λ k h. each (word_tests w k (get_or (listed w) k [])) (at (λ k l. all (word_tests w k l)) (listed w) [] (second-of _ _ t) k (omega (arith, listed-length w within))) in
+    record {
+      within = within;
+      least = λ k h. leb→le _ _ (pass k h 0);
+      most = λ k h. leb→le _ _ (pass k h 1);
+      held = λ k h. eqb→eq _ _ (pass k h 2);
+    }
 
-words-pass : T (every_word (λ t k w. all (tests t k w)))
-unfolding same tables entries slot_of hashes slots function_reserved_slots keywords_slots macros_slots module_reserved_slots rule_words_slots longest bases FUNCTION_RESERVED KEYWORDS MACROS MODULE_RESERVED RULE_NAMES BOOLEANS RULE_WORDS UINT_TYPES BUILTIN_ALIASES BOOL TYPE_NAMES ascii ascii_from
-words-pass = tt
+-- What it means for a part that the words are found: none has another length, and it can be no other than the one that its slot holds.
+pub beyond : (w : Words) (p : List ℕ) → Finds w → (2 ≤ length p → length p ≤ w.longest → ⊥) → Says (listed w) p None
+beyond w p f n k h e =
+    let l : k < w.count = omega (arith, listed-length w f.within) in
+    let n₁ : 2 ≤ length p = omega (arith, f.least k l, ap length e) in
+    let n₂ : length p ≤ w.longest = omega (arith, f.most k l, ap length e) in
+    n n₁ n₂
 
-module _ (t k : ℕ) (h : t < 5) (l : k < length (get_or tables t [])) where
-  pass : (i : ℕ) → T (get_or (tests t k (get_or (get_or tables t []) k [])) i true)
-  pass = each (tests t k (get_or (get_or tables t []) k [])) (word_at (λ t k w. all (tests t k w)) words-pass t k (omega (arith, table-count)) l)
+pub only_at : (w : Words) (p : List ℕ) {s r : ℕ} → Finds w → s ≡ slot_of w.multipliers p → r ≡ get_or w.slots s 0 → Only (listed w) p r
+only_at w p f d e =
+    record {
+      is = λ k h g.
+          e ∙ ap (λ s. get_or w.slots s 0) (d ∙ ap (slot_of w.multipliers) (sym g)) ∙ f.held k (omega (arith, listed-length w f.within));
+    }
 
-  pub word-long : 2 ≤ length (get_or (get_or tables t []) k [])
-  word-long = leb→le _ _ (pass 0)
-
-  word-short : length (get_or (get_or tables t []) k []) ≤ get_or longest t 0
-  word-short = leb→le _ _ (pass 1)
-
-  slot-holds : at_slot t (get_or (get_or tables t []) k []) ≡ k
-  slot-holds = eqb→eq _ _ (pass 2)
-
-  pub entry_in : get_or bases t 0 + k < 77
-  entry_in = let b = leb→le (get_or bases t 0 + k + 1) 77 (pass 3) in omega arith
-
-  pub entry-is : get_or entries (get_or bases t 0 + k) [] ≡ get_or (get_or tables t []) k []
-  entry-is = same_true _ _ (is_true _ (pass 4))
-
--- bytes of another length are no word
-pub too_short : (t : ℕ) → t < 5 → (p : List ℕ) → length p < 2 → Says (get_or tables t []) p None
-too_short t h p s k l e = omega (arith, word-long t k h l, ap length e)
-
-pub too_long : {ws : List (List ℕ)} {n : ℕ} → AtMost ws n → (p : List ℕ) → n < length p → Says ws p None
-too_long m p s k l e = omega (arith, m.short k l, ap length e)
-
-pub longest-at : (t : ℕ) → t < 5 → AtMost (get_or tables t []) (get_or longest t 0)
-longest-at t h = record { short = λ k l. word-short t k h l }
-
-pub longest_few : (t : ℕ) → t < 5 → get_or longest t 0 ≤ 14
-unfolding longest
-longest_few t h = leb→le _ _ (at (λ t n. leb n 14) longest 0 tt t h)
-
--- p can be no other word of table t than the one that its slot holds
-pub only_at : (t : ℕ) → t < 5 → (p : List ℕ) → Only (get_or tables t []) p (at_slot t p)
-only_at t h p = record { is = λ k l e. ap (at_slot t) (sym e) ∙ slot-holds t k h l }
-
-pub count_at : (t : ℕ) → t < 5 → get_or counts t 0 ≡ length (get_or tables t [])
-unfolding counts tables FUNCTION_RESERVED KEYWORDS MACROS MODULE_RESERVED RULE_NAMES BOOLEANS RULE_WORDS UINT_TYPES BUILTIN_ALIASES BOOL TYPE_NAMES
-count_at = table_at (λ t. length (get_or tables t [])) counts 5 refl tt
+-- Its words stand among the entries.
+pub entry_in : (w : Words) → Finds w → (k : ℕ) → k < w.count → w.first + k < 77
+entry_in w f k h = omega (arith, f.within, entry-count)
 
 -- ---- one test for each entry
 
 pub letter-count : length letters ≡ 359
 unfolding letters ascii ascii_from
 letter-count = refl
-
-entry-count : length entries ≡ 77
-unfolding entries FUNCTION_RESERVED KEYWORDS MACROS MODULE_RESERVED RULE_NAMES BOOLEANS RULE_WORDS UINT_TYPES BUILTIN_ALIASES BOOL TYPE_NAMES
-entry-count = refl
 
 -- what is tested of entry e, whose bytes are w: its size, and that it stands among the letters
 abbrev entry_tests : ℕ → List ℕ → List Bool

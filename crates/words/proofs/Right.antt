@@ -8,6 +8,7 @@ use Rattle.text.proofs.SameLaws.{same_true, same_self}
 use Rattle.words.specs.Lies.{Only}
 use Rattle.words.specs.Words.{find, word_of}
 use Rattle.std.specs.Prelude.{Option, Some, None}
+use Rattle.std.specs.Bool.{then_some}
 
 -- What an answer says of p and a list of words: this word of the list, or none of them.
 abbrev pub Says : List (List ℕ) → List ℕ → Option ℕ → Type 0
@@ -76,3 +77,10 @@ module _ (ws : List (List ℕ)) (p : List ℕ) (r : ℕ) (only : Only ws p r) wh
 
   pub other : (p ≡ get_or ws r [] → ⊥) → Says ws p None
   other n k l e = n (sym e ∙ ap (λ m. get_or ws m []) (sym (only.is k l e)))
+
+  pub settled : r < length ws → then_some (same p (get_or ws r [])) r ≡ word_of ws p
+  settled h = go (same p (get_or ws r [])) refl
+    where
+      go : (b : Bool) → same p (get_or ws r []) ≡ b → then_some b r ≡ word_of ws p
+      go true e = sym (is_word ws p r only h (sym (same_true p (get_or ws r []) e)))
+      go false e = sym (is_plain ws p (other (λ f. differ (sym e ∙ ap (same p) (sym f) ∙ same_self p))))

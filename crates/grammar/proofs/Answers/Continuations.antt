@@ -3,10 +3,12 @@
 -- Assumes nothing.
 use mathlib.Core.List.Memᴰ
 use mathlib.Core.List.{List, [], ◌∷◌, ◌++◌, map, Memᴰ}
-use Rattle.std.specs.Prelude.{◌≡◌, refl, ℕ, zero, suc, ◌≤◌, ◌<◌, length}
+use Rattle.std.specs.Prelude.{◌≡◌, refl, ℕ, suc, ◌≤◌, ◌<◌, length}
 use Rattle.std.proofs.Math.Path.{sym, ap₂, subst}
 use Rattle.std.proofs.Common.{ap, ◌∙◌, arith, take-append-drop}
 use Rattle.std.proofs.Math.ListN.{take, drop}
+use Rattle.std.proofs.Math.Seq.{take-append_seam}
+use Rattle.std.proofs.lemmas.List.{take-map}
 use Rattle.own.specs.Tree.{classes_of}
 use Rattle.theory.specs.Ebnf.{FirstWrong}
 use Rattle.lexer.specs.Lexemes.{Token, tokens, lexemes}
@@ -43,15 +45,6 @@ unfolding toks_of classes_of kinds.class_of text_in class_in
 classes-in draft [] = refl
 classes-in draft (t ∷ ts) = ap (λ l. kinds.class_of draft t.kind t.start t.end ∷ l) (classes-in draft ts)
 
-take-map : {A B : Type 0} (f : A → B) (k : ℕ) (l : List A) → take k (map f l) ≡ map f (take k l)
-take-map f zero l = refl
-take-map f (suc k) [] = refl
-take-map f (suc k) (a ∷ l) = ap (λ m. f a ∷ m) (take-map f k l)
-
-take-front : {A : Type 0} (k l : List A) → take (length k) (k ++ l) ≡ k
-take-front [] l = refl
-take-front (a ∷ k) l = ap (λ m. a ∷ m) (take-front k l)
-
 module _ (en : Entry) (draft : List ℕ) (ts : List Token) (lexes : lexemes draft ≡ tokens ts) (k : ℕ) where
   abbrev front : List Token
   front = take k ts
@@ -85,7 +78,7 @@ module _ (en : Entry) (draft : List ℕ) (ts : List Token) (lexes : lexemes draf
         its_tokens = d.0;
         lexes = d.1;
         begins =
-            ap₂ (λ l s. take (length l) s) these-are d.2 ∙ take-front (spelled draft front) _ ∙ sym these-are;
+            ap₂ (λ l s. take (length l) s) these-are d.2 ∙ take-append_seam (spelled draft front) _ ∙ sym these-are;
         well_shaped =
             subst (WellShaped en) (ap (λ l. l ++ more) (classes-are ∙ sym (classes-in draft front)) ∙ sym d.3 ∙ classes-in (continued_with draft front more) d.0) w;
       }

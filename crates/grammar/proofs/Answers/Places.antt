@@ -2,6 +2,7 @@
 -- Assumes nothing.
 use Rattle.std.specs.Prelude.{Bool, true, false, cond, List, [], ◌∷◌, ◌≡◌, refl, ℕ, zero, suc, ◌≤◌, ◌<◌, eqb, ltb, length, get_or, drop}
 use Rattle.std.proofs.Math.Option.{some}
+use mathlib.Core.Option.{none-ne-some}
 use Rattle.std.proofs.Common.{arith, ltb-true}
 use Rattle.own.specs.Law.{sorts}
 use Rattle.text.specs.Answers.{refused}
@@ -34,7 +35,7 @@ at_before at m (u ∷ ts) (suc k) b h = at_before u.end m ts k b.3 (omega arith)
 -- so does the one that passes refusal 7's limit
 deep-before : (at m d n : ℕ) (ts : List Token) (p : ℕ) → Between at m ts → first_too_deep d n ts ≡ some p → p < m
 unfolding first_too_deep
-deep-before at m d n [] p b e = let z : ◌≡◌ {A = ℕ} 0 1 = cc in absurd (omega arith)
+deep-before at m d n [] p b e = absurd (none-ne-some p e)
 deep-before at m d n (u ∷ ts) p b e =
     go (passes (depth_after u.kind d) (row_after u.kind n)) e (deep-before u.end m (depth_after u.kind d) (row_after u.kind n) ts p b.3)
   where

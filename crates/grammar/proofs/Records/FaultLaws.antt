@@ -1,7 +1,9 @@
 -- "Of 9 to 14 the earliest place", and 19 "among" them: the refusal of a shape tree is one of its refusals, and no other of them has an earlier place.
 -- Assumes nothing.
-use Rattle.std.specs.Prelude.{Bool, true, false, cond, List, [], ◌∷◌, ◌↔◌, ◌≡◌, refl, ℕ, ◌≤◌, ltb}
+use Rattle.std.specs.Prelude.{Bool, true, false, cond, List, [], ◌∷◌, ◌↔◌, ◌≡◌, refl, ◌≤◌, ltb}
 use Rattle.std.proofs.Math.Option.{Option, none, some}
+use mathlib.Core.List.{cons-ne-nil}
+use mathlib.Core.Option.{none-ne-some}
 use Rattle.std.proofs.Common.{sym, subst, arith, ltb-true, ltb-false}
 use Rattle.text.specs.Lists.{here, there}
 use Rattle.own.specs.Lists.{All, nil, ◌&◌}
@@ -36,21 +38,21 @@ earlier-first f l (some g) e r z h q = go (ltb g.place f.place) refl q
 
 some-earlier : (f : Fault) (o : Option Fault) → earlier f o ≡ none → ⊥
 unfolding earlier
-some-earlier f none e = let z : ◌≡◌ {A = ℕ} 0 1 = cc in absurd (omega arith)
+some-earlier f none e = none-ne-some f (sym e)
 some-earlier f (some g) e = go (ltb g.place f.place) e
   where
     go : (b : Bool) → cond b (some g) (some f) ≡ none → ⊥
-    go true q = let z : ◌≡◌ {A = ℕ} 0 1 = cc in absurd (omega arith)
-    go false q = let z : ◌≡◌ {A = ℕ} 0 1 = cc in absurd (omega arith)
+    go true q = none-ne-some g (sym q)
+    go false q = none-ne-some f (sym q)
 
 -- There is no refusal exactly where the list is empty.
 pub none-exactly : (l : List Fault) → (earliest l ≡ none) ↔ (l ≡ [])
 unfolding earliest
 none-exactly [] = (λ e. refl, λ e. refl)
-none-exactly (f ∷ l) = (λ e. absurd (some-earlier f (earliest l) e), λ e. let z : ◌≡◌ {A = ℕ} 0 1 = cc in absurd (omega arith))
+none-exactly (f ∷ l) = (λ e. absurd (some-earlier f (earliest l) e), λ e. absurd (cons-ne-nil _ _ e))
 
 -- The refusal answered is the earliest.
 pub earliest-first : (l : List Fault) (f : Fault) → earliest l ≡ some f → EarliestFault f l
 unfolding earliest
-earliest-first [] f e = let z : ◌≡◌ {A = ℕ} 0 1 = cc in absurd (omega arith)
+earliest-first [] f e = absurd (none-ne-some f e)
 earliest-first (g ∷ l) f e = earlier-first g l (earliest l) refl (earliest-first l) (λ q. (none-exactly l).0 q) f e

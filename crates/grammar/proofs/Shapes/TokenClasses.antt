@@ -3,7 +3,8 @@
 use Rattle.std.specs.Prelude.{Bool, true, ◌&&◌, ◌≡◌, ℕ, zero, suc, T, get_or}
 use mathlib.Core.List.{List, [], ◌∷◌, Memᴰ}
 use Rattle.std.proofs.Math.Option.{some}
-use Rattle.std.proofs.Common.{sym, subst, arith}
+use mathlib.Core.Option.{none-ne-some}
+use Rattle.std.proofs.Common.{sym, subst}
 use Rattle.std.proofs.Math.ListN.{get_elem?}
 use Rattle.text.specs.Lists.{all}
 use Rattle.text.specs.Ascii.{ascii, ascii_from}
@@ -98,7 +99,7 @@ choices-fine (list e c) h = nil & (all_append (items-fine e (first-of (marks_giv
 choices-fine (tail e c) h = nil & (second-of (marks_given e) (given c) h & h & nil) & nil
 
 nth-fine : {l : List (List Ex)} → Rows l → (i : ℕ) {α : List Ex} → get_elem? l i ≡ some α → All Fine α
-nth-fine nil i e = let z : ◌≡◌ {A = ℕ} 0 1 = cc in absurd (omega arith)
+nth-fine nil i e = absurd (none-ne-some _ e)
 nth-fine (h & a) zero e = subst (All Fine) (cc) h
 nth-fine (h & a) (suc i) e = nth-fine a i e
 

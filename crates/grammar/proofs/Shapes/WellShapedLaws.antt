@@ -2,7 +2,8 @@
 -- What is computed of the grammar's tables stands here too.
 -- Assumes nothing.
 use Rattle.std.specs.Prelude.{◌≡◌, refl, Bool, true, false, List, [], ◌∷◌, ◌++◌, ◌↔◌, ℕ, zero, suc, ◌≤◌, ◌<◌, T, eqb, length, take}
-use Rattle.std.proofs.Common.{ap, ◌∙◌, subst, arith, eqb→eq}
+use mathlib.Core.Option.{none-ne-some}
+use Rattle.std.proofs.Common.{ap, ◌∙◌, subst, eqb→eq}
 use Rattle.std.proofs.Math.Bool.{decide}
 use Rattle.std.proofs.Math.Option.{some}
 use Rattle.std.proofs.Math.Decide.{ℕ_discrete}
@@ -35,7 +36,7 @@ pub data Nodes : Items → Type 0 where
 only-kind : (i k : ℕ) → get_elem? (kinds_of shapes function) i ≡ some k → k ≡ FunctionShape
 unfolding kinds_of shapes
 only-kind zero k e = cc
-only-kind (suc i) k e = let z : ◌≡◌ {A = ℕ} 0 1 = cc in absurd (omega arith)
+only-kind (suc i) k e = absurd (none-ne-some k e)
 
 -- The shape tree of one function is one node, that of a function.
 pub shape-function : {r : Items} → Shape single_function r → (js : Items) × (r ≡ sub FunctionShape js nil) × Match shapes (body_of shapes FunctionShape) js
@@ -60,7 +61,7 @@ is_nodes (list e c) = false
 is_nodes (tail e c) = false
 
 no-choice : {A : Type 0} {α : List Ex} (i : ℕ) → get_elem? {A = List Ex} [] i ≡ some α → A
-no-choice i h = let z : ◌≡◌ {A = ℕ} 0 1 = cc in absurd (omega arith)
+no-choice i h = absurd (none-ne-some _ h)
 
 file-choice : (i : ℕ) (α : List Ex) → get_elem? (choices shapes file) i ≡ some α → T (all is_nodes α)
 unfolding choices shapes branches items all is_nodes

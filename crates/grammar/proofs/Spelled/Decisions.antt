@@ -47,7 +47,7 @@ free c l = all (free_of c) l
 unfoldable pub sure : ℕ → List Shape → Bool
 sure c l = some (is_the c) l
 
-sees-append : (c : ℕ) (v w : List Sort) → sees c (v ++ w) ≡ (sees c v || sees c w)
+pub sees-append : (c : ℕ) (v w : List Sort) → sees c (v ++ w) ≡ (sees c v || sees c w)
 unfolding sees
 sees-append c [] w = refl
 sees-append c (word d ∷ v) w = go (eqb d c) (sees-append c v w)
@@ -127,10 +127,7 @@ pub record Opened (f : ℕ → Bool) (l : List Shape) (w : List Sort) : Type 0 w
   pub spelled : Row (the class ∷ l) w
 
 pub row_opened : (f : ℕ → Bool) (cs : List ℕ) {l : List Shape} {w : List Sort} → T (all f cs) → Row (k.mark cs ∷ l) w → Opened f l w
-row_opened f cs t (r_more (one_mark c h) r) = record { class = c; passes = all-has f cs c t h; spelled = r_more (self c) r }
-  where
-    self : (x : ℕ) → Spells (the x) (word x ∷ [])
-    self x = the-mark x
+row_opened f cs t (r_more (one_mark c h) r) = record { class = c; passes = all-has f cs c t h; spelled = r_more (the-mark c) r }
 
 -- ---- how many names and parts
 

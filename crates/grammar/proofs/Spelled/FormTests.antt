@@ -1,6 +1,7 @@
 -- The computed tests that each row of a shape is of the form of the kind that Records.antt decides, and that they are sound.
 -- Assumes nothing.
 use Rattle.std.specs.Prelude.{Bool, true, false, ◌&&◌, ◌||◌, not, List, [], ◌∷◌, ◌++◌, map, ◌⊎◌, ◌≡◌, refl, ℕ, zero, suc, ◌+◌, ◌≤◌, ◌<◌, T, eqb, ltb}
+use Rattle.std.proofs.Math.Bool.{and-false}
 use Rattle.std.proofs.Common.{append_assoc, inl, inr, sym, ap, ◌∙◌, subst, arith, eq-eqb, lt-ltb, ltb-true, ltb-false, eqb→eq}
 use Rattle.text.proofs.Same.{differ}
 use Rattle.text.proofs.Table.{first-of, second-of, or_cases, pair}
@@ -262,10 +263,6 @@ pub lone-sound : (l : List Shape) {w : List Sort} → T (lone_row l) → Row l w
 unfolding lone_row lone
 lone-sound l t r =
     rw (row-parts 1 l (first-of (has_parts 1 l) (free class.Comma l) t) r, row-free class.Comma (second-of (has_parts 1 l) (free class.Comma l) t) r) refl
-
-pub and-false : (b : Bool) → (b && false) ≡ false
-and-false true = refl
-and-false false = refl
 
 pub crowded-sound : (l : List Shape) {w : List Sort} → T (crowded_row l) → Row l w → lone w ≡ false
 unfolding crowded_row lone

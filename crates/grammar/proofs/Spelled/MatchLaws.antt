@@ -1,9 +1,11 @@
 -- The law of HeadLaws.antt for a match: without refusals 11 to 14 it is one of enum arms, or of two built-in arms that are partners.
 -- Assumes nothing.
-use Rattle.std.specs.Prelude.{Bool, true, false, ◌&&◌, ◌||◌, not, cond, ◌⊎◌, ◌≡◌, refl, ℕ, zero, suc, ◌+◌, ◌<◌, ltb, length}
+use Rattle.std.specs.Prelude.{Bool, true, false, ◌&&◌, ◌||◌, not, cond, ◌⊎◌, ◌≡◌, refl, ℕ, ◌+◌, ◌<◌, ltb, length}
+use mathlib.Core.List.{cons-ne-nil}
 use mathlib.Core.List.{List, [], ◌∷◌, ◌++◌, foldr}
-use Rattle.std.proofs.Common.{inl, inr, sym, ap, ◌∙◌, subst, arith, eqb-true, lt-ltb, eqb→eq}
+use Rattle.std.proofs.Common.{inl, inr, sym, ap, ◌∙◌, subst, arith, eqb-true, lt-ltb, eqb→eq, pos_of_ne-zero}
 use Rattle.std.proofs.lemmas.Bool.{eqb-false}
+use Rattle.std.proofs.lemmas.List.{nil_from_length}
 use Rattle.std.proofs.Math.Dec.{T, eqb}
 use Rattle.text.proofs.ListLaws.{all-has}
 use Rattle.text.proofs.Table.{first-of, second-of, or_cases, pair, not-true}
@@ -60,8 +62,7 @@ enum_arms (more {w = w} (one_part x l h c i) q) e = go (arm-cases x i) (λ z. en
     go : (x ≡ kind.BuiltinArm) ⊎ (x ≡ kind.EnumArm) → (arm_lows w ≡ [] → Spells (many enum_arm) w) → Spells (many enum_arm) (child x l h c ∷ w)
     go (inl k) f =
         let z : l ∷ arm_lows w ≡ [] = subst (λ (y : ℕ). cond (eqb y kind.BuiltinArm) (l ∷ arm_lows w) (arm_lows w) ≡ []) k e in
-        let o : ◌≡◌ {A = ℕ} 0 1 = cc in
-        absurd (omega arith)
+        absurd (cons-ne-nil _ _ z)
     go (inr k) f =
         let z : arm_lows w ≡ [] = subst (λ (y : ℕ). cond (eqb y kind.BuiltinArm) (l ∷ arm_lows w) (arm_lows w) ≡ []) k e in
         subst (λ (y : ℕ). Spells (many enum_arm) (child y l h c ∷ w)) (sym k) (more (one_part kind.EnumArm l h c tt) (f z))
@@ -140,21 +141,13 @@ faultless : (e : ℕ) (lows : List ℕ) → arms_fault e lows ≡ 0 → ((e ≡ 
 unfolding arms_fault
 faultless e lows f = go (eqb e 0) refl (eqb (length lows) 0) refl (eqb (length lows) 2) (mates lows) refl f
   where
-    none_of : (l : List ℕ) → length l ≡ 0 → l ≡ []
-    none_of [] q = refl
-    none_of (x ∷ l) q = absurd (omega arith)
-
     go : (a : Bool) → eqb e 0 ≡ a → (b : Bool) → eqb (length lows) 0 ≡ b → (c d : Bool) → mates lows ≡ d
         → ◌≡◌ {A = ℕ} (cond a (cond b (refusal_number refusal.NoArms) (cond c (cond d 0 (refusal_number refusal.NoPartners)) (refusal_number refusal.ArmCount))) (cond b 0 (refusal_number refusal.MixedArms))) 0 → ((e ≡ 0) × T (mates lows)) ⊎ ((0 < e) × (lows ≡ []))
     go true p true q c d m z = absurd (omega arith)
     go true p false q true true m z = inl (eqb-true e 0 p, subst (λ b. T b) (sym m) tt)
     go true p false q true false m z = absurd (omega arith)
     go true p false q false d m z = absurd (omega arith)
-    go false p true q c d m z = inr (positive e (eqb-false e 0 p), none_of lows (eqb-true (length lows) 0 q))
-      where
-        positive : (i : ℕ) → (i ≡ 0 → ⊥) → 0 < i
-        positive zero g = absurd (g refl)
-        positive (suc i) g = omega arith
+    go false p true q c d m z = inr (pos_of_ne-zero (eqb-false e 0 p), nil_from_length lows (eqb-true (length lows) 0 q))
     go false p false q c d m z = absurd (omega arith)
 
 lows-end : (v : List Sort) (d : ℕ) → arm_lows (v ++ (word d ∷ [])) ≡ arm_lows v

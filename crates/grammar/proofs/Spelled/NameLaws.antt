@@ -1,7 +1,7 @@
 -- The law of HeadLaws.antt for what begins with a name, a macro, a jet or `<`.
 -- Assumes nothing.
 use Rattle.std.specs.Prelude.{Bool, true, ◌&&◌, ◌||◌, not, cond, List, [], ◌∷◌, ◌⊎◌, ◌≡◌, ℕ}
-use Rattle.std.proofs.Math.Bool.{false}
+use Rattle.std.proofs.Math.Bool.{false, and-false}
 use Rattle.std.proofs.Common.{inl, inr}
 use Rattle.std.proofs.Math.Path.{refl}
 use Rattle.std.proofs.Math.Dec.{T}
@@ -16,7 +16,7 @@ use Rattle.grammar.proofs.Spelled.Rows.{Row, variants}
 use Rattle.grammar.proofs.Spelled.Inclusion.{dealt}
 use Rattle.grammar.proofs.Spelled.Decisions.{sure, free, row_sure, row-free, lacks, row-lacks}
 use Rattle.grammar.proofs.Spelled.FormTests.{SpelledAs, by_rows, form_in, Numbers, form-sound, no_number, fixed, fixed-holds, of_names, counts, Says}
-use Rattle.grammar.proofs.Spelled.FormTests.{and-false, lone_row, crowded_row, lone-sound, crowded-sound, judge, judge-sound}
+use Rattle.grammar.proofs.Spelled.FormTests.{lone_row, crowded_row, lone-sound, crowded-sound, judge, judge-sound}
 use Rattle.grammar.proofs.Spelled.HeadLaws.{opened, opened-sound, exact_in, exact-sound, count-sound}
 use Rattle.grammar.proofs.Spelled.CountedLaws.{names-construction, second-third}
 use Rattle.grammar.specs.Records.Records.{head, sees, opening, name_count, lone, call_head, wrapper_head, called_head, alone_head, name_head}

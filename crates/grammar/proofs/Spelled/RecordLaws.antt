@@ -4,11 +4,12 @@
 -- Assumes nothing.
 use Rattle.std.specs.Prelude.{Bool, true, false, ◌&&◌, ◌||◌, not, cond, ◌≡◌, refl, ℕ, ◌≤◌, T, eqb, leb, length, drop, get_or}
 use Rattle.std.proofs.Math.Bool.{or-true}
-use mathlib.Core.List.{List, [], ◌∷◌, ◌++◌, append_assoc, append-nil}
+use mathlib.Core.List.{List, [], ◌∷◌, ◌++◌, append_assoc, append-nil, append-eq-nil_iff}
 use Rattle.std.proofs.Math.Option.{some}
 use Rattle.std.proofs.Math.Option as option
 use Rattle.std.proofs.Math.Path.{sym, subst}
-use Rattle.std.proofs.Common.{ap, ◌∙◌, arith}
+use mathlib.Core.List.{cons-ne-nil}
+use Rattle.std.proofs.Common.{ap, ◌∙◌, true≢false}
 use borrow.Author.Tests.{eqb-true, eq-eqb, ne_eqb}
 use Rattle.std.proofs.Math.ListN.{get_elem?}
 use Rattle.text.specs.Part.{part_of}
@@ -113,7 +114,7 @@ no-first c none e = refl
 no-first c (mark t r) e = go (eqb t.class c) e (no-first c r)
   where
     go : (b : Bool) → (b || sees c (sorts r)) ≡ false → (sees c (sorts r) ≡ false → first_of c (marks r) ≡ blank_tok) → cond b t (first_of c (marks r)) ≡ blank_tok
-    go true q f = let z : ◌≡◌ {A = ℕ} 0 1 = cc in absurd (omega arith)
+    go true q f = absurd (true≢false q)
     go false q f = f q
 no-first c (sub k l h js r) e = no-first c r e
 
@@ -132,7 +133,7 @@ no_number draft is e = ap (λ t. decimal_of (text_of draft t)) (no-first class.D
 passes : (b : Bool) (i : ℕ) (t : Tok) → unless b i t ≡ [] → b ≡ true
 unfolding unless
 passes true i t e = refl
-passes false i t e = let z : ◌≡◌ {A = ℕ} 0 1 = cc in absurd (omega arith)
+passes false i t e = absurd (cons-ne-nil _ _ e)
 
 module _ (draft : List ℕ) (is : Items) where
   abbrev w : List Sort
@@ -171,19 +172,15 @@ module _ (draft : List ℕ) (is : Items) where
 
 -- ---- the tree
 
-nils : {A : Type 0} (a b : List A) → a ++ b ≡ [] → (a ≡ []) × (b ≡ [])
-nils [] b e = (refl, e)
-nils (x ∷ a) b e = let z : ◌≡◌ {A = ℕ} 0 1 = cc in absurd (omega arith)
-
 first-class : (c : ℕ) (l : List ℕ) (ts : List Tok) → c ∷ l ≡ classes_of ts → ((first_tok ts).class ≡ c) × (l ≡ classes_of (drop 1 ts))
 unfolding classes_of first_tok
-first-class c l [] e = let z : ◌≡◌ {A = ℕ} 0 1 = cc in absurd (omega arith)
+first-class c l [] e = absurd (cons-ne-nil _ _ e)
 first-class c l (t ∷ ts) e = (cc, cc)
 
 later-classes : (a b : List ℕ) (ts : List Tok) → a ++ b ≡ classes_of ts → b ≡ classes_of (drop (length a) ts)
 unfolding classes_of
 later-classes [] b ts e = e
-later-classes (c ∷ a) b [] e = let z : ◌≡◌ {A = ℕ} 0 1 = cc in absurd (omega arith)
+later-classes (c ∷ a) b [] e = absurd (cons-ne-nil _ _ e)
 later-classes (c ∷ a) b (t ∷ ts) e = later-classes a b ts (cc)
 
 -- Records that all keep their rules, made of what a row of expressions says.
@@ -237,8 +234,8 @@ module _ (draft : List ℕ) where
   good-items (m_sub {C = C} {k = k} {js = js} {r = r} i h m m') ts more e f =
       let is = record_items draft js ts in
       let e' : shape.yield js ++ (shape.yield r ++ more) ≡ classes_of ts = sym (append_assoc (shape.yield js) (shape.yield r) more) ∙ e in
-      let a = nils (faults_at draft k is) (faults draft js ts ++ faults draft r (drop (length (shape.yield js)) ts)) f in
-      let b = nils (faults draft js ts) (faults draft r (drop (length (shape.yield js)) ts)) a.1 in
+      let a = append-eq-nil_iff.0 f in
+      let b = append-eq-nil_iff.0 a.1 in
       good-sub C i k h is (record_items draft r (drop (length (shape.yield js)) ts)) a.0 (good-items m ts (shape.yield r ++ more) e' b.0)
       (good-items m' (drop (length (shape.yield js)) ts) more (later-classes (shape.yield js) (shape.yield r ++ more) ts e') b.1)
   good-items (m_choice {r = r} i h m) ts more e f = good-choice i (record_items draft r ts) h (good-items m ts more e f)

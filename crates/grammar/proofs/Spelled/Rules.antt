@@ -2,7 +2,8 @@
 -- the items of a shape tree spell it.
 -- Assumes nothing.
 use Rattle.std.specs.Prelude.{List, [], ◌∷◌, ◌++◌, map, ◌⊎◌, ◌≡◌, ℕ, zero, suc, T, eqb, get_or, take, drop}
-use Rattle.std.proofs.Common.{append_assoc, append-nil, inl, inr, sym, ◌∙◌, subst, arith, eqb→eq}
+use mathlib.Core.Option.{none-ne-some}
+use Rattle.std.proofs.Common.{append_assoc, append-nil, inl, inr, sym, ◌∙◌, subst, eqb→eq}
 use Rattle.std.proofs.Math.Option.{some}
 use Rattle.std.proofs.Math.ListN.{get_elem?}
 use Rattle.theory.specs.Ebnf.{Ex, eps, part, seq, or, items, branches, choices}
@@ -138,7 +139,7 @@ items-in (shape.list e c) p = last_off p
 items-in (shape.tail e c) p = last_off p
 
 pub nth-none : {X A : Type 0} (i : ℕ) {x : X} → get_elem? [] i ≡ some x → A
-nth-none i e = let z : ◌≡◌ {A = ℕ} 0 1 = cc in absurd (omega arith)
+nth-none i e = absurd (none-ne-some _ e)
 
 nth-one : {X : Type 0} (a : X) (i : ℕ) {x : X} → get_elem? (a ∷ []) i ≡ some x → a ≡ x
 nth-one a zero e = cc

@@ -96,9 +96,9 @@ judged-only r s (c ∷ cs) {x} e = go (sits s.left r c) refl e (λ d. judged-onl
 -- The state and the numbers past all children are those of the automaton and of the rules.
 record Told (s x : Seen) (cs : List Rec) : Type 0 where
   state : x.state ≡ run s.state cs
-  names : x.names ≡ s.names + counted (kind.Name ∷ []) (map bare cs)
-  parameters : x.parameters ≡ s.parameters + counted (kind.Parameter ∷ []) (map bare cs)
-  patterns : x.patterns ≡ s.patterns + counted family.patterns (map bare cs)
+  names : x.counts.names ≡ s.counts.names + counted (kind.Name ∷ []) (map bare cs)
+  parameters : x.counts.parameters ≡ s.counts.parameters + counted (kind.Parameter ∷ []) (map bare cs)
+  patterns : x.counts.patterns ≡ s.counts.patterns + counted family.patterns (map bare cs)
 
 told : (s : Seen) (cs : List Rec) → Told s (past_all s cs) cs
 unfolding run counted past past_all
@@ -118,7 +118,7 @@ module _ (r : Rec) (cs : List Rec) where
   end : Seen
   end = past_all (before r q) cs
 
-  counts-are : agrees (asked_of r.kind) r.low r.high end.names end.parameters end.patterns ≡ agreed (asked_of r.kind) r.low r.high (map bare cs)
+  counts-are : agrees (asked_of r.kind) r.low r.high end.counts.names end.counts.parameters end.counts.patterns ≡ agreed (asked_of r.kind) r.low r.high (map bare cs)
   unfolding end
   counts-are =
       let t = told (before r q) cs in
@@ -131,7 +131,7 @@ module _ (r : Rec) (cs : List Rec) where
   given d =
       let t = told (before r q) cs in
       let a = ended end.state in
-      let b = agrees (asked_of r.kind) r.low r.high end.names end.parameters end.patterns in
+      let b = agrees (asked_of r.kind) r.low r.high end.counts.names end.counts.parameters end.counts.patterns in
       pair a b (subst (λ (x : ℕ). T (ended x)) (sym t.state) d.taken) (subst T (sym counts-are) d.agreeing)
 
   taken_of : T (verdict r (Some end)) → Decided r.kind r.low r.high cs
@@ -139,7 +139,7 @@ module _ (r : Rec) (cs : List Rec) where
   taken_of v =
       let t = told (before r q) cs in
       let a = ended end.state in
-      let b = agrees (asked_of r.kind) r.low r.high end.names end.parameters end.patterns in
+      let b = agrees (asked_of r.kind) r.low r.high end.counts.names end.counts.parameters end.counts.patterns in
       record { taken = subst (λ (x : ℕ). T (ended x)) t.state (first-of a b v); agreeing = subst T counts-are (second-of a b v) }
 
   -- A right record is found right,

@@ -5,12 +5,6 @@ use Rattle.load.specs.Meant.{meant}
 use Rattle.load.proofs.LoadLaws.{as-formed, loaded-fits, still-fits, lines-held, handed-refused, handed-records}
 use Rattle.load.proofs.load.Goals as goal
 
-pub returns-in_default-clause-answer : goal.returns-in_default-clause-answer
-returns-in_default-clause-answer c = as-formed _ _ c.of.ensures c.answer-loaded.ensures
-
-pub returns-in_default-clause-values : goal.returns-in_default-clause-values
-returns-in_default-clause-values c = (handed-refused _ _ (as-formed _ _ c.of.ensures c.answer-loaded.ensures) c.in_default.is (c.fill.ensures.after (λ y e. e))).1.0
-
 pub returns-in_default-clause-words : goal.returns-in_default-clause-words
 returns-in_default-clause-words c = (handed-refused _ _ (as-formed _ _ c.of.ensures c.answer-loaded.ensures) c.in_default.is (c.fill.ensures.after (λ y e. e))).1.1.0
 

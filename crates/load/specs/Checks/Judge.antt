@@ -6,7 +6,7 @@ use Rattle.own.specs.Tree.{Rec}
 use Rattle.load.specs.Children.Cue as cue
 use Rattle.load.specs.Children.Cue.{cue}
 use Rattle.load.specs.Children.Run.{next, ended}
-use Rattle.load.specs.Children.Begin.{agrees, asked_of}
+use Rattle.load.specs.Children.Begin.{agrees, asked_of, start}
 use Rattle.load.specs.declared.record.Record.{Record}
 use Rattle.load.specs.declared.walk.Seen.{Seen}
 
@@ -28,9 +28,11 @@ past s c =
     record {
       left = s.left - c.size;
       state = next s.state c;
-      names = s.names + one its cue.Name;
-      parameters = s.parameters + one its cue.Parameter;
-      patterns = s.patterns + one its cue.Pattern;
+      counts = record {
+        names = s.counts.names + one its cue.Name;
+        parameters = s.counts.parameters + one its cue.Parameter;
+        patterns = s.counts.patterns + one its cue.Pattern;
+      };
     }
 
 -- and past all of them, which fill what is left.
@@ -40,9 +42,13 @@ judge r s (c ∷ cs) = cond (sits s.left r c) (judge r (past s c) cs) None
 
 -- Before all children of a record, whose automaton begins in this state.
 abbrev pub before : Rec → ℕ → Seen
-before r q = record { left = r.size - 1; state = q; names = 0; parameters = 0; patterns = 0 }
+before r q = record { left = r.size - 1; state = q; counts = record { names = 0; parameters = 0; patterns = 0 } }
+
+-- which is that of its kind, low and high.
+abbrev pub begun : Rec → Seen
+begun r = before r (start r.kind r.low r.high)
 
 -- What is found of a record is right: the children may end there, and their numbers are what its low and high say.
 unfoldable pub verdict : Rec → Option Seen → Bool
 verdict r None = false
-verdict r (Some s) = ended s.state && agrees (asked_of r.kind) r.low r.high s.names s.parameters s.patterns
+verdict r (Some s) = ended s.state && agrees (asked_of r.kind) r.low r.high s.counts.names s.counts.parameters s.counts.patterns

@@ -8,9 +8,9 @@ use Rattle.load.specs.declared.walk.Seen.{Seen}
 
 pub record Small (s : Seen) : Type 0 where
   pub state : s.state < state_count
-  pub names : s.names + s.left < half_range
-  pub parameters : s.parameters + s.left < half_range
-  pub patterns : s.patterns + s.left < half_range
+  pub names : s.counts.names + s.left < half_range
+  pub parameters : s.counts.parameters + s.left < half_range
+  pub patterns : s.counts.patterns + s.left < half_range
 
 -- The state that a walk ends in is one of the table's.
 abbrev pub Below : Option Seen → Type 0

@@ -17,6 +17,9 @@ place_in (a ∷ l) b = cond (eqb a b) 0 (suc (place_in l b))
 unfoldable pub digit_of : ℕ → ℕ
 digit_of b = place_in upper_hex b
 
+abbrev pub is_digit : ℕ → Bool
+is_digit b = ltb (digit_of b) 16
+
 -- Whether the first n bytes are digits, and the number that they are; a byte that is no digit counts as 0 there.
 unfoldable pub are_digits : ℕ → List ℕ → Bool
 are_digits zero bs = true

@@ -1,8 +1,8 @@
 -- Laws by a test that antt computes over the classes, and past them: no row of grammar's table has a case there.
 -- Assumes nothing.
-use Rattle.std.proofs.Common.{◌≡◌, ℕ, zero, suc, ◌+◌, ◌<◌, ◌≤◌, Bool, true, false, ◌&&◌, T, eqb, ltb, List, [], ◌∷◌, get_or, sym, refl, ◌∙◌, subst, arith, eqb→eq, ltb→lt, ltb-false, ltb-true, eq-eqb, ne_eqb}
+use Rattle.std.proofs.Common.{◌≡◌, ℕ, zero, suc, ◌+◌, ◌<◌, ◌≤◌, Bool, true, false, not, ◌&&◌, ◌||◌, T, eqb, ltb, List, [], ◌∷◌, get_or, sym, refl, ◌∙◌, subst, arith, eqb→eq, ltb→lt, ltb-false, ltb-true, eq-eqb, ne_eqb}
 use Rattle.text.proofs.Same.{differ}
-use Rattle.text.proofs.Table.{first-of, second-of}
+use Rattle.text.proofs.Table.{first-of, second-of, implied}
 use Rattle.text.specs.Lists.{has}
 use Rattle.theory.specs.Grammar.{Case, on, Row, blank, look, row}
 use Rattle.theory.specs.Machine.{choose}
@@ -31,13 +31,17 @@ run_at f (suc n) a c t l h = go (eqb a c) refl (first-of (f a) (run f n (suc a))
 pub sweep : (f : ℕ → Bool) → T (run f past_classes 0) → (c : ℕ) → c < past_classes → T (f c)
 sweep f t c h = run_at f past_classes 0 c t (omega arith) (omega arith)
 
--- Two functions that agree at the classes, by one test, and past them.
-pub agree : (f g : ℕ → ℕ) → T (run (λ c. eqb (f c) (g c)) past_classes 0) → ((c : ℕ) → past_classes ≤ c → f c ≡ g c) → (c : ℕ) → f c ≡ g c
-agree f g t past c = go (ltb c past_classes) refl
+-- What holds where g passes, by one test at the classes, and past them.
+pub where-passed : (f g : ℕ → Bool) → T (run (λ c. not (g c) || f c) past_classes 0) → ((c : ℕ) → past_classes ≤ c → T (g c) → T (f c)) → (c : ℕ) → T (g c) → T (f c)
+where-passed f g t past c h = go (ltb c past_classes) refl
   where
-    go : (b : Bool) → ltb c past_classes ≡ b → f c ≡ g c
-    go true e = eqb→eq (f c) (g c) (sweep (λ c. eqb (f c) (g c)) t c (ltb-true c past_classes e))
-    go false e = past c (ltb-false c past_classes e)
+    go : (b : Bool) → ltb c past_classes ≡ b → T (f c)
+    go true e = implied (g c) (f c) (sweep (λ c. not (g c) || f c) t c (ltb-true c past_classes e)) h
+    go false e = past c (ltb-false c past_classes e) h
+
+-- Both tests of a pair pass.
+pub and_both : (a b : Bool) → T (a && b) → T a × T b
+and_both a b t = (first-of a b t, second-of a b t)
 
 -- The keys of cases, of a row, and of the rows of a table are classes.
 abbrev pub low_keys : List Case → Bool

@@ -28,6 +28,10 @@ use Rattle.parse.proofs.Rule.Closing.{Opened}
 is-ate : {x : Text} {st₁ : State} {c : ℕ} {st₂ : State} {a b : ℕ} → Eaten x st₁ c (Next st₂ a b) → (st₁.class ≡ c) × Moved x st₁ st₂
 is-ate (ate e v) = (e, v)
 
+-- What `eat` says where it goes on.
+pub eaten : {x : Text} {st : State} {c : ℕ} {s : Step} {st₂ : State} {a b : ℕ} → Eaten x st c s → s ≡ Next st₂ a b → (st.class ≡ c) × Moved x st st₂
+eaten {x} {st} {c} e q = is-ate (subst (λ s. Eaten x st c s) q e)
+
 -- One node more.
 pub record Noded (x : Text) (K : ℕ) (N : ℕ → Type 0) (full left : List Sym) (st : State) (l : List ℕ) (w : List Sort) (ms : List Tok) (m : ℕ) (P : ℕ → Type 0) (st₂ : State) (l₂ : List ℕ) : Type 0 where
   pub kind : ℕ
@@ -106,7 +110,7 @@ module _ {x : Text} {K : ℕ} {N : ℕ → Type 0} {full left : List Sym} {st : 
   -- A token that `eat` found,
   pub then-eats : {c : ℕ} {st₂ : State} {a b : ℕ} {s : Step} → Amid x K N full (tok c ∷ left) st l w ms m st₁ l₁ → 0 < c → Eaten x st₁ c s → s ≡ Next st₂ a b → role_of K c ≡ aMark
       → Amid x K N full left st l (w ++ (word c ∷ [])) (ms ++ (tok_at x st₁.at ∷ [])) (m + 1) st₂ l₁
-  then-eats {c} {st₂} {a} {b} d h e q role = let v = is-ate (subst (λ s. Eaten x st₁ c s) q e) in advances d v.0 h v.1 role
+  then-eats {c} {st₂} {a} {b} d h e q role = let v = eaten e q in advances d v.0 h v.1 role
 
   -- or did not find.
   pub then-lacks : {c : ℕ} {s : Step} {σ' : List Sym} {wrap' : shape.Items → shape.Items} {J : Info} {st₀ : State} {l₀ l' : List ℕ} → Amid x K N full (tok c ∷ left) st l w ms m st₁ l₁

@@ -1,6 +1,6 @@
 -- Parts with commas between them, as a loop reads them.
 -- Assumes nothing.
-use Rattle.std.proofs.Common.{◌≡◌, ℕ, ◌+◌, ◌<◌, ◌≤◌, Bool, true, false, cond, eqb, List, [], ◌∷◌, ◌++◌, length, sym, refl, ap, ◌∙◌, subst, ap₂, arith}
+use Rattle.std.proofs.Common.{◌≡◌, ℕ, ◌+◌, ◌<◌, ◌≤◌, eqb, List, [], ◌∷◌, ◌++◌, length, sym, refl, ap, ◌∙◌, subst, ap₂, arith}
 use mathlib.Core.Option.{some}
 use types.Run.{OneOf}
 use denote.Enum.Declared.{tag_of}
@@ -24,6 +24,7 @@ use Rattle.parse.specs.declared.State.{State}
 use Rattle.parse.specs.declared.Step.{Step}
 use Rattle.parse.specs.declared.Step.TheVariants.{Next}
 use Rattle.parse.proofs.Rule.Amid.{inside, Amid, starts, then_turns, then-passed, then-went, went, done}
+use Rattle.parse.proofs.Rule.Marks.{both-marks}
 use Rattle.parse.proofs.Rule.Chain.{Noded, then-node, advances}
 
 -- Any number.
@@ -46,18 +47,13 @@ arranged-only K n c e (mark t r) o =
 arranged-only K n c e (sub k l h js r) o = ap (sub k l h js) (arranged-only K n c e r o)
 
 -- A comma and a `;` are marks of every record.
-conds : (a b : Bool) → cond a aMark (cond b aMark aMark) ≡ aMark
-conds true b = refl
-conds false true = refl
-conds false false = refl
-
 pub comma-mark : (K : ℕ) → role_of K t.Comma ≡ aMark
 unfolding role_of has
-comma-mark K = conds (has family.names_kept K) (eqb K kind.Call)
+comma-mark K = both-marks (has family.names_kept K) (eqb K kind.Call)
 
 pub semi-mark : (K : ℕ) → role_of K t.Semi ≡ aMark
 unfolding role_of has
-semi-mark K = conds (has family.names_kept K) (eqb K kind.Call)
+semi-mark K = both-marks (has family.names_kept K) (eqb K kind.Call)
 
 pub only-append : (c : ℕ) (w v : List Sort) → Only c w → Only c v → Only c (w ++ v)
 only-append c [] v o p = p

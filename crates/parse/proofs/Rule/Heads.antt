@@ -1,7 +1,7 @@
 -- The heads that the forms of the shapes decide, and what a record needs to be closed.
 -- Assumes nothing.
-use Rattle.std.proofs.Common.{◌≡◌, ℕ, suc, ◌-◌, ◌*◌, ◌≤◌, Bool, true, false, cond, not, T, eqb, List, [], ◌∷◌, get_or, sym, refl, ap, ◌∙◌, ap₂, arith}
-use mathlib.Core.Option.{none}
+use Rattle.std.proofs.Common.{◌≡◌, ℕ, suc, ◌-◌, ◌*◌, ◌≤◌, Bool, true, false, cond, not, T, eqb, List, [], ◌∷◌, get_or, sym, refl, ap, ◌∙◌, subst, ap₂, arith}
+use mathlib.Core.Option.{Option, none}
 use Rattle.std.specs.Prelude as std
 use Rattle.std.specs.Prelude.{Some, None}
 use Rattle.text.specs.Refusals as numbers
@@ -21,7 +21,7 @@ use Rattle.own.specs.Law.{Sort, word, child, sorts}
 use Rattle.own.specs.Kinds as kind
 use Rattle.lexer.specs.Classes as t
 use Rattle.grammar.specs.Records.Records.{head, first_of, text_of}
-use Rattle.grammar.specs.Records.Faults.{unless, faults_by, refused_of, faults_at, earlier, earliest}
+use Rattle.grammar.specs.Records.Faults.{Fault, unless, faults_by, refused_of, faults_at, earlier, earliest}
 use Rattle.grammar.specs.Shapes.Row.{Refused, never, byBound, byLength, byFold, byArms}
 use Rattle.parse.specs.Contract.{Text, text, classes, tok_at, raw, fault_in, sooner, fault_at, Judged, kept, Stands, Ready, Put, as_node, Went, Node, value_at}
 use Rattle.parse.specs.declared.State.{State}
@@ -97,8 +97,12 @@ pub value-is : (x : Source) {st : State} {v : Value} → Stands (text x) st → 
 unfolding text text_of number_of
 value-is x s e = e ∙ ap₂ (λ (a b : ℕ). fitted (decimal_of (part_of x.draft.now a b))) s.start_is s.stop_is
 
+-- The refusal of a number stands at its token.
+pub judged-at : {outer inner r : State} {own : Option Fault} {n n' : std.Option Refusal} {p p' : ℕ} → Judged outer inner own r → own ≡ fault_at n p → n ≡ n' → p ≡ p' → Judged outer inner (fault_at n' p') r
+judged-at {outer} {inner} {r} j h e f = subst (λ q. Judged outer inner q r) (h ∙ ap₂ fault_at e f) j
+
 -- The state with a refusal judged stands where it stood.
-judged-stands : {x : Text} {outer inner r : State} {n : std.Option Refusal} {p : ℕ} → Stands x inner → Judged outer inner n p r → Stands x r
+pub judged-stands : {x : Text} {outer inner r : State} {own : Option Fault} → Stands x inner → Judged outer inner own r → Stands x r
 judged-stands {x} s j =
     let a = j.at_is in
     record {
@@ -109,10 +113,10 @@ judged-stands {x} s j =
       end_is = λ p e. j.end_is ∙ s.end_is p (sym a ∙ e);
     }
 
-module _ {x : Text} {st r : State} {K : ℕ} {N : ℕ → Type 0} {rhs : List Sym} {l : List ℕ} {w : List Sort} {ms : List Tok} {m : ℕ} {st₁ st₂ : State} {l₁ : List ℕ} {low high : ℕ} {number : std.Option Refusal} {place : ℕ} where
+module _ {x : Text} {st r : State} {K : ℕ} {N : ℕ → Type 0} {rhs : List Sym} {l : List ℕ} {w : List Sort} {ms : List Tok} {m : ℕ} {st₁ st₂ : State} {l₁ : List ℕ} {low high : ℕ} {its : Option Fault} where
   -- The earliest refusal is that of all.
-  pub judged-kept : (k : ℕ) → Ready x st → (o : Opened x st r none) (d : Amid x K N rhs [] r l w ms m st₁ l₁) → 1 ≤ m → decided x k w ms ≡ head K low high → N (number_in x ms) → Judged st st₁ number place st₂
-      → ((is : Items) → sorts is ≡ w → marks is ≡ ms → earliest (faults_at x.draft k is) ≡ fault_at number place)
+  pub judged-kept : (k : ℕ) → Ready x st → (o : Opened x st r none) (d : Amid x K N rhs [] r l w ms m st₁ l₁) → 1 ≤ m → decided x k w ms ≡ head K low high → N (number_in x ms) → Judged st st₁ its st₂
+      → ((is : Items) → sorts is ≡ w → marks is ≡ ms → earliest (faults_at x.draft k is) ≡ its)
       → kept st₂ ≡ sooner (kept st) (fault_in x st.at (shape.sub k d.pre shape.nil))
   judged-kept k y o d one hd hn j own =
       j.kept_is
@@ -121,8 +125,8 @@ module _ {x : Text} {st r : State} {K : ℕ} {N : ℕ → Type 0} {rhs : List Sy
 
   -- A record that may have a refusal of its own: what was read inside was kept apart.
   pub shut-judged : {l' : List ℕ} (k : ℕ) → Ready x st → Opened x st r none → (d : Amid x K N rhs [] r l w ms m st₁ l₁) → 1 ≤ m → decided x k w ms ≡ head K low high → N (number_in x ms) → T (not (eqb K kind.Match))
-      → (P : ℕ → Type 0) → P K → Put l₁ st.out K st.start st₁.end low high (st₁.out - st.out) l' → Judged st st₁ number place st₂
-      → ((is : Items) → sorts is ≡ w → marks is ≡ ms → earliest (faults_at x.draft k is) ≡ fault_at number place) → Went x rhs (as_node k) (Node P) st l st₂ l' 0 0
+      → (P : ℕ → Type 0) → P K → Put l₁ st.out K st.start st₁.end low high (st₁.out - st.out) l' → Judged st st₁ its st₂
+      → ((is : Items) → sorts is ≡ w → marks is ≡ ms → earliest (faults_at x.draft k is) ≡ its) → Went x rhs (as_node k) (Node P) st l st₂ l' 0 0
   shut-judged k y o d one hd hn t P p put j own =
       shuts-in k y o d one hd hn P p d.lays.long
       (λ n h. d.lays.laid n h ∙ ap (λ b. sets l (rec_wide * r.out) (concat (arrange b (word_groups d.L)))) (sym (unturned K d.L t)))

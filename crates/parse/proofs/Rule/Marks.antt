@@ -9,7 +9,9 @@ use Rattle.lexer.specs.Classes as t
 use Rattle.grammar.specs.Records.Records.{aMark, asName, as_number, role_of}
 use Rattle.own.specs.Kinds as kind
 use Rattle.parse.proofs.Rule.ByClass.{run, run_at, sweep, has-past, past_classes}
-use Rattle.parse.specs.Contract.{callees}
+use Rattle.parse.specs.Contract.{callees, opening_class, closing_class}
+use Rattle.parse.specs.declared.token.Brackets.{Brackets}
+use Rattle.parse.specs.declared.token.Brackets.TheVariants as brackets
 
 -- The role of a token in a record of kind K, by what is known of the class.
 role-by : (K c : ℕ) (a b d : Bool) → has t.identifiers c ≡ a → has callees c ≡ b → eqb c t.DecLiteral ≡ d
@@ -17,7 +19,7 @@ role-by : (K c : ℕ) (a b d : Bool) → has t.identifiers c ≡ a → has calle
 unfolding role_of
 role-by K c a b d p q r = λ i. cond (has family.names_kept K) (cond (p i) asName aMark) (cond (eqb K kind.Call) (cond (q i) asName (cond (r i) as_number aMark)) aMark)
 
-both-marks : (a b : Bool) → cond a aMark (cond b aMark aMark) ≡ aMark
+pub both-marks : (a b : Bool) → cond a aMark (cond b aMark aMark) ≡ aMark
 both-marks true b = refl
 both-marks false true = refl
 both-marks false false = refl
@@ -48,6 +50,15 @@ sign-mark K c h = mere-mark K c (run_at mere t.DecLiteral 0 c signs-mere (omega 
 
 pub sign_pos : (c : ℕ) → T (sign c) → 0 < c
 sign_pos c h = ltb→lt 0 c (first-of (ltb 0 c) (ltb c t.DecLiteral) h)
+
+-- Brackets are signs.
+pub opens-sign : (b : Brackets) → T (sign (opening_class b))
+opens-sign brackets.Round = tt
+opens-sign brackets.Square = tt
+
+pub closes-sign : (b : Brackets) → T (sign (closing_class b))
+closes-sign brackets.Round = tt
+closes-sign brackets.Square = tt
 
 -- Kinds of records that make no record of a token: none of those whose names are records, and no call.
 abbrev other_than : List ℕ → ℕ → Bool

@@ -1,6 +1,8 @@
 -- What rules look at in the pieces of a shape, where pieces stand side by side; and tokens that are marks of every record.
 -- Assumes nothing.
-use Rattle.std.proofs.Common.{◌≡◌, ℕ, suc, ◌+◌, ◌-◌, Bool, true, false, cond, not, ◌||◌, T, eqb, ltb, List, [], ◌∷◌, ◌++◌, refl, ap, ◌∙◌, ap₂, arith, ltb→lt}
+use Rattle.std.proofs.Common.{◌≡◌, ℕ, suc, ◌+◌, ◌-◌, Bool, true, false, cond, not, ◌||◌, T, ltb, List, [], ◌∷◌, ◌++◌, refl, ap, ◌∙◌, ap₂, arith, ltb→lt}
+use Rattle.std.proofs.Math.Bool.{or-false}
+use Rattle.std.proofs.lemmas.Bool.{or_right}
 use Rattle.text.proofs.Same.{differ}
 use Rattle.text.proofs.Table.{second-of, is_true, not-true}
 use Rattle.text.specs.Lists.{has, span, count}
@@ -8,53 +10,31 @@ use Rattle.own.specs.Tree as own
 use Rattle.own.specs.Tree.{Items, mark, sub}
 use Rattle.own.specs.Law.{Sort, word, child, sorts}
 use Rattle.own.specs.Kinds as kind
-use Rattle.kinds.specs.Fields.{counted}
 use Rattle.kinds.specs.Families as family
 use Rattle.lexer.specs.Classes as t
 use Rattle.grammar.specs.Records.Records.{Role, aMark, asName, as_number, role_of, placed, arranged, sees, name_count}
+pub use Rattle.grammar.proofs.Spelled.Decisions.{sees-append, counted-append}
 use Rattle.parse.specs.Contract.{TypeKind, PatternKind, ExprKind}
 use Rattle.parse.proofs.Rule.ByClass.{run_at}
 use Rattle.parse.proofs.Rule.Marks.{sign}
 
-or-false : (a b : Bool) → a ≡ false → b ≡ false → (a || b) ≡ false
-or-false a b e f = ap₂ (λ (u v : Bool). u || v) e f
-
-or_assoc : (a b c : Bool) → (a || (b || c)) ≡ ((a || b) || c)
-or_assoc true b c = refl
-or_assoc false b c = refl
-
-or-true : (a b : Bool) → b ≡ true → (a || b) ≡ true
-or-true true b e = refl
-or-true false b e = e
-
--- Whether a class is seen, how many names and how many parts there are,
-pub sees-append : (c : ℕ) (w v : List Sort) → sees c (w ++ v) ≡ (sees c w || sees c v)
-unfolding sees
-sees-append c [] v = refl
-sees-append c (word d ∷ w) v = ap (λ (b : Bool). eqb d c || b) (sees-append c w v) ∙ or_assoc (eqb d c) (sees c w) (sees c v)
-sees-append c (child k l h d ∷ w) v = sees-append c w v
-
+-- How many names there are,
 pub name_count-append : (w v : List Sort) → name_count (w ++ v) ≡ name_count w + name_count v
 unfolding name_count
 name_count-append [] v = omega arith
 name_count-append (word d ∷ w) v = omega (arith, name_count-append w v)
 name_count-append (child k l h d ∷ w) v = name_count-append w v
 
-pub counted-append : (ks : List ℕ) (w v : List Sort) → counted ks (w ++ v) ≡ counted ks w + counted ks v
-unfolding counted
-counted-append ks [] v = omega arith
-counted-append ks (word d ∷ w) v = counted-append ks w v
-counted-append ks (child k l h d ∷ w) v = omega (arith, counted-append ks w v)
+-- and whether a class is seen, in two parts: the second may add nothing,
+pub unseen-append : (c : ℕ) (w v : List Sort) {b : Bool} → sees c w ≡ b → sees c v ≡ false → sees c (w ++ v) ≡ b
+unseen-append c w v e f = sees-append c w v ∙ ap (λ (b : Bool). sees c w || b) f ∙ or-false (sees c w) ∙ e
 
--- in two parts:
-pub unseen-append : (c : ℕ) (w v : List Sort) → sees c w ≡ false → sees c v ≡ false → sees c (w ++ v) ≡ false
-unseen-append c w v e f = sees-append c w v ∙ or-false (sees c w) (sees c v) e f
-
+-- or either may have it;
 pub seen_first : (c : ℕ) (w v : List Sort) → sees c w ≡ true → sees c (w ++ v) ≡ true
 seen_first c w v e = sees-append c w v ∙ ap (λ (b : Bool). b || sees c v) e
 
 pub seen-second : (c : ℕ) (w v : List Sort) → sees c v ≡ true → sees c (w ++ v) ≡ true
-seen-second c w v e = sees-append c w v ∙ or-true (sees c w) (sees c v) e
+seen-second c w v e = sees-append c w v ∙ or_right (sees c w) (sees c v) e
 
 -- and in one token.
 pub name_count-name : (d : ℕ) (w : List Sort) → has t.identifiers d ≡ true → name_count (word d ∷ w) ≡ 1 + name_count w

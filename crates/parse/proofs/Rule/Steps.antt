@@ -1,7 +1,7 @@
 -- One token more, as a mark or as a record; and a record over all that was read.
 -- Assumes nothing.
 use Rattle.std.proofs.Common.{◌≡◌, ℕ, zero, suc, ◌+◌, ◌*◌, ◌%◌, ◌<◌, ◌≤◌, Bool, true, false, List, [], ◌∷◌, ◌++◌, length, get_or, take, drop, sym, refl, ap, ◌∙◌, subst, ap₂, append-nil, arith, length-drop, take-append-drop, length-take-le}
-use mathlib.Core.Option.{none, some}
+use mathlib.Core.Option.{none, some, none-ne-some}
 use lib.Seq.{sets}
 use Rattle.num.specs.Value.{decimal_of}
 use Rattle.theory.specs.Grammar.{Sym, tok, nt}
@@ -9,7 +9,7 @@ use Rattle.theory.specs.Machine.{expand}
 use Rattle.theory.specs.Ebnf as shape
 use Rattle.theory.specs.Ebnf.{sort_of}
 use Rattle.theory.specs.Same.{ex}
-use Rattle.theory.specs.Walk.{n-end, n-tok, n-flat}
+use Rattle.theory.specs.Walk.{n-end, n-tok, n-flat, k_nt, k_in}
 use Rattle.own.specs.Tree as own
 use Rattle.own.specs.Tree.{Tok, Items, mark, sub, marks, begin, end, turned, arrange, concat, classes_of}
 use Rattle.own.specs.Flat.{blank_tok}
@@ -22,9 +22,14 @@ use Rattle.grammar.specs.Records.Records.{Head, head, arranged, first_tok, first
 use Rattle.grammar.specs.Records.Faults.{faults_at, faults, earliest}
 use Rattle.grammar.proofs.Spelled.TreeTokens.{length-classes, yield-records}
 use Rattle.lexer.specs.Classes as t
-use Rattle.parse.specs.Contract.{Text, classes, tok_at, Read, raw, fault_in, sooner, kept, fault, Stands, Moved, Put, Laid, as_items, Went, reserved, Mark, Named, countable, u32_count}
+use Rattle.parse.specs.Contract.{Text, classes, tok_at, Read, Stuck, raw, fault_in, sooner, kept, fault, Stands, Moved, Put, Laid, as_items, Went, reserved, Mark, Named, countable, u32_count}
 use Rattle.parse.specs.declared.State.{State}
 use Rattle.parse.proofs.Rule.Lists.{sooner-none, earliest-append}
+
+-- Where the table has nothing for a nonterminal, it is stuck there.
+pub stuck-here : (x : Text) {A : ℕ} {σ : List Sym} {at p : ℕ} → expand table A (get_or (classes x) at 0) ≡ none → Stuck x (nt A ∷ σ) at p → p ≡ at
+stuck-here x e (k_nt f) = refl
+stuck-here x e (k_in f h) = absurd (none-ne-some _ (sym e ∙ f))
 
 first-drop : (ts : List Tok) (i : ℕ) → first_tok (drop i ts) ≡ get_or ts i blank_tok
 unfolding first_tok

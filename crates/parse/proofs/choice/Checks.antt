@@ -1,7 +1,7 @@
 -- The constants of src/choice.rt say what grammar's table and the lists of names say, class by class.
 -- Assumes nothing.
-use Rattle.std.proofs.Common.{◌≡◌, ℕ, zero, cond, suc, ◌<◌, ◌≤◌, Bool, true, false, T, eqb, ltb, List, [], ◌∷◌, length, get_or, sym, refl, arith, eqb→eq, ltb→lt, ltb-false, ltb-true}
-use Rattle.text.proofs.Table.{table_at, first-of, second-of}
+use Rattle.std.proofs.Common.{◌≡◌, ℕ, cond, ◌<◌, ◌≤◌, Bool, true, false, T, eqb, ltb, List, length, get_or, sym, refl, arith, eqb→eq, ltb-false, ltb-true}
+use Rattle.text.proofs.Table.{table_at}
 use Rattle.text.specs.Lists.{has}
 use Rattle.lexer.specs.Classes as t
 use Rattle.theory.specs.Grammar.{look, row}
@@ -11,13 +11,7 @@ use Rattle.grammar.specs.Shapes.TablesIndex.{n-type, n-pattern, n-single, n-arm,
 use Rattle.parse.specs.Choice as choice
 use Rattle.parse.specs.Contract.{entry_in, name_sort, head_sort}
 use Rattle.parse.proofs.choice.Tables.{type_choices, pattern_choices, single_choices, name_choices, alias_choices, head_choices}
-use Rattle.parse.proofs.Rule.ByClass.{past_classes, run, run_at, low_all, beyond, has-past}
-
--- An entry of a list of small numbers is small.
-small : (xs : List ℕ) → T (low_all xs) → (k : ℕ) → get_or xs k 0 < past_classes
-small [] t k = omega arith
-small (x ∷ xs) t zero = ltb→lt x past_classes (first-of (ltb x past_classes) (low_all xs) t)
-small (x ∷ xs) t (suc k) = small xs (second-of (ltb x past_classes) (low_all xs) t) k
+use Rattle.parse.proofs.Rule.ByClass.{past_classes, run, run_at, beyond, has-past}
 
 -- The names of types, the classes from `bool` on, lead to one alternative: one test over them.
 abbrev many : ℕ

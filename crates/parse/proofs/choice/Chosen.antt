@@ -1,27 +1,16 @@
 -- What grammar's table chooses: which classes lead to an alternative, and which alternative a class leads to.
 -- Assumes nothing.
-use Rattle.std.proofs.Common.{◌≡◌, ℕ, Bool, true, false, not, ◌||◌, T, eqb, ltb, List, [], ◌∷◌, sym, refl, ap, ◌∙◌, eqb→eq, ltb-false, ltb-true, eq-eqb, ne_eqb}
+use Rattle.std.proofs.Common.{T_not, subst, ◌≡◌, ℕ, Bool, true, false, not, ◌||◌, T, eqb, List, [], ◌∷◌, ap, ◌∙◌, eqb→eq, eq-eqb, ne_eqb}
 use mathlib.Core.Option.{Option, none, some}
-use Rattle.text.proofs.Table.{implied}
 use Rattle.theory.specs.Grammar.{Sym, tok, nt, Case, on, look, row, alt}
 use Rattle.theory.specs.Machine.{choose, expand}
 use Rattle.grammar.specs.Shapes.Tables.{table}
-use Rattle.parse.proofs.Rule.ByClass.{past_classes, run, sweep, beyond}
-
-same_number : (a b : ℕ) → a ≡ b → T (eqb a b)
-same_number a b e = rw (eq-eqb a b e) tt
+use Rattle.parse.proofs.Rule.ByClass.{past_classes, run, where-passed, beyond}
 
 -- Where the table chooses the alternative i of A, the test f passes: one computation.
 pub where-chosen : (A i : ℕ) (f : ℕ → Bool) → T (not (eqb (row table A).other i)) → T (run (λ c. not (eqb (choose table A c) i) || f c) past_classes 0) → (c : ℕ) → choose table A c ≡ i → T (f c)
-where-chosen A i f o t c e = go (ltb c past_classes) refl
-  where
-    no : (b : Bool) → T (not b) → T b → T (f c)
-    no true u v = absurd u
-    no false u v = absurd v
-
-    go : (b : Bool) → ltb c past_classes ≡ b → T (f c)
-    go true h = implied (eqb (choose table A c) i) (f c) (sweep (λ c. not (eqb (choose table A c) i) || f c) t c (ltb-true c past_classes h)) (same_number (choose table A c) i e)
-    go false h = no (eqb (row table A).other i) o (same_number (row table A).other i (sym (beyond A c (ltb-false c past_classes h)) ∙ e))
+where-chosen A i f o t c e =
+    where-passed f (λ c. eqb (choose table A c) i) t (λ c h u. absurd (T_not (eqb (row table A).other i) o (subst (λ n. T (eqb n i)) (beyond A c h) u))) c (rw (eq-eqb (choose table A c) i e) tt)
 
 -- The alternative is this one class.
 abbrev pub alone : Option (List Sym) → ℕ → Bool

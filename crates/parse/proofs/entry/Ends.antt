@@ -1,7 +1,7 @@
 -- What the entry's small functions say: whether there are too many tokens, the first state, and what the last one says.
 -- Assumes nothing.
-use Rattle.std.proofs.Common.{◌≡◌, ℕ, ◌*◌, ◌<◌, ◌≤◌, Bool, true, false, ◌||◌, ltb, List, [], ◌∷◌, length, sym, refl, ap, ◌∙◌, subst, arith, ltb-false, leb-false}
-use Rattle.text.proofs.Same.{differ}
+use Rattle.std.proofs.Common.{◌≡◌, ℕ, ◌*◌, ◌<◌, ◌≤◌, false, ltb, List, [], ◌∷◌, length, sym, refl, ap, ◌∙◌, subst, arith, ltb-false, leb-false}
+use Rattle.std.proofs.lemmas.Bool.{or_parts}
 use Rattle.text.specs.Widths.{tok_wide}
 use Rattle.std.specs.Prelude.{None}
 use Rattle.theory.specs.Grammar.{nt}
@@ -15,13 +15,9 @@ use Rattle.parse.specs.declared.State.{State}
 use Rattle.parse.specs.declared.Step.{Step}
 use Rattle.parse.proofs.Rule.Amid.{class-at}
 
-or-false : (a b : Bool) → (a || b) ≡ false → (a ≡ false) × (b ≡ false)
-or-false true b e = absurd (differ (sym e))
-or-false false b e = (refl, e)
-
 pub few-tokens : (most n tw : ℕ) → too_many most n tw ≡ false → (n ≤ most) × (tok_wide * n ≤ tw)
 unfolding too_many
-few-tokens most n tw e = let h = or-false (ltb most n) (ltb tw (tok_wide * n)) e in (ltb-false most n h.0, ltb-false tw (tok_wide * n) h.1)
+few-tokens most n tw e = let h = or_parts (ltb most n) (ltb tw (tok_wide * n)) e in (ltb-false most n h.0, ltb-false tw (tok_wide * n) h.1)
 
 -- The first state.
 pub starts-at : (x : Text) {c b s : ℕ} → Gives (record { class = c; start = b; stop = s }) (tok_at x 0)

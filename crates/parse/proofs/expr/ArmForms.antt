@@ -1,7 +1,7 @@
 -- Argument lists, and an arm with its body: their rules in grammar's table, and what their functions say of them.
 -- Assumes nothing.
 use Rattle.std.proofs.Common.{◌≡◌, ℕ, ◌-◌, ◌*◌, ◌≤◌, Bool, true, false, cond, not, ◌&&◌, ◌||◌, T, eqb, ltb, ◌⊎◌, List, [], ◌∷◌, ◌++◌, get_or, sym, refl, ap, ◌∙◌, subst, ap₂, inl, inr, append_assoc, arith, eqb→eq, ltb-false, ltb-true}
-use mathlib.Core.Option.{Option, none, some}
+use mathlib.Core.Option.{Option, none, some, none-ne-some, some-injective}
 use lib.Seq.{sets}
 use types.Run.{OneOf}
 use denote.Enum.Declared.{tag_of}
@@ -35,11 +35,11 @@ use Rattle.parse.specs.declared.State.{State}
 use Rattle.parse.specs.declared.Step.{Step}
 use Rattle.parse.specs.declared.Step.TheVariants.{Next}
 use Rattle.parse.specs.Choice as choice
-use Rattle.parse.proofs.Rule.ByClass.{sweep, beyond, past_classes}
+use Rattle.parse.proofs.Rule.ByClass.{sweep, beyond, past_classes, and_both}
 use Rattle.parse.proofs.choice.Chosen.{hit, miss, goes}
 use Rattle.parse.proofs.Rule.Marks.{sign-mark}
 use Rattle.parse.proofs.Rule.Amid.{Amid, starts, then-passed, then-went, went}
-use Rattle.parse.proofs.Rule.Steps.{decided}
+use Rattle.parse.proofs.Rule.Steps.{stuck-here, decided}
 use Rattle.parse.proofs.Rule.Closing.{Opened, Rule, shuts-as, its-raw, its-fault, enters}
 use Rattle.parse.proofs.Rule.Commas.{AnyN, arranged-zero, comma-mark, finish}
 use Rattle.parse.proofs.Rule.Heads.{no_fault, unturned}
@@ -151,10 +151,6 @@ pub arm-begins : (c : ℕ) → Begins c
 unfolding lacking choose row table look
 arm-begins c = go (ltb c past_classes) refl
   where
-    and_both : (a b : Bool) → T (a && b) → T a × T b
-    and_both true b t = (tt, t)
-    and_both false b t = absurd t
-
     split : (a b : Bool) → eqb (choose table n-arm c) 1 ≡ a → b ≡ (eqb (choose table n-arm c) 0 && (eqb (choose table n-head c) choice.NamedHead && eqb (choose table n-other_name c) 0)) → T (a || b) → Begins c
     split true b e f u = begins (eqb→eq (choose table n-arm c) 1 (rw e tt))
     split false b e f u =
@@ -166,20 +162,10 @@ arm-begins c = go (ltb c past_classes) refl
     go true e = split (eqb (choose table n-arm c) 1) (eqb (choose table n-arm c) 0 && (eqb (choose table n-head c) choice.NamedHead && eqb (choose table n-other_name c) 0)) refl refl (sweep lacking tt c (ltb-true c past_classes e))
     go false e = let h = ltb-false c past_classes e in lacks-by c (beyond n-arm c h) (beyond n-head c h) (beyond n-other_name c h)
 
-abbrev there : Option (List Sym) → Bool
-there none = false
-there (some a) = true
-
 abbrev is_flat : shape.Sort → Bool
 is_flat (shape.token c) = false
 is_flat (shape.node c) = false
 is_flat shape.flat = true
-
-no-some : {o : Option (List Sym)} {a : List Sym} → o ≡ none → o ≡ some a → ⊥
-no-some e f = differ (ap there (sym e ∙ f))
-
-same_some : {o : Option (List Sym)} {a b : List Sym} → o ≡ some a → o ≡ some b → a ≡ b
-same_some e f = let z = sym e ∙ f in cc
 
 -- What the table has for the next token is what is read,
 reads-some : (x : Text) {A : ℕ} {σ : List Sym} {at : ℕ} {r : shape.Items} {j : ℕ} → Read x (nt A ∷ σ) at r j → (rhs : List Sym) × (expand table A (get_or (classes x) at 0) ≡ some rhs)
@@ -189,17 +175,13 @@ reads-some x {A} (n-sub {rhs = rhs} C i k c y f e p p') = (rhs, ap (alt table A)
 reads_in : (x : Text) {A : ℕ} {σ rhs : List Sym} {at : ℕ} {r : shape.Items} {j : ℕ} → sort_of (ex means (nt A)) ≡ shape.flat → expand table A (get_or (classes x) at 0) ≡ some rhs → Read x (nt A ∷ σ) at r j
     → Read x (rhs ++ σ) at r j
 unfolding sort_of
-reads_in x {σ = σ} {at = at} {r = r} {j = j} g h (n-flat f e p) = subst (λ ρ. Read x (ρ ++ σ) at r j) (same_some e h) p
+reads_in x {σ = σ} {at = at} {r = r} {j = j} g h (n-flat f e p) = subst (λ ρ. Read x (ρ ++ σ) at r j) (some-injective _ _ (sym e ∙ h)) p
 reads_in x g h (n-sub C i k c y f e p p') = absurd (differ (ap is_flat (sym (ap sort_of c) ∙ g)))
 
 -- and where it is stuck.
 sticks-in : (x : Text) {A : ℕ} {σ rhs : List Sym} {at p : ℕ} → expand table A (get_or (classes x) at 0) ≡ some rhs → Stuck x (nt A ∷ σ) at p → Stuck x (rhs ++ σ) at p
-sticks-in x h (k_nt e) = absurd (no-some e h)
-sticks-in x {σ = σ} {at = at} {p = p} h (k_in e k) = subst (λ ρ. Stuck x (ρ ++ σ) at p) (same_some e h) k
-
-sticks-none : (x : Text) {A : ℕ} {σ : List Sym} {at p : ℕ} → expand table A (get_or (classes x) at 0) ≡ none → Stuck x (nt A ∷ σ) at p → p ≡ at
-sticks-none x h (k_nt e) = refl
-sticks-none x h (k_in e k) = absurd (no-some h e)
+sticks-in x h (k_nt e) = absurd (none-ne-some _ (sym e ∙ h))
+sticks-in x {σ = σ} {at = at} {p = p} h (k_in e k) = subst (λ ρ. Stuck x (ρ ++ σ) at p) (some-injective _ _ (sym e ∙ h)) k
 
 flat-head : sort_of (ex means (nt n-head)) ≡ shape.flat
 unfolding sort_of ex means
@@ -211,12 +193,12 @@ module _ {x : Text} {st : State} (y : Stands x st) (p : expand table n-arm st.cl
   here A e = ap (expand table A) (sym y.class_is) ∙ e
 
   pub none_read : {I : Info} {l l' : List ℕ} {a b : ℕ} {st' : State} → Went x (nt n-head ∷ []) as_items I st l st' l' a b → ⊥
-  none_read w = let z = reads-some x (reads_in x flat-head (here n-head q) w.reads) in no-some (here n-other_name r) z.1
+  none_read w = let z = reads-some x (reads_in x flat-head (here n-head q) w.reads) in none-ne-some _ (sym (here n-other_name r) ∙ z.1)
 
   pub none_stuck : {I J : Info} {l l' l₀ l₁ : List ℕ} {s : Step} → OneOf (1 ∷ []) (tag_of the_type s) → Parsed x (nt n-head ∷ []) as_items I st l l' s → Parsed x (nt n-arm ∷ []) as_items J st l₀ l₁ s
   none_stuck k (read h) = absurd (omega arith)
   none_stuck k (stuck {p = i} h g) =
-      let e : i ≡ st.at = sticks-none x (here n-other_name r) (sticks-in x (here n-head q) (g [])) in
+      let e : i ≡ st.at = stuck-here x (here n-other_name r) (sticks-in x (here n-head q) (g [])) in
       stuck h (λ τ. subst (λ j. Stuck x (nt n-arm ∷ τ) st.at j) (sym e) (k_nt (here n-arm p)))
 
 -- The steps of an arm: its head, and its body.

@@ -1,6 +1,8 @@
 -- Calls: what the pieces of a record say of its head, and the heads of calls, wrappers and enum constructions.
 -- Assumes nothing.
-use Rattle.std.proofs.Common.{◌≡◌, ℕ, suc, ◌+◌, ◌≤◌, Bool, true, false, cond, not, ◌&&◌, ◌||◌, T, eqb, ◌⊎◌, List, [], ◌∷◌, ◌++◌, sym, refl, ap, ◌∙◌, subst, ap₂, inl, inr, arith, eqb→eq, eq-eqb, ne_eqb}
+use Rattle.std.proofs.Common.{◌≡◌, ℕ, suc, ◌+◌, ◌≤◌, Bool, true, false, cond, not, ◌&&◌, ◌||◌, T, eqb, ◌⊎◌, List, [], ◌∷◌, ◌++◌, sym, refl, ap, ◌∙◌, subst, ap₂, inl, inr, arith, eq-eqb, ne_eqb}
+use Rattle.std.proofs.Math.Bool.{or-false, or-true}
+use Rattle.std.proofs.lemmas.Bool.{eqb-true, eqb-false}
 use Rattle.text.proofs.Same.{differ}
 use Rattle.std.specs.Prelude.{None}
 use Rattle.text.specs.Refusals.{refusal_number}
@@ -125,14 +127,6 @@ parts-end c [] = refl
 parts-end c (word d ∷ w) = parts-end c w
 parts-end c (child k l h d ∷ w) = ap suc (parts-end c w)
 
-or-false : (a : Bool) → (a || false) ≡ a
-or-false true = refl
-or-false false = refl
-
-or-true : (a : Bool) → (a || true) ≡ true
-or-true true = refl
-or-true false = refl
-
 -- an argument list behind some class,
 module _ (c : ℕ) (W : List Sort) where
   abbrev pub calling : List Sort
@@ -204,9 +198,9 @@ pub variable-is : (c : ℕ) → has t.identifiers c ≡ true → eqb c t.None �
 unfolding alone_head
 variable-is c h g = alone-is c h ∙ ap (λ (b : Bool). cond b (plain kind.None) (plain kind.Variable)) g
 
-enum-angle : (c : ℕ) (W : List Sort) → has t.identifiers c ≡ true → sees t.LAngle W ≡ false → sees t.LAngle (word c ∷ word t.DoubleColon ∷ W) ≡ false
+pub enum-unseen : (c : ℕ) (W : List Sort) → has t.identifiers c ≡ true → sees t.LAngle W ≡ false → sees t.LAngle (word c ∷ word t.DoubleColon ∷ W) ≡ false
 unfolding sees
-enum-angle c W h g = ap₂ (λ (p q : Bool). p || q) (name-not c t.LAngle h no-name-angle) g
+enum-unseen c W h g = ap₂ (λ (p q : Bool). p || q) (name-not c t.LAngle h no-name-angle) g
 
 enum-colons : (c : ℕ) (W : List Sort) → sees t.DoubleColon (word c ∷ word t.DoubleColon ∷ W) ≡ true
 unfolding sees
@@ -219,7 +213,7 @@ enum-count c a W h e =
     ap (λ (b : Bool). cond b 1 0 + (0 + name_count W)) h ∙ f
 
 pub enum_is : (c : ℕ) {a : ℕ} (W : List Sort) → has t.identifiers c ≡ true → sees t.LAngle W ≡ false → name_count W ≡ a → name_head (word c ∷ word t.DoubleColon ∷ W) ≡ head kind.EnumConstruction (a + 1) 0
-enum_is c {a} W h g e = name-head (word c ∷ word t.DoubleColon ∷ W) (enum-angle c W h g) (enum-colons c W) refl ∙ ap (λ (n : ℕ). head kind.EnumConstruction n 0) (enum-count c a W h e)
+enum_is c {a} W h g e = name-head (word c ∷ word t.DoubleColon ∷ W) (enum-unseen c W h g) (enum-colons c W) refl ∙ ap (λ (n : ℕ). head kind.EnumConstruction n 0) (enum-count c a W h e)
 
 -- The form of these seven shapes is that of a name.
 module _ {x : Text} {K : ℕ} {N : ℕ → Type 0} {full left : List Sym} {st : State} {l : List ℕ} {w : List Sort} {ms : List Tok} {m : ℕ} {st₁ : State} {l₁ : List ℕ} where
@@ -304,21 +298,15 @@ has-none : (c : ℕ) → (c ≡ t.Left → ⊥) → (c ≡ t.Right → ⊥) → 
 unfolding has
 has-none c f g h = rw (ne_eqb t.Left c (λ e. f (sym e)), ne_eqb t.Right c (λ e. g (sym e)), ne_eqb t.Some c (λ e. h (sym e))) refl
 
-eqb_is : (c k : ℕ) → eqb c k ≡ true → c ≡ k
-eqb_is c k e = eqb→eq c k (rw e tt)
-
-eqb-not : (c k : ℕ) → eqb c k ≡ false → c ≡ k → ⊥
-eqb-not c k e f = differ (sym e ∙ eq-eqb c k f)
-
 -- The class of a wrapper.
-wrapper-class : (c : ℕ) → has wrappers c ≡ true → (c ≡ t.Left) ⊎ (c ≡ t.Right) ⊎ (c ≡ t.Some)
+pub wrapper-class : (c : ℕ) → has wrappers c ≡ true → (c ≡ t.Left) ⊎ (c ≡ t.Right) ⊎ (c ≡ t.Some)
 wrapper-class c h = go (eqb c t.Left) (eqb c t.Right) (eqb c t.Some) refl refl refl
   where
     go : (a b d : Bool) → eqb c t.Left ≡ a → eqb c t.Right ≡ b → eqb c t.Some ≡ d → (c ≡ t.Left) ⊎ (c ≡ t.Right) ⊎ (c ≡ t.Some)
-    go true b d p q k = inl (eqb_is c t.Left p)
-    go false true d p q k = inr (inl (eqb_is c t.Right q))
-    go false false true p q k = inr (inr (eqb_is c t.Some k))
-    go false false false p q k = absurd (differ (sym (has-none c (eqb-not c t.Left p) (eqb-not c t.Right q) (eqb-not c t.Some k)) ∙ h))
+    go true b d p q k = inl (eqb-true c t.Left p)
+    go false true d p q k = inr (inl (eqb-true c t.Right q))
+    go false false true p q k = inr (inr (eqb-true c t.Some k))
+    go false false false p q k = absurd (differ (sym (has-none c (eqb-false c t.Left p) (eqb-false c t.Right q) (eqb-false c t.Some k)) ∙ h))
 
 -- Its record: one of the three kinds of wrappers.
 wrapped-low : (c : ℕ) → (c ≡ t.Left) ⊎ (c ≡ t.Right) ⊎ (c ≡ t.Some) → (kind.Left ≤ (wrapper_head c).kind) × ((wrapper_head c).kind ≤ kind.Some)
@@ -427,6 +415,3 @@ args_count W o = ap (λ (n : ℕ). 0 + n) (count-end W o)
 pub no-angle-name : has t.identifiers t.LAngle ≡ false
 unfolding has
 no-angle-name = refl
-
-pub enum-unseen : (c : ℕ) (W : List Sort) → has t.identifiers c ≡ true → sees t.LAngle W ≡ false → sees t.LAngle (word c ∷ word t.DoubleColon ∷ W) ≡ false
-enum-unseen c W h g = enum-angle c W h g

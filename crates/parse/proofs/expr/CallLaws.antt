@@ -2,8 +2,6 @@
 -- Assumes nothing.
 use Rattle.std.proofs.Common.{◌≡◌, ℕ, suc, ◌+◌, ◌*◌, ◌%◌, ◌<◌, ◌≤◌, Bool, true, false, cond, ◌||◌, eqb, List, [], ◌∷◌, ◌++◌, length, get_or, sym, refl, ap, ◌∙◌, subst, ap₂, arith, ne_eqb}
 use mathlib.Core.Option.{Option, some}
-use Rattle.std.specs.Prelude as std
-use Rattle.text.specs.declared.refusal.Refusal.{Refusal}
 use lib.Seq.{sets, length-sets}
 use Rattle.text.proofs.Same.{differ}
 use Rattle.num.specs.Value.{decimal_of}
@@ -27,7 +25,7 @@ use Rattle.grammar.specs.Shapes.Tables.{means, table}
 use Rattle.grammar.specs.Shapes.TablesIndex.{n-arguments, n-path, n-function_name, n-identifier, n-path-many-DoubleColon, n-path-optional}
 use Rattle.grammar.specs.Records.Records.{aMark, asName, role_of, placed, arranged, sees, name_count, lone, text_of, first_of}
 use Rattle.grammar.specs.Records.Faults.{Fault}
-use Rattle.parse.specs.Contract.{Text, classes, tok_at, Read, raw, kept, fault, Stands, Ready, Near, Moved, Put, Turned, Judged, Info, as_items, Went, Parsed, read, reserved, Named, Decimal, value_at, Called, named, marked, Only, countable, u32_count}
+use Rattle.parse.specs.Contract.{Text, classes, tok_at, Read, raw, kept, fault, Stands, Ready, Near, Moved, Put, Turned, Info, as_items, Went, Parsed, read, reserved, Named, Decimal, value_at, Called, named, marked, Only, countable, u32_count}
 use Rattle.parse.specs.Infos.{Args, Path, Begun}
 use Rattle.parse.specs.declared.State.{State}
 use Rattle.parse.specs.declared.Step.{Step}
@@ -46,10 +44,8 @@ use Rattle.parse.proofs.Rule.Marks.{sign-mark}
 use Rattle.parse.proofs.names.Rows.{name-role, call-role}
 use Rattle.parse.proofs.expr.CallForms.{For, Apart, called-role, marked-role, number-role, flat-path, path-row, flat-path-args, path-alone, path-args, no-angle-name, args-angle, args_count}
 use Rattle.parse.proofs.Rule.Pieces.{sees-append, name_count-append}
-
 -- A state to parse from is one to read arguments from.
-pub near : {x : Text} {st : State} → Ready x st → Near x st
-near y = record { stands = y.stands; short = y.short; few = omega (arith, y.few) }
+pub use Rattle.parse.proofs.names.Steps.{ready-near as near}
 
 -- In a rule whose record was reserved any state is one.
 pub nearly : {x : Text} {K : ℕ} {N : ℕ → Type 0} {full left : List Sym} {st r : State} {F : Option Fault} {l : List ℕ} {w : List Sort} {ms : List Tok} {m : ℕ} {st₁ : State} {l₁ : List ℕ}
@@ -58,14 +54,6 @@ nearly y o d =
     let few = d.lays.few in
     let a = o.at_is in
     let b = o.out_is in
-    let f = y.few in
-    record { stands = d.lays.stands; short = y.short; few = omega arith }
-
--- Behind `(` one may parse.
-pub near-onward : {x : Text} {K : ℕ} {N : ℕ → Type 0} {full left : List Sym} {st : State} {l : List ℕ} {w : List Sort} {ms : List Tok} {m : ℕ} {st₁ : State} {l₁ : List ℕ}
-    → Near x st → Amid x K N full left st l w ms m st₁ l₁ → 1 ≤ m → Ready x st₁
-near-onward y d h =
-    let few = d.lays.few in
     let f = y.few in
     record { stands = d.lays.stands; short = y.short; few = omega arith }
 
@@ -386,7 +374,3 @@ module _ {x : Text} {a b z : State} {l l₁ l₃ l₄ : List ℕ} {u v s e : ℕ
 
 pub went-args : {x : Text} {σ : List Sym} {I : Info} {st : State} {l l' : List ℕ} {r : Step} {st₂ : State} {a b : ℕ} → Parsed x σ as_items I st l l' r → r ≡ Next st₂ a b → Went x σ as_items I st l st₂ l' a b
 went-args p e = went e p
-
--- The refusal of a number stands at its token.
-pub judged-at : {outer inner r : State} {n n' : std.Option Refusal} {p p' : ℕ} → Judged outer inner n p r → n ≡ n' → p ≡ p' → Judged outer inner n' p' r
-judged-at {outer} {inner} {r} {n' = n'} {p = p} j e f = subst (λ q. Judged outer inner n' q r) f (subst (λ q. Judged outer inner q p r) e j)

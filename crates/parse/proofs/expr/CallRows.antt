@@ -45,6 +45,7 @@ use Rattle.parse.specs.Contract.{Text, classes, Read, callees}
 use Rattle.parse.specs.Choice as choice
 use Rattle.parse.proofs.choice.Chosen.{where-chosen, alone, is-alone, hit, miss, goes}
 use Rattle.parse.proofs.Rule.Marks.{a_word, word-mark}
+use Rattle.parse.proofs.Rule.ByClass.{and_both}
 use Rattle.parse.proofs.Rule.Steps.{reads-tok, reads-one}
 use Rattle.parse.proofs.Rule.Closing.{Rule}
 
@@ -108,10 +109,6 @@ for-tok c h = record { pos = h; reads = λ x at e i. reads-tok x c e i }
 
 for-nt : (A c : ℕ) → 0 < c → sort_of (ex means (nt A)) ≡ shape.flat → expand table A c ≡ some (tok c ∷ []) → For (nt A) c
 for-nt A c h f g = record { pos = h; reads = λ x at e i. reads-one x A c f g e i }
-
-and_both : (a b : Bool) → T (a && b) → T a × T b
-and_both true b h = (tt, h)
-and_both false b h = absurd h
 
 -- What the class of a call's first token is not: `<`, `::`, `,`, a decimal.
 abbrev apart : ℕ → Bool

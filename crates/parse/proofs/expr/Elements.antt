@@ -16,7 +16,7 @@ use Rattle.grammar.specs.Shapes.Tables.{means, table}
 use Rattle.grammar.specs.Records.Records.{sees, part_count, lone, unended}
 use Rattle.grammar.specs.Shapes.TablesIndex.{n-assignment, n-elements, n-elements-optional-Semi, n-expression}
 use Rattle.parse.specs.contracts.Step.{the_type}
-use Rattle.parse.specs.Contract.{Text, classes, tok_at, raw, Stands, Ready, Moved, Eaten, ate, Info, as_items, Went, Parsed, Node, ExprKind, Only}
+use Rattle.parse.specs.Contract.{Text, classes, tok_at, raw, Stands, Ready, Moved, Eaten, Info, as_items, Went, Parsed, Node, ExprKind, Only}
 use Rattle.parse.specs.Infos.{LetKind, Elements, Lone}
 use Rattle.parse.specs.declared.State.{State}
 use Rattle.parse.specs.declared.Step.{Step}
@@ -24,9 +24,10 @@ use Rattle.parse.specs.declared.Step.TheVariants.{Next}
 use Rattle.parse.proofs.choice.Chosen.{hit, miss, goes}
 use Rattle.parse.proofs.Rule.Marks.{sign-mark}
 use Rattle.parse.proofs.Rule.Amid.{inside, Amid, starts, then_turns, then-passed, then-went, went}
-use Rattle.parse.proofs.Rule.Chain.{Noded, then-node, advances, then-eats, then-lacks}
+use Rattle.parse.proofs.Rule.Chain.{Noded, then-node, advances, eaten, then-eats, then-lacks}
 use Rattle.parse.proofs.Rule.Commas.{AnyN, arranged-zero, arranged-only, comma-mark, semi-mark, only-append, finish, went-ahead}
 use Rattle.parse.proofs.Rule.Pieces.{seen_first, seen-second}
+use Rattle.std.proofs.Math.Bool.{and-false}
 
 flat-elements : sort_of (ex means (nt n-elements)) ≡ shape.flat
 unfolding sort_of ex means
@@ -71,11 +72,8 @@ ends-part b (word d ∷ w) k l h c = ends-part (b && not (eqb d t.Semi)) w k l h
 ends-part b (child i j g d ∷ w) k l h c = ends-part true w k l h c
 
 -- `eat` goes on.
-is-eaten : {x : Text} {st : State} {c : ℕ} {st' : State} {a b : ℕ} → Eaten x st c (Next st' a b) → (st.class ≡ c) × Moved x st st'
-is-eaten (ate e v) = (e, v)
-
 pub eaten-ahead : {x : Text} {st st' : State} {k a b : ℕ} {s : Step} → Stands x st → Eaten x st (suc k) s → s ≡ Next st' a b → st.at < st'.at
-eaten-ahead {x} {st} {k = k} h q e = let v = is-eaten (subst (λ s. Eaten x st (suc k) s) e q) in omega (arith, v.1.ahead (inside x st.at (omega arith) (sym h.class_is ∙ v.0)))
+eaten-ahead {x} {st} {k = k} h q e = let v = eaten q e in omega (arith, v.1.ahead (inside x st.at (omega arith) (sym h.class_is ∙ v.0)))
 
 -- The elements up to `here`, each with its `;`.
 pub record Elemed (x : Text) (st : State) (l : List ℕ) (here : State) (l₁ : List ℕ) : Type 0 where
@@ -181,10 +179,6 @@ pub data Counted : ℕ → List Sort → Type 0 where
 not-lone : (w : List Sort) → sees t.Comma w ≡ true → lone w ≡ false
 unfolding lone
 not-lone w e = ap (λ (b : Bool). eqb (part_count w) 1 && not b) e ∙ and-false (eqb (part_count w) 1)
-  where
-    and-false : (b : Bool) → (b && false) ≡ false
-    and-false true = refl
-    and-false false = refl
 
 pub counted-lone : {n : ℕ} {w : List Sort} → Counted n w → lone w ≡ eqb n 1
 unfolding lone part_count

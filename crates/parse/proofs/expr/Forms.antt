@@ -17,7 +17,9 @@ use Rattle.grammar.specs.Shapes.Tables.{means, table}
 use Rattle.grammar.specs.Records.Records.{Head, head, plain, sees, head_of, form_of, opening, literal_head, lone, part_count, unended}
 use Rattle.grammar.specs.Shapes.ShapeKind.{ArrayShape, AssignmentShape, BlockShape, ListShape, LiteralShape, ParensShape}
 use Rattle.grammar.specs.Shapes.TablesIndex.{n-assignment, n-block, n-elements, n-expression, n-list-expression, n-literal, n-pattern, n-single, n-tail-expression, n-type}
-use Rattle.parse.specs.Contract.{Text, classes, Ready, Info, as_items, Parsed, read, stuck, ExprKind}
+use Rattle.parse.specs.Contract.{Text, classes, Ready, Info, as_items, Parsed, read, stuck, ExprKind, opening_class, closing_class, single_choice, single_kind}
+use Rattle.parse.specs.declared.token.Brackets.{Brackets}
+use Rattle.parse.specs.declared.token.Brackets.TheVariants as brackets
 use Rattle.parse.specs.declared.Step.{Step}
 use Rattle.parse.specs.declared.State.{State}
 use Rattle.parse.specs.Choice as choice
@@ -27,6 +29,7 @@ use Rattle.parse.proofs.Rule.Amid.{Amid}
 use Rattle.parse.proofs.Rule.Steps.{decided}
 use Rattle.parse.proofs.Rule.Closing.{Rule}
 use Rattle.parse.proofs.Rule.Commas.{Rows}
+use Rattle.parse.proofs.Rule.Heads.{faultless}
 use Rattle.parse.proofs.pattern.Forms.{Closes, both_ends, both-more}
 
 -- The rules.
@@ -37,19 +40,17 @@ pub literal-rule : Rule n-single choice.Literal LiteralShape literal_rhs
 unfolding ex means kinds_of shapes row table alt pick
 literal-rule = record { category = refl; from_one = refl; kind = refl; rule = refl }
 
-abbrev pub parens_rhs : List Sym
-parens_rhs = tok t.LParen ∷ nt n-list-expression ∷ tok t.RParen ∷ []
+abbrev pub bracketed_rhs : Brackets → List Sym
+bracketed_rhs b = tok (opening_class b) ∷ nt n-list-expression ∷ tok (closing_class b) ∷ []
 
-pub parens-rule : Rule n-single choice.Parens ParensShape parens_rhs
+abbrev pub bracketed_shape : Brackets → ℕ
+bracketed_shape brackets.Round = ParensShape
+bracketed_shape brackets.Square = ArrayShape
+
+pub bracketed-rule : (b : Brackets) → Rule n-single (single_choice b) (bracketed_shape b) (bracketed_rhs b)
 unfolding ex means kinds_of shapes row table alt pick
-parens-rule = record { category = refl; from_one = refl; kind = refl; rule = refl }
-
-abbrev pub array_rhs : List Sym
-array_rhs = tok t.LBracket ∷ nt n-list-expression ∷ tok t.RBracket ∷ []
-
-pub array-rule : Rule n-single choice.Array ArrayShape array_rhs
-unfolding ex means kinds_of shapes row table alt pick
-array-rule = record { category = refl; from_one = refl; kind = refl; rule = refl }
+bracketed-rule brackets.Round = record { category = refl; from_one = refl; kind = refl; rule = refl }
+bracketed-rule brackets.Square = record { category = refl; from_one = refl; kind = refl; rule = refl }
 
 abbrev pub listed_rhs : List Sym
 listed_rhs = tok t.list! ∷ tok t.LBracket ∷ nt n-list-expression ∷ tok t.RBracket ∷ []
@@ -82,13 +83,10 @@ module _ (c : ℕ) where
   unfolding choose row table look
   literal-pos e = ltb→lt 0 c (where-chosen n-single choice.Literal (λ a. ltb 0 a) tt tt c e)
 
-  pub at-parens : choose table n-single c ≡ choice.Parens → c ≡ t.LParen
+  pub at-bracketed : (b : Brackets) → choose table n-single c ≡ single_choice b → c ≡ opening_class b
   unfolding choose row table look
-  at-parens e = eqb→eq c t.LParen (where-chosen n-single choice.Parens (λ a. eqb a t.LParen) tt tt c e)
-
-  pub at-array : choose table n-single c ≡ choice.Array → c ≡ t.LBracket
-  unfolding choose row table look
-  at-array e = eqb→eq c t.LBracket (where-chosen n-single choice.Array (λ a. eqb a t.LBracket) tt tt c e)
+  at-bracketed brackets.Round e = eqb→eq c t.LParen (where-chosen n-single choice.Parens (λ a. eqb a t.LParen) tt tt c e)
+  at-bracketed brackets.Square e = eqb→eq c t.LBracket (where-chosen n-single choice.Array (λ a. eqb a t.LBracket) tt tt c e)
 
   pub at_listed : choose table n-single c ≡ choice.List → c ≡ t.list!
   unfolding choose row table look
@@ -192,10 +190,11 @@ kind-of true = refl
 kind-of false = refl
 
 module _ {x : Text} {K : ℕ} {N : ℕ → Type 0} {full left : List Sym} {st : State} {l : List ℕ} {ms : List Tok} {m : ℕ} {st₁ : State} {l₁ : List ℕ} where
-  pub parens-head : (W : List Sort) (a : ℕ) {k : ℕ} → Amid x K N full left st l (word t.LParen ∷ (W ++ (word t.RParen ∷ []))) ms m st₁ l₁ → lone W ≡ eqb a 1 → k ≡ cond (eqb a 1) kind.Parenthesised kind.Tuple
-      → decided x ParensShape (word t.LParen ∷ (W ++ (word t.RParen ∷ []))) ms ≡ head k 0 0
+  pub bracketed-head : (b : Brackets) (W : List Sort) (a : ℕ) {k : ℕ} → Amid x K N full left st l (word (opening_class b) ∷ (W ++ (word (closing_class b) ∷ []))) ms m st₁ l₁ → lone W ≡ eqb a 1 → k ≡ single_kind b a
+      → decided x (bracketed_shape b) (word (opening_class b) ∷ (W ++ (word (closing_class b) ∷ []))) ms ≡ head k 0 0
   unfolding head_of form_of
-  parens-head W a d e f = ap (λ (b : Bool). cond b (plain kind.Parenthesised) (plain kind.Tuple)) (lone-in t.LParen t.RParen W refl refl ∙ e) ∙ kind-of (eqb a 1) ∙ ap plain (sym f)
+  bracketed-head brackets.Round W a d e f = ap (λ (b : Bool). cond b (plain kind.Parenthesised) (plain kind.Tuple)) (lone-in t.LParen t.RParen W refl refl ∙ e) ∙ kind-of (eqb a 1) ∙ ap plain (sym f)
+  bracketed-head brackets.Square W a d e f = ap plain (sym f)
 
   pub block-head : (W : List Sort) {a : ℕ} → Amid x K N full left st l (word t.LBrace ∷ (W ++ (word t.RBrace ∷ []))) ms m st₁ l₁ → a ≡ cond (unended false W) 1 0
       → decided x BlockShape (word t.LBrace ∷ (W ++ (word t.RBrace ∷ []))) ms ≡ head kind.Block a 0
@@ -203,10 +202,6 @@ module _ {x : Text} {K : ℕ} {N : ℕ → Type 0} {full left : List Sym} {st : 
   block-head W d e = ap (λ (b : Bool). head kind.Block (cond b 1 0) 0) (unended-in false W) ∙ ap (λ (n : ℕ). head kind.Block n 0) (sym e)
 
   module _ {w : List Sort} where
-    pub array_head : Amid x K N full left st l w ms m st₁ l₁ → decided x ArrayShape w ms ≡ head kind.Array 0 0
-    unfolding head_of form_of
-    array_head d = refl
-
     pub listed-head : Amid x K N full left st l w ms m st₁ l₁ → decided x ListShape w ms ≡ head kind.List 0 0
     unfolding head_of form_of
     listed-head d = refl
@@ -215,11 +210,16 @@ module _ {x : Text} {K : ℕ} {N : ℕ → Type 0} {full left : List Sym} {st : 
     unfolding head_of form_of
     assign-head d = refl
 
--- The kinds of parentheses.
-pub parens-kind : (a : ℕ) {k : ℕ} → k ≡ cond (eqb a 1) kind.Parenthesised kind.Tuple → (kind.Parenthesised ≤ k) × (k ≤ kind.Tuple)
-parens-kind a {k} e = go (eqb a 1) e
+-- What brackets enclose has no refusal of its own, and is no match.
+pub bracketed-faultless : (b : Brackets) → T (faultless (bracketed_shape b))
+bracketed-faultless brackets.Round = tt
+bracketed-faultless brackets.Square = tt
+
+pub bracketed-kind : (b : Brackets) (a : ℕ) {k : ℕ} → k ≡ single_kind b a → (kind.Parenthesised ≤ k) × (k ≤ kind.Array)
+bracketed-kind brackets.Square a e = (omega (arith, e), omega (arith, e))
+bracketed-kind brackets.Round a {k} e = go (eqb a 1) e
   where
-    go : (b : Bool) → k ≡ cond b kind.Parenthesised kind.Tuple → (kind.Parenthesised ≤ k) × (k ≤ kind.Tuple)
+    go : (b : Bool) → k ≡ cond b kind.Parenthesised kind.Tuple → (kind.Parenthesised ≤ k) × (k ≤ kind.Array)
     go true f = (omega arith, omega arith)
     go false f = (omega arith, omega arith)
 
@@ -236,23 +236,23 @@ keeping-low k h = keeps-between kind.Alias kind.List k tt h.0 h.1
 abbrev by : Bool → Bool → Bool → Bool → Bool → Bool → Head
 by a b d e f g = cond a (head kind.Boolean 0 0) (cond b (head kind.Boolean 1 0) (cond d (plain kind.Decimal) (cond e (plain kind.Hexadecimal) (cond f (plain kind.Binary) (cond g (plain kind.Witness) (plain kind.ParameterValue))))))
 
-literal-heads : (c : ℕ) → (kind.Boolean ≤ (literal_head c).kind) × ((literal_head c).kind ≤ kind.ParameterValue) × ((literal_head c).high ≡ 0)
+literal-heads : (c : ℕ) → (kind.Boolean ≤ (literal_head c).kind) × ((literal_head c).kind ≤ kind.ParameterValue)
 unfolding literal_head
 literal-heads c = go (eqb c t.false) (eqb c t.true) (eqb c t.DecLiteral) (eqb c t.HexLiteral) (eqb c t.BinLiteral) (eqb c t.Witness)
   where
-    go : (a b d e f g : Bool) → (kind.Boolean ≤ (by a b d e f g).kind) × ((by a b d e f g).kind ≤ kind.ParameterValue) × ((by a b d e f g).high ≡ 0)
-    go true b d e f g = (omega arith, omega arith, refl)
-    go false true d e f g = (omega arith, omega arith, refl)
-    go false false true e f g = (omega arith, omega arith, refl)
-    go false false false true f g = (omega arith, omega arith, refl)
-    go false false false false true g = (omega arith, omega arith, refl)
-    go false false false false false true = (omega arith, omega arith, refl)
-    go false false false false false false = (omega arith, omega arith, refl)
+    go : (a b d e f g : Bool) → (kind.Boolean ≤ (by a b d e f g).kind) × ((by a b d e f g).kind ≤ kind.ParameterValue)
+    go true b d e f g = (omega arith, omega arith)
+    go false true d e f g = (omega arith, omega arith)
+    go false false true e f g = (omega arith, omega arith)
+    go false false false true f g = (omega arith, omega arith)
+    go false false false false true g = (omega arith, omega arith)
+    go false false false false false true = (omega arith, omega arith)
+    go false false false false false false = (omega arith, omega arith)
 
-module _ {k low : ℕ} (c : ℕ) (e : k ≡ (literal_head c).kind) (f : low ≡ (literal_head c).low) where
+module _ {k low high : ℕ} (c : ℕ) (e : head k low high ≡ literal_head c) where
   pub literal-kind : (kind.Boolean ≤ k) × (k ≤ kind.ParameterValue)
-  literal-kind = let h = literal-heads c in (omega (arith, h.0), omega (arith, h.1))
+  literal-kind = let h = literal-heads c in let f : k ≡ (literal_head c).kind = ap (λ (u : Head). u.kind) e in (omega arith, omega arith)
 
-  pub literal-head : (x : Text) (t : Tok) → decided x LiteralShape (word c ∷ []) (t ∷ []) ≡ head k low 0
+  pub literal-head : (x : Text) (t : Tok) → decided x LiteralShape (word c ∷ []) (t ∷ []) ≡ head k low high
   unfolding head_of form_of opening
-  literal-head x t = λ i. head (sym e i) (sym f i) ((literal-heads c).2 i)
+  literal-head x t = sym e

@@ -1,9 +1,7 @@
 -- A match: its rule, the steps through it, and its record, whose arms may be exchanged.
 -- Assumes nothing.
-use Rattle.std.proofs.Common.{◌≡◌, ℕ, ◌+◌, ◌-◌, ◌*◌, ◌≤◌, Bool, true, false, cond, ◌||◌, T, eqb, List, [], ◌∷◌, length, get_or, sym, refl, ap, ◌∙◌, subst, ap₂, arith, eqb→eq}
+use Rattle.std.proofs.Common.{◌≡◌, ℕ, ◌+◌, ◌-◌, ◌*◌, ◌≤◌, Bool, true, false, cond, ◌||◌, T, eqb, List, [], ◌∷◌, length, sym, refl, ap, ◌∙◌, subst, ap₂, arith, eqb→eq}
 use mathlib.Core.Option.{none}
-use Rattle.std.specs.Prelude.{Option}
-use Rattle.text.specs.declared.refusal.Refusal.{Refusal}
 use lib.Seq.{sets}
 use Rattle.theory.specs.Grammar.{Sym, tok, nt, look, row, alt, pick}
 use Rattle.theory.specs.Machine.{choose}
@@ -22,7 +20,7 @@ use Rattle.grammar.specs.Records.Faults.{faults_at, earliest}
 use Rattle.grammar.specs.Shapes.ShapeKind.{MatchShape}
 use Rattle.grammar.specs.Shapes.TablesIndex.{n-expression, n-many-arm, n-single}
 use Rattle.lexer.specs.Classes as t
-use Rattle.parse.specs.Contract.{Text, classes, tok_at, raw, fault_at, Stands, Ready, Moved, Eaten, ate, Holds, Put, Judged, as_items, as_node, Went, Parsed, Node, ExprKind}
+use Rattle.parse.specs.Contract.{Text, tok_at, raw, fault_at, Ready, Moved, Eaten, Holds, Put, Judged, as_items, as_node, Went, Parsed, Node, ExprKind}
 use Rattle.parse.specs.Infos.{Armed, Arms, order_from, order_kind, order_fault, first_node, Arranged}
 use Rattle.parse.specs.declared.State.{State}
 use Rattle.parse.specs.declared.Step.{Step}
@@ -35,9 +33,9 @@ use Rattle.parse.proofs.Rule.Lists.{joined}
 use Rattle.parse.proofs.Rule.Amid.{Amid, starts, went}
 use Rattle.parse.proofs.Rule.Steps.{decided}
 use Rattle.parse.proofs.Rule.Closing.{Opened, shuts-in, Rule}
-use Rattle.parse.proofs.Rule.Chain.{Noded, then-node, then-eats, advances}
+use Rattle.parse.proofs.Rule.Chain.{Noded, then-node, eaten, then-eats, advances}
 use Rattle.parse.proofs.Rule.Commas.{AnyN}
-use Rattle.parse.proofs.Rule.Heads.{judged-kept}
+use Rattle.parse.proofs.Rule.Heads.{judged-stands, judged-kept}
 use Rattle.parse.proofs.Rule.SideBySide.{Grown, grows, grown-eats}
 use Rattle.parse.proofs.arms.Laws.{whole_match, match-kind, match-fault}
 use Rattle.parse.proofs.arms.Turned.{scrutiny, arranges, arranges-long}
@@ -89,23 +87,6 @@ pub joined-assoc : (p q r : Items) → joined (joined p q) r ≡ joined p (joine
 joined-assoc own.none q r = refl
 joined-assoc (mark y p) q r = ap (mark y) (joined-assoc p q r)
 joined-assoc (sub k l h js p) q r = ap (sub k l h js) (joined-assoc p q r)
-
-is-ate : {x : Text} {st : State} {c : ℕ} {st₂ : State} {a b : ℕ} → Eaten x st c (Next st₂ a b) → (st.class ≡ c) × Moved x st st₂
-is-ate (ate e v) = (e, v)
-
-pub eaten : {x : Text} {st : State} {c : ℕ} {s : Step} {st₂ : State} {a b : ℕ} → Eaten x st c s → s ≡ Next st₂ a b → (st.class ≡ c) × Moved x st st₂
-eaten {x} {st} {c} e q = is-ate (subst (λ s. Eaten x st c s) q e)
-
-judged-stands : {x : Text} {outer inner r : State} {n : Option Refusal} {p : ℕ} → Stands x inner → Judged outer inner n p r → Stands x r
-judged-stands {x} s j =
-    let a = j.at_is in
-    record {
-      within = omega (arith, s.within);
-      class_is = j.class_is ∙ s.class_is ∙ ap (λ i. get_or (classes x) i 0) (sym a);
-      start_is = j.start_is ∙ s.start_is ∙ ap (λ i. (tok_at x i).start) (sym a);
-      stop_is = j.stop_is ∙ s.stop_is ∙ ap (λ i. (tok_at x i).stop) (sym a);
-      end_is = λ p e. j.end_is ∙ s.end_is p (sym a ∙ e);
-    }
 
 -- The steps: `match`,
 module _ {x : Text} (K : ℕ) {st r : State} {l : List ℕ} (o : Opened x st r none) (c : st.class ≡ t.Match) {a : State} (v : Moved x r a) where
@@ -213,7 +194,7 @@ module _ {x : Text} {st r a b d f : State} {l l₁ l₂ : List ℕ} {s₁ s₂ s
           ∙ ap₂ (λ (n : ℕ) (w : Items). sets l (rec_wide * r.out) (concat (arrange (turned (order_kind n) w) (word_groups w)))) (sym order-here) (sym match₅.is)
 
       -- The record of the match.
-      pub match-shut : {l' : List ℕ} {z : State} → Ready x st → Put l₃ st.out K st.start g.end 0 0 (g.out - st.out) l' → Judged st g (order_fault order) st.start z
+      pub match-shut : {l' : List ℕ} {z : State} → Ready x st → Put l₃ st.out K st.start g.end 0 0 (g.out - st.out) l' → Judged st g (fault_at (order_fault order) st.start) z
           → Went x match_rhs (as_node MatchShape) (Node ExprKind) st l z l' 0 0
       match-shut y put j =
           shuts-in MatchShape y o match₅.amid (omega arith) match-decides tt ExprKind (order-expr order) match-long match-words put refl (record { at_is = j.at_is; out_is = j.out_is })

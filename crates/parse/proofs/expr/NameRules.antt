@@ -1,10 +1,10 @@
 -- What begins with a name and may go on with `::`: its rule, whichever of the five it is, and the enum construction that it may begin.
 -- Assumes nothing.
-use Rattle.std.proofs.Common.{◌≡◌, ℕ, ◌-◌, ◌*◌, ◌≤◌, Bool, true, false, not, T, eqb, ◌⊎◌, List, [], ◌∷◌, sym, refl, ap, ◌∙◌, subst, ap₂, inl, inr}
+use Rattle.std.proofs.Common.{◌≡◌, ℕ, ◌-◌, ◌*◌, ◌≤◌, Bool, true, false, not, T, eqb, ◌⊎◌, inl, inr, List, [], ◌∷◌, sym, refl, ap, ◌∙◌, subst, ap₂}
 use mathlib.Core.Option.{Option, none, some}
 use lib.Seq.{sets}
 use Rattle.lexer.specs.Classes as t
-use Rattle.theory.specs.Grammar.{Sym, tok, nt}
+use Rattle.theory.specs.Grammar.{Sym, tok, nt, row, look}
 use Rattle.theory.specs.Machine.{choose, expand}
 use Rattle.theory.specs.Ebnf as shape
 use Rattle.theory.specs.Ebnf.{sort_of}
@@ -16,12 +16,15 @@ use Rattle.own.specs.Words.{word_groups}
 use Rattle.text.specs.Widths.{rec_wide}
 use Rattle.text.specs.Lists.{has}
 use Rattle.grammar.specs.Shapes.ShapeKind.{NamedShape, BareShape, TypedShape, FoldingShape, ForWhileShape}
+use Rattle.kinds.specs.Rules.{wrappers}
 use Rattle.grammar.specs.Shapes.Tables.{means, table}
 use Rattle.grammar.specs.Shapes.TablesIndex.{n-single, n-path, n-typed-optional-DoubleColon-choice, n-folding-optional-DoubleColon-choice, n-for_while-optional-DoubleColon-choice}
 use Rattle.grammar.specs.Shapes.Row.{aName}
 use Rattle.grammar.specs.Records.Records.{head, form_of, sees, name_head}
 use Rattle.grammar.specs.Records.Faults.{Fault, faults_at, earliest}
 use Rattle.parse.specs.declared.State.{State}
+use Rattle.parse.specs.declared.expr.c.GenericCall.{GenericCall}
+use Rattle.parse.specs.declared.expr.c.GenericCall.TheVariants as generic
 use Rattle.parse.specs.Choice as choice
 use Rattle.parse.specs.Contract.{Text, tok_at, raw, fault_in, sooner, kept, fault_at, Ready, Moved, Put, as_node, Went, Node, reserved, cleaned}
 use Rattle.parse.specs.Infos.{Begun, Generic, Leads, named_leads, bare_leads, generic_leads}
@@ -123,13 +126,20 @@ module _ {c : ℕ} where
         path = λ h. call.whiles-path h;
       }
 
-  pub generic-rule : {rule : ℕ} → Generic c rule → GenericRule c
-  generic-rule {rule} g = go g.one_of
-    where
-      go : (rule ≡ choice.Typed) ⊎ (rule ≡ choice.Folding) ⊎ (rule ≡ choice.ForWhile) → GenericRule c
-      go (inl e) = typed-rule (g.chosen ∙ e)
-      go (inr (inl e)) = folding-rule (g.chosen ∙ e)
-      go (inr (inr e)) = while-rule (g.chosen ∙ e)
+  pub generic-rule : (g : GenericCall) → Generic c g → GenericRule c
+  generic-rule generic.Typed e = typed-rule e
+  generic-rule generic.Folding e = folding-rule e
+  generic-rule generic.ForWhile e = while-rule e
+
+-- A wrapper's word is a name.
+pub wrapper-chosen : (c : ℕ) → has wrappers c ≡ true → choose table n-single c ≡ choice.Named
+unfolding choose row table look
+wrapper-chosen c h = go (call.wrapper-class c h)
+  where
+    go : (c ≡ t.Left) ⊎ (c ≡ t.Right) ⊎ (c ≡ t.Some) → choose table n-single c ≡ choice.Named
+    go (inl e) = ap (choose table n-single) e
+    go (inr (inl e)) = ap (choose table n-single) e
+    go (inr (inr e)) = ap (choose table n-single) e
 
 -- The head of such a record is that of a name.
 pub by_name : {x : Text} {K : ℕ} {N : ℕ → Type 0} {full left : List Sym} {st : State} {l : List ℕ} {w : List Sort} {ms : List Tok} {m : ℕ} {st₁ : State} {l₁ : List ℕ} {c : ℕ}
@@ -167,7 +177,7 @@ module _ {x : Text} {st r b d : State} {F : Option Fault} {l l' : List ℕ} (y :
   unfolding named_rule bare-rule
   enum-begins (named_leads e) = at_once (named_rule e) (λ i h. call.named-colons h)
   enum-begins (bare_leads e) = at_once (bare-rule e) (λ i h. call.bare-colons h)
-  enum-begins (generic_leads z h) = without-angle (generic-rule z) h
+  enum-begins (generic_leads q z h) = without-angle (generic-rule q z) h
 
 -- A record of such a rule, with no `<` among its pieces.
 module _ {x : Text} {st r : State} {K : ℕ} {l : List ℕ} {w : List Sort} {ms : List Tok} {m : ℕ} {st₁ : State} {l₁ l' : List ℕ} {low high : ℕ} where

@@ -1,9 +1,9 @@
 -- Heads of arms: their rules in grammar's table, and what they decide.
 -- Assumes nothing.
-use Rattle.std.proofs.Common.{◌≡◌, ℕ, ◌+◌, ◌<◌, ◌≤◌, Bool, true, false, cond, not, ◌&&◌, ◌||◌, T, eqb, ltb, List, [], ◌∷◌, ◌++◌, get_or, sym, refl, ap, ◌∙◌, subst, arith, eqb→eq, ltb→lt, ltb-false, ltb-true, eq-eqb, ne_eqb}
+use Rattle.std.proofs.Common.{◌≡◌, ℕ, ◌+◌, ◌<◌, ◌≤◌, Bool, true, false, cond, not, ◌&&◌, ◌||◌, T, eqb, ltb, List, [], ◌∷◌, ◌++◌, get_or, sym, refl, ap, ◌∙◌, subst, arith, eqb→eq, ltb→lt, eq-eqb, ne_eqb}
 use mathlib.Core.Option.{some}
 use Rattle.text.proofs.Same.{differ}
-use Rattle.text.proofs.Table.{first-of, second-of, is_true, implied}
+use Rattle.text.proofs.Table.{first-of, second-of, is_true}
 use Rattle.text.specs.Lists.{has}
 use Rattle.theory.specs.Grammar.{Sym, tok, nt, row, look, alt, pick}
 use Rattle.theory.specs.Machine.{choose, expand}
@@ -27,7 +27,7 @@ use Rattle.parse.specs.declared.State.{State}
 use Rattle.parse.specs.declared.Step.{Step}
 use Rattle.parse.specs.declared.Step.TheVariants.{Next, Refused}
 use Rattle.parse.specs.Choice as choice
-use Rattle.parse.proofs.Rule.ByClass.{run, sweep, beyond, past_classes}
+use Rattle.parse.proofs.Rule.ByClass.{run, where-passed, beyond, past_classes}
 use Rattle.parse.proofs.choice.Checks.{head-past}
 use Rattle.parse.proofs.choice.Chosen.{alone, is-alone, hit, miss, goes}
 use Rattle.parse.proofs.Rule.Amid.{class-at, inside, went, Amid, starts, then_turns, then-went}
@@ -90,11 +90,8 @@ path-row c = refl
 -- What begins a head of each sort, by one computation over the classes; past them none begins.
 
 where-sorted : (k : ℕ) (f : ℕ → Bool) → 0 < k → T (run (λ c. not (eqb (head_sort c) k) || f c) past_classes 0) → (c : ℕ) → head_sort c ≡ k → T (f c)
-where-sorted k f pos t c e = go (ltb c past_classes) refl
-  where
-    go : (b : Bool) → ltb c past_classes ≡ b → T (f c)
-    go true h = implied (eqb (head_sort c) k) (f c) (sweep (λ c. not (eqb (head_sort c) k) || f c) t c (ltb-true c past_classes h)) (rw (eq-eqb (head_sort c) k e) tt)
-    go false h = absurd (omega (arith, head-past c (ltb-false c past_classes h)))
+where-sorted k f pos t c e =
+    where-passed f (λ c. eqb (head_sort c) k) t (λ c h u. absurd (omega (arith, head-past c h, eqb→eq (head_sort c) k u))) c (rw (eq-eqb (head_sort c) k e) tt)
 
 module _ (c : ℕ) where
   pub at-false : head_sort c ≡ choice.FalseHead → c ≡ t.false
@@ -175,20 +172,8 @@ sorted = choice.FalseHead ∷ choice.TrueHead ∷ choice.NoneHead ∷ choice.Wra
 
 unbegun : (c : ℕ) → has sorted (head_sort c) ≡ false → T (eqb (choose table n-head c) choice.NamedHead && eqb (choose table n-other_name c) 0)
 unfolding head_sort choose row table look has
-unbegun c e = go (ltb c past_classes) refl
-  where
-    test : T (run (λ a. has sorted (head_sort a) || (eqb (choose table n-head a) choice.NamedHead && eqb (choose table n-other_name a) 0)) past_classes 0)
-    test = tt
-
-    second : (a b : Bool) → a ≡ false → T (a || b) → T b
-    second true b f t = absurd (differ (sym f))
-    second false b f t = t
-
-    go : (b : Bool) → ltb c past_classes ≡ b → T (eqb (choose table n-head c) choice.NamedHead && eqb (choose table n-other_name c) 0)
-    go true h =
-        second (has sorted (head_sort c)) (eqb (choose table n-head c) choice.NamedHead && eqb (choose table n-other_name c) 0) e
-        (sweep (λ a. has sorted (head_sort a) || (eqb (choose table n-head a) choice.NamedHead && eqb (choose table n-other_name a) 0)) test c (ltb-true c past_classes h))
-    go false h = rw (beyond n-head c (ltb-false c past_classes h), beyond n-other_name c (ltb-false c past_classes h)) tt
+unbegun c e =
+    where-passed (λ a. eqb (choose table n-head a) choice.NamedHead && eqb (choose table n-other_name a) 0) (λ a. not (has sorted (head_sort a))) tt (λ a h u. rw (beyond n-head a h, beyond n-other_name a h) tt) c (rw e tt)
 
 unsorted : (i : ℕ) → (((((Unit {0} × (i ≡ choice.FalseHead → ⊥)) × (i ≡ choice.TrueHead → ⊥)) × (i ≡ choice.NoneHead → ⊥)) × (i ≡ choice.WrappedHead → ⊥)) × (i ≡ choice.NamedHead → ⊥)) → has sorted i ≡ false
 unfolding has

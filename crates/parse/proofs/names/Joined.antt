@@ -1,6 +1,6 @@
 -- Names joined by `::`, as a loop reads them.
 -- Assumes nothing.
-use Rattle.std.proofs.Common.{◌≡◌, ℕ, suc, ◌+◌, ◌<◌, ◌≤◌, Bool, true, false, cond, ◌||◌, ◌⊎◌, List, [], ◌∷◌, ◌++◌, length, get_or, sym, refl, ap, ◌∙◌, ap₂, inl, inr, arith, ne_eqb}
+use Rattle.std.proofs.Common.{◌≡◌, ℕ, suc, ◌+◌, ◌<◌, ◌≤◌, Bool, true, false, ◌||◌, ◌⊎◌, List, [], ◌∷◌, ◌++◌, length, get_or, sym, refl, ap, ◌∙◌, ap₂, inl, inr, arith, ne_eqb}
 use mathlib.Core.Option.{some}
 use types.Run.{OneOf}
 use denote.Enum.Declared.{tag_of}
@@ -29,6 +29,7 @@ use Rattle.parse.specs.declared.Step.TheVariants.{Next}
 use Rattle.parse.proofs.Rule.Marks.{sign-mark}
 use Rattle.parse.proofs.Rule.Amid.{class-at, inside, Amid, starts, then_turns, then-passed, then-went, went}
 use Rattle.parse.proofs.Rule.Chain.{advances, onward}
+use Rattle.parse.proofs.Rule.Pieces.{name_count-append, name_count-name}
 use Rattle.parse.proofs.Rule.Commas.{AnyN, finish}
 use Rattle.parse.proofs.names.Chain.{then-named}
 use Rattle.parse.proofs.names.Rows.{expanded-identifier, expanded-function-name, expanded-alias-name, flat-more, more-names, no-more-names, name-role, arranged-names}
@@ -88,16 +89,6 @@ unfolding counted
 paths-parts ks [] p = refl
 paths-parts ks (word d ∷ w) p = paths-parts ks w p.1
 paths-parts ks (child k l h d ∷ w) p = absurd p
-
-count-append : (w v : List Sort) → name_count (w ++ v) ≡ name_count w + name_count v
-unfolding name_count
-count-append [] v = omega arith
-count-append (word d ∷ w) v = omega (arith, count-append w v)
-count-append (child k l h d ∷ w) v = count-append w v
-
-count-name : (d : ℕ) (w : List Sort) → has t.identifiers d ≡ true → name_count (word d ∷ w) ≡ 1 + name_count w
-unfolding name_count
-count-name d w h = ap (λ (b : Bool). cond b 1 0 + name_count w) h
 
 count-colon : name_count (word t.DoubleColon ∷ []) ≡ 0
 unfolding name_count has
@@ -161,9 +152,9 @@ module _ {x : Text} {st : State} {l : List ℕ} {here : State} {l₁ : List ℕ}
       joined-again =
           let cls = (tok_at x next.at).class in
           let name = identifier-class p e in
-          let n₁ = count-append (v.w ++ (word t.DoubleColon ∷ [])) (word cls ∷ []) in
-          let n₂ = count-append v.w (word t.DoubleColon ∷ []) in
-          let n₃ = count-name cls [] name in
+          let n₁ = name_count-append (v.w ++ (word t.DoubleColon ∷ [])) (word cls ∷ []) in
+          let n₂ = name_count-append v.w (word t.DoubleColon ∷ []) in
+          let n₃ = name_count-name cls [] name in
           record {
             w = (v.w ++ (word t.DoubleColon ∷ [])) ++ (word cls ∷ []);
             ms = (v.ms ++ (tok_at x here.at ∷ [])) ++ (tok_at x next.at ∷ []);
@@ -210,7 +201,7 @@ module _ {x : Text} {st : State} (y : Ready x st) {l l₁ : List ℕ} {r : Step}
           let J = raw x st.at d.pre in
           let s : sorts J ≡ word cls ∷ v.w = d.sorted ∙ ap (λ u. word cls ∷ u) q.info.sorted in
           finish d (record {
-            count_is = ap name_count s ∙ count-name cls v.w name ∙ v.count_is;
+            count_is = ap name_count s ∙ name_count-name cls v.w name ∙ v.count_is;
             bounded = names-few;
             roles = λ K n h. arranged-names K n h J ∙ d.roles n tt;
             others = λ c h i. ap (sees c) s ∙ paths-others c h i (word cls ∷ v.w) (inr name, v.paths);

@@ -1,9 +1,10 @@
 -- What grammar's table has for a name, and which tokens are records where every name is one.
 -- Assumes nothing.
-use Rattle.std.proofs.Common.{◌≡◌, ℕ, zero, suc, ◌<◌, ◌≤◌, Bool, true, false, cond, not, ◌||◌, T, eqb, ltb, List, [], ◌∷◌, sym, refl, ap, ◌∙◌, ap₂, arith, ltb-false, ltb-true, ne_eqb, eq-eqb, eqb→eq}
-use mathlib.Core.Option.{Option, none, some}
+use Rattle.std.proofs.Common.{◌≡◌, ℕ, zero, suc, ◌<◌, ◌≤◌, Bool, true, false, cond, not, ◌||◌, T, eqb, List, [], ◌∷◌, sym, refl, ap, ◌∙◌, ap₂, arith, ne_eqb, eq-eqb, eqb→eq}
+use Rattle.std.proofs.lemmas.Bool.{not-true, not-false, eqb-true, eqb-false}
+use mathlib.Core.Option.{Option, none, some, none-ne-some}
 use Rattle.text.proofs.Same.{differ}
-use Rattle.text.proofs.Table.{is_true, implied}
+use Rattle.text.proofs.Table.{is_true}
 use Rattle.text.specs.Lists.{has}
 use Rattle.theory.specs.Grammar.{Sym, tok, nt, row, look, alt, pick}
 use Rattle.theory.specs.Machine.{choose, expand}
@@ -22,7 +23,7 @@ use Rattle.parse.specs.declared.names.NameSort.{NameSort}
 use Rattle.parse.specs.declared.names.NameSort.TheVariants as name
 use Rattle.parse.specs.Contract.{name_sort, name_nt, is_name, callees}
 use Rattle.parse.specs.Choice as choice
-use Rattle.parse.proofs.Rule.ByClass.{run, sweep, beyond, past_classes}
+use Rattle.parse.proofs.Rule.ByClass.{run, where-passed, beyond, past_classes}
 use Rattle.parse.proofs.choice.Checks.{name-past}
 use Rattle.parse.proofs.choice.Chosen.{alone, is-alone, hit, miss, goes}
 
@@ -34,14 +35,6 @@ lacking (some l) = false
 is-lacking : (o : Option (List Sym)) → T (lacking o) → o ≡ none
 is-lacking none h = refl
 is-lacking (some l) h = absurd h
-
--- A test of the classes that pass g, by one computation; none past them passes.
-where-passed : (f g : ℕ → Bool) → T (run (λ c. not (g c) || f c) past_classes 0) → ((c : ℕ) → past_classes ≤ c → T (g c) → T (f c)) → (c : ℕ) → T (g c) → T (f c)
-where-passed f g t past c h = go (ltb c past_classes) refl
-  where
-    go : (b : Bool) → ltb c past_classes ≡ b → T (f c)
-    go true e = implied (g c) (f c) (sweep (λ c. not (g c) || f c) t c (ltb-true c past_classes e)) h
-    go false e = past c (ltb-false c past_classes e) h
 
 no-name-past : (c : ℕ) → past_classes ≤ c → name_sort c ≡ 0
 no-name-past c h = sym (name-past c h)
@@ -163,10 +156,7 @@ no_end = refl
 
 -- A class that the table has as an identifier is one.
 pub expanded-identifier : (c : ℕ) {rhs : List Sym} → expand table n-identifier c ≡ some rhs → has t.identifiers c ≡ true
-expanded-identifier c e = sort-identifier c (λ z. none-some (sym (no-identifier c z) ∙ e))
-  where
-    none-some : {l : List Sym} → ◌≡◌ {A = Option (List Sym)} none (some l) → ⊥
-    none-some p = differ (sym (ap lacking p))
+expanded-identifier c e = sort-identifier c (λ z. none-ne-some _ (sym (no-identifier c z) ∙ e))
 
 -- After a name: `::` and one more, or nothing.
 pub flat-more : sort_of (ex means (nt n-path-many-DoubleColon)) ≡ shape.flat
@@ -186,7 +176,7 @@ pub name-pos : (c : ℕ) → (name_sort c ≡ 0 → ⊥) → 0 < c
 name-pos zero h = absurd (h no_end)
 name-pos (suc c) h = omega arith
 
-other-sort : (c : ℕ) → has t.function_names c ≡ false → name_sort c ≡ choice.FunctionName → ⊥
+pub other-sort : (c : ℕ) → has t.function_names c ≡ false → name_sort c ≡ choice.FunctionName → ⊥
 unfolding name_sort
 other-sort c q e = go (has t.identifiers c) (sym (ap (λ (b : Bool). cond b choice.FunctionName (cond (has t.identifiers c) choice.ReservedName 0)) q) ∙ e)
   where
@@ -198,12 +188,9 @@ other-sort c q e = go (has t.identifiers c) (sym (ap (λ (b : Bool). cond b choi
 pub expanded-function-name : (c : ℕ) {rhs : List Sym} → expand table n-function_name c ≡ some rhs → has t.function_names c ≡ true
 expanded-function-name c {rhs} e = go (has t.function_names c) refl
   where
-    none-some : {l : List Sym} → ◌≡◌ {A = Option (List Sym)} none (some l) → ⊥
-    none-some p = differ (sym (ap lacking p))
-
     go : (b : Bool) → has t.function_names c ≡ b → has t.function_names c ≡ true
     go true q = q
-    go false q = absurd (none-some (sym (no-function-name c (other-sort c q)) ∙ e))
+    go false q = absurd (none-ne-some _ (sym (no-function-name c (other-sort c q)) ∙ e))
 
 -- In a function, a parameter, an enum construction and an enum arm every name is a record.
 pub role-named : (K c : ℕ) → has family.names_kept K ≡ true → role_of K c ≡ cond (has t.identifiers c) asName aMark
@@ -231,14 +218,10 @@ call-role c e = go (eqb t.Jet c) refl
 
 -- Each name that is a record of its own: its class is not 0, and the table has it for the token, or has nothing.
 zero-of : (n : ℕ) → not (eqb n 0) ≡ false → n ≡ 0
-zero-of n e = go (eqb n 0) refl e
-  where
-    go : (b : Bool) → eqb n 0 ≡ b → not b ≡ false → n ≡ 0
-    go true p q = eqb→eq n 0 (rw p tt)
-    go false p q = absurd (differ (sym q))
+zero-of n e = eqb-true n 0 (not-false (eqb n 0) e)
 
 not-zero : (n : ℕ) → not (eqb n 0) ≡ true → n ≡ 0 → ⊥
-not-zero n e f = differ (sym (ap not (eq-eqb n 0 f)) ∙ e)
+not-zero n e = eqb-false n 0 (not-true (eqb n 0) e)
 
 pub no-name : (s : NameSort) (c : ℕ) → is_name s c ≡ false → expand table (name_nt s) c ≡ none
 no-name name.Identifier c e = no-identifier c (zero-of (name_sort c) e)

@@ -1,42 +1,35 @@
 -- What the tests of names.rt say of a name as a pattern and of the name of a call.
 -- Assumes nothing.
-use Rattle.std.proofs.Common.{◌≡◌, ℕ, Bool, true, false, cond, ◌||◌, eqb, List, [], ◌∷◌, length, get_or, sym, refl, arith, eq-eqb, ne_eqb, eqb-true}
+use Rattle.std.proofs.Common.{◌≡◌, ℕ, Bool, true, false, cond, ◌||◌, eqb, List, [], ◌∷◌, ◌∙◌, ap, sym, refl, eq-eqb, ne_eqb, eqb-true}
 use Rattle.text.specs.Ascii.{ascii, ascii_from}
 use Rattle.text.specs.Same.{same}
-use Rattle.text.proofs.Same.{differ}
 use Rattle.text.specs.Lists.{has}
-use Rattle.text.proofs.SameLaws.{same_length}
+use Rattle.text.proofs.SameLaws.{same_self, same_true}
 use Rattle.lexer.specs.Classes as t
 use Rattle.grammar.specs.Records.Records.{plain, pattern_name_head}
 use Rattle.own.specs.Kinds as kind
 use Rattle.parse.specs.Contract.{name_sort, callees}
+use Rattle.parse.proofs.names.Rows.{other-sort}
 use Rattle.parse.specs.Choice as choice
 
 -- The byte `_`.
 abbrev underscore : ℕ
 underscore = 95
 
--- a name of one byte
-one_byte : (l : List ℕ) → length l ≡ 1 → (b : Bool) → eqb (get_or l 0 0) underscore ≡ b → same l (underscore ∷ []) ≡ b
-unfolding same
-one_byte [] e b q = absurd (omega arith)
-one_byte (x ∷ []) e true q = rw q refl
-one_byte (x ∷ []) e false q = rw q refl
-one_byte (x ∷ y ∷ l) e b q = absurd (omega arith)
-
 module _ (l p : List ℕ) (c : ℕ) (s : l ≡ p) (h : c ≡ t.Ident) where
   by-same : (b : Bool) → same l (underscore ∷ []) ≡ b → cond b (plain kind.IgnorePattern) (plain kind.IdentifierPattern) ≡ pattern_name_head p c
   unfolding pattern_name_head ascii ascii_from
   by-same b q = rw (eq-eqb c t.Ident h, ← s, q) refl
 
-  pub is-underscore : length l ≡ 1 → get_or l 0 0 ≡ underscore → plain kind.IgnorePattern ≡ pattern_name_head p c
-  is-underscore e q = by-same true (one_byte l e true (eq-eqb _ _ q))
+  pub is-underscore : l ≡ underscore ∷ [] → plain kind.IgnorePattern ≡ pattern_name_head p c
+  is-underscore e = by-same true (ap (λ w. same w (underscore ∷ [])) e ∙ same_self (underscore ∷ []))
 
-  pub is-other : length l ≡ 1 → (get_or l 0 0 ≡ underscore → ⊥) → plain kind.IdentifierPattern ≡ pattern_name_head p c
-  is-other e q = by-same false (one_byte l e false (ne_eqb _ _ q))
-
-  pub is-longer : (length l ≡ 1 → ⊥) → plain kind.IdentifierPattern ≡ pattern_name_head p c
-  is-longer e = by-same false (same_length l (underscore ∷ []) e)
+  pub is-other : (l ≡ underscore ∷ [] → ⊥) → plain kind.IdentifierPattern ≡ pattern_name_head p c
+  is-other n = by-same false (go (same l (underscore ∷ [])) refl)
+    where
+      go : (b : Bool) → same l (underscore ∷ []) ≡ b → b ≡ false
+      go true q = absurd (n (same_true l (underscore ∷ []) q))
+      go false q = refl
 
 pub no-plain-name : (p : List ℕ) (c : ℕ) → (c ≡ t.Ident → ⊥) → plain kind.IdentifierPattern ≡ pattern_name_head p c
 unfolding pattern_name_head
@@ -46,11 +39,6 @@ no-plain-name p c n = rw (ne_eqb c t.Ident n) refl
 pub jet-called : (c : ℕ) → c ≡ t.Jet → has callees c ≡ true
 unfolding has
 jet-called c e = rw (eq-eqb t.Jet c (sym e)) refl
-
-by-sort : (a b : Bool) → a ≡ false → ◌≡◌ {A = ℕ} (cond a choice.FunctionName (cond b choice.ReservedName 0)) choice.FunctionName → ⊥
-by-sort true b e q = differ (sym e)
-by-sort false true e q = omega arith
-by-sort false false e q = omega arith
 
 with-jet : (c : ℕ) (b : Bool) → has t.function_names c ≡ b → (c ≡ t.Jet → b ≡ true) → has callees c ≡ b
 unfolding has
@@ -66,7 +54,7 @@ name-called c e = go (has t.function_names c) refl
   where
     go : (b : Bool) → has t.function_names c ≡ b → has callees c ≡ true
     go true q = with-jet c true q (λ j. refl)
-    go false q = absurd (by-sort (has t.function_names c) (has t.identifiers c) q e)
+    go false q = absurd (other-sort c q e)
 
 pub none-called : (c : ℕ) → (c ≡ t.Jet → ⊥) → (name_sort c ≡ choice.FunctionName → ⊥) → has callees c ≡ false
 unfolding name_sort

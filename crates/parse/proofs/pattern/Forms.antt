@@ -20,7 +20,9 @@ use Rattle.grammar.specs.Shapes.Tables.{means, table}
 use Rattle.grammar.specs.Records.Records.{Head, head, plain, head_of, form_of, pattern_name_head, text_of, first_tok, opening, aMark, role_of}
 use Rattle.grammar.specs.Shapes.ShapeKind.{ArrayPatternShape, NamePatternShape, TuplePatternShape}
 use Rattle.grammar.specs.Shapes.TablesIndex.{n-identifier, n-list-pattern, n-pattern, n-tail-pattern}
-use Rattle.parse.specs.Contract.{Text, text, tok_at, Stands}
+use Rattle.parse.specs.Contract.{Text, text, tok_at, Stands, PatternKind, opening_class, closing_class, pattern_choice, pattern_kind}
+use Rattle.parse.specs.declared.token.Brackets.{Brackets}
+use Rattle.parse.specs.declared.token.Brackets.TheVariants as brackets
 use Rattle.parse.specs.declared.State.{State}
 use Rattle.parse.specs.declared.token.Source.{Source}
 use Rattle.parse.specs.Choice as choice
@@ -28,30 +30,30 @@ use Rattle.parse.proofs.choice.Chosen.{where-chosen, alone, is-alone, hit, miss,
 use Rattle.parse.proofs.Rule.Marks.{keeping, keeping-mark, keeps-between}
 use Rattle.parse.proofs.Rule.Amid.{Amid}
 use Rattle.parse.proofs.Rule.Steps.{decided}
+use Rattle.std.proofs.lemmas.Bool.{or_cases, or_right}
 use Rattle.parse.proofs.Rule.Closing.{Rule}
 use Rattle.parse.proofs.Rule.Commas.{Rows}
+use Rattle.parse.proofs.Rule.Heads.{faultless}
 
 -- The rules of patterns.
 abbrev pub named_rhs : List Sym
 named_rhs = nt n-identifier ∷ []
 
-abbrev pub tuple_rhs : List Sym
-tuple_rhs = tok t.LParen ∷ nt n-list-pattern ∷ tok t.RParen ∷ []
+abbrev pub list_rhs : Brackets → List Sym
+list_rhs b = tok (opening_class b) ∷ nt n-list-pattern ∷ tok (closing_class b) ∷ []
 
-abbrev pub array_rhs : List Sym
-array_rhs = tok t.LBracket ∷ nt n-list-pattern ∷ tok t.RBracket ∷ []
+abbrev pub list_shape : Brackets → ℕ
+list_shape brackets.Round = TuplePatternShape
+list_shape brackets.Square = ArrayPatternShape
 
 pub named_rule : Rule n-pattern choice.NamePattern NamePatternShape named_rhs
 unfolding ex means kinds_of shapes row table alt pick
 named_rule = record { category = refl; from_one = refl; kind = refl; rule = refl }
 
-pub tuple-rule : Rule n-pattern choice.TuplePattern TuplePatternShape tuple_rhs
+pub list-rule : (b : Brackets) → Rule n-pattern (pattern_choice b) (list_shape b) (list_rhs b)
 unfolding ex means kinds_of shapes row table alt pick
-tuple-rule = record { category = refl; from_one = refl; kind = refl; rule = refl }
-
-pub array-rule : Rule n-pattern choice.ArrayPattern ArrayPatternShape array_rhs
-unfolding ex means kinds_of shapes row table alt pick
-array-rule = record { category = refl; from_one = refl; kind = refl; rule = refl }
+list-rule brackets.Round = record { category = refl; from_one = refl; kind = refl; rule = refl }
+list-rule brackets.Square = record { category = refl; from_one = refl; kind = refl; rule = refl }
 
 -- The tokens that they begin with.
 module _ (c : ℕ) where
@@ -63,13 +65,23 @@ module _ (c : ℕ) where
   unfolding choose row table look
   named-pos e = ltb→lt 0 c (where-chosen n-pattern choice.NamePattern (λ a. ltb 0 a) tt tt c e)
 
-  pub at-tuple : choose table n-pattern c ≡ choice.TuplePattern → c ≡ t.LParen
+  pub at-list : (b : Brackets) → choose table n-pattern c ≡ pattern_choice b → c ≡ opening_class b
   unfolding choose row table look
-  at-tuple e = eqb→eq c t.LParen (where-chosen n-pattern choice.TuplePattern (λ a. eqb a t.LParen) tt tt c e)
+  at-list brackets.Round e = eqb→eq c t.LParen (where-chosen n-pattern choice.TuplePattern (λ a. eqb a t.LParen) tt tt c e)
+  at-list brackets.Square e = eqb→eq c t.LBracket (where-chosen n-pattern choice.ArrayPattern (λ a. eqb a t.LBracket) tt tt c e)
 
-  pub at-array : choose table n-pattern c ≡ choice.ArrayPattern → c ≡ t.LBracket
-  unfolding choose row table look
-  at-array e = eqb→eq c t.LBracket (where-chosen n-pattern choice.ArrayPattern (λ a. eqb a t.LBracket) tt tt c e)
+-- A list has no refusal of its own, and is a pattern.
+pub list-faultless : (b : Brackets) → T (faultless (list_shape b))
+list-faultless brackets.Round = tt
+list-faultless brackets.Square = tt
+
+pub list-unturned : (b : Brackets) → T (not (eqb (pattern_kind b) kind.Match))
+list-unturned brackets.Round = tt
+list-unturned brackets.Square = tt
+
+pub list-kind : (b : Brackets) → PatternKind (pattern_kind b)
+list-kind brackets.Round = (omega arith, omega arith)
+list-kind brackets.Square = (omega arith, omega arith)
 
 pub flat-named : sort_of (ex means (nt n-identifier)) ≡ shape.flat
 unfolding sort_of ex means
@@ -91,17 +103,9 @@ no-pattern c i e h = ap (alt table n-pattern) (sym e) ∙ go i h
 abbrev pub Closes : ℕ → Type 0
 Closes c = (eqb c t.RParen || eqb c t.RBracket) ≡ true
 
-or_cases : (a b : Bool) → (a || b) ≡ true → (a ≡ true) ⊎ (b ≡ true)
-or_cases true b e = inl refl
-or_cases false b e = inr e
-
 closes-not : (c d : ℕ) (e : (eqb c t.RParen || eqb c t.RBracket) ≡ true → ⊥) → (d ≡ t.RParen) ⊎ (d ≡ t.RBracket) → c ≡ d → ⊥
 closes-not c d e (inl f) g = e (rw (eq-eqb c t.RParen (g ∙ f)) refl)
 closes-not c d e (inr f) g = e (or_right (eqb c t.RParen) (eqb c t.RBracket) (eq-eqb c t.RBracket (g ∙ f)))
-  where
-    or_right : (a b : Bool) → b ≡ true → (a || b) ≡ true
-    or_right true b h = refl
-    or_right false b h = h
 
 -- What `closes` says.
 pub open_at : {r : Bool} (c : ℕ) → r ≡ (eqb c t.RParen || eqb c t.RBracket) → not r ≡ true → Closes c → ⊥
@@ -141,13 +145,10 @@ pattern-rows = record {
 
 -- The heads of patterns.
 module _ {x : Text} {K : ℕ} {N : ℕ → Type 0} {full left : List Sym} {st : State} {l : List ℕ} {w : List Sort} {ms : List Tok} {m : ℕ} {st₁ : State} {l₁ : List ℕ} where
-  pub tuple-head : Amid x K N full left st l w ms m st₁ l₁ → decided x TuplePatternShape w ms ≡ head kind.TuplePattern 0 0
+  pub list-head : (b : Brackets) → Amid x K N full left st l w ms m st₁ l₁ → decided x (list_shape b) w ms ≡ head (pattern_kind b) 0 0
   unfolding head_of form_of
-  tuple-head d = refl
-
-  pub array_head : Amid x K N full left st l w ms m st₁ l₁ → decided x ArrayPatternShape w ms ≡ head kind.ArrayPattern 0 0
-  unfolding head_of form_of
-  array_head d = refl
+  list-head brackets.Round d = refl
+  list-head brackets.Square d = refl
 
 name-kind : (p : List ℕ) (c : ℕ) → ((pattern_name_head p c).kind ≡ kind.IgnorePattern) ⊎ ((pattern_name_head p c).kind ≡ kind.IdentifierPattern)
 unfolding pattern_name_head

@@ -37,10 +37,10 @@ use Rattle.parse.proofs.choice.Chosen.{hit, miss, goes}
 use Rattle.parse.proofs.Rule.Marks.{sign, sign-mark}
 use Rattle.parse.proofs.names.Rows.{sort-identifier}
 use Rattle.parse.proofs.Rule.Amid.{Amid, then-went, went}
-use Rattle.parse.proofs.Rule.Steps.{decided}
+use Rattle.parse.proofs.Rule.Steps.{stuck-here, decided}
 use Rattle.parse.proofs.Rule.Closing.{Opened, Rule, enters}
 use Rattle.parse.proofs.Rule.Commas.{AnyN, Rows, arranged-zero, arranged-only, comma-mark, finish}
-use Rattle.parse.proofs.Rule.Pieces.{sees-append, counted-append}
+use Rattle.parse.proofs.Rule.Pieces.{sees-append, counted-append, unseen-append}
 
 -- The rules of a function and of a parameter.
 abbrev pub function_rhs : List Sym
@@ -134,15 +134,6 @@ parameter-or c = go (ltb c past_classes) refl
     go : (b : Bool) → ltb c past_classes ≡ b → (choose table n-parameter c ≡ 1) ⊎ ((expand table n-parameter c ≡ none) × (expand table n-identifier c ≡ none))
     go true h = low (ltb-true c past_classes h) (eqb (choose table n-parameter c) 1) (eqb (choose table n-parameter c) 0) refl refl (sweep (λ c. eqb (choose table n-parameter c) 1 || (eqb (choose table n-parameter c) 0 || false)) either-test c (ltb-true c past_classes h))
     go false h = lacks (beyond n-parameter c (ltb-false c past_classes h)) (beyond n-identifier c (ltb-false c past_classes h))
-
-abbrev lacking : Option (List Sym) → Bool
-lacking none = true
-lacking (some l) = false
-
--- Where the table has nothing for a nonterminal, it is stuck there.
-stuck-here : (x : Text) {A : ℕ} {τ : List Sym} {at p : ℕ} → expand table A (get_or (classes x) at 0) ≡ none → Stuck x (nt A ∷ τ) at p → p ≡ at
-stuck-here x e (k_nt f) = refl
-stuck-here x e (k_in f h) = absurd (differ (sym (ap lacking (sym e ∙ f))))
 
 -- A parameter is refused where its name is.
 pub parameter-passed : {x : Text} {st r : State} {F : Option Fault} {wrap wrap' : shape.Items → shape.Items} {I J : Info} {l l₁ l₀ l' : List ℕ} {s : Step} → Ready x st → Opened x st r F
@@ -382,14 +373,6 @@ unfolding has
 name-no-arrow c e q = differ (sym (ap (has t.function_names) q) ∙ e)
 
 -- What is seen in one piece.
-or-none : (a b : Bool) → b ≡ false → (a || b) ≡ a
-or-none true b e = refl
-or-none false b e = e
-
--- a piece that adds nothing to what is seen
-unseen : (c : ℕ) (w v : List Sort) {b : Bool} → sees c w ≡ b → sees c v ≡ false → sees c (w ++ v) ≡ b
-unseen c w v e f = sees-append c w v ∙ or-none (sees c w) (sees c v) f ∙ e
-
 sees-word : (c d : ℕ) → (d ≡ c → ⊥) → sees c (word d ∷ []) ≡ false
 unfolding sees
 sees-word c d h = ap (λ (b : Bool). b || false) (ne_eqb d c h)
@@ -420,17 +403,17 @@ module _ (W₁ W₃ W₄ : List Sort) (c k l h d : ℕ) {low more number : ℕ} 
 
   before-arrow : (a : ℕ) {b : Bool} → sees a W₁ ≡ b → (t.Fn ≡ a → ⊥) → (c ≡ a → ⊥) → (t.LParen ≡ a → ⊥) → (a ≡ t.Comma → ⊥) → (t.RParen ≡ a → ⊥) → sees a w₆ ≡ b
   before-arrow a e n₁ n₂ n₃ n₄ n₅ =
-      unseen a (w₄ ++ W₃) (word t.RParen ∷ []) (unseen a w₄ W₃ (unseen a ((W₁ ++ (word t.Fn ∷ [])) ++ (word c ∷ [])) (word t.LParen ∷ []) (unseen a (W₁ ++ (word t.Fn ∷ [])) (word c ∷ []) (unseen a W₁ (word t.Fn ∷ []) e (sees-word a t.Fn n₁)) (sees-word a c n₂)) (sees-word a t.LParen n₃))
+      unseen-append a (w₄ ++ W₃) (word t.RParen ∷ []) (unseen-append a w₄ W₃ (unseen-append a ((W₁ ++ (word t.Fn ∷ [])) ++ (word c ∷ [])) (word t.LParen ∷ []) (unseen-append a (W₁ ++ (word t.Fn ∷ [])) (word c ∷ []) (unseen-append a W₁ (word t.Fn ∷ []) e (sees-word a t.Fn n₁)) (sees-word a c n₂)) (sees-word a t.LParen n₃))
       (only-others t.Comma a n₄ W₃ commas)) (sees-word a t.RParen n₅)
 
   sees-pub : sees t.Pub w₈ ≡ sees t.Pub W₁
   sees-pub =
-      unseen t.Pub (w₆ ++ W₄) (child k l h d ∷ []) (unseen t.Pub w₆ W₄ (before-arrow t.Pub refl (λ e. omega arith) (name-no-pub c name) (λ e. omega arith) (λ e. omega arith) (λ e. omega arith)) (others₄ t.Pub (λ e. omega arith)))
+      unseen-append t.Pub (w₆ ++ W₄) (child k l h d ∷ []) (unseen-append t.Pub w₆ W₄ (before-arrow t.Pub refl (λ e. omega arith) (name-no-pub c name) (λ e. omega arith) (λ e. omega arith) (λ e. omega arith)) (others₄ t.Pub (λ e. omega arith)))
       (sees_child t.Pub k l h d)
 
   sees-arrow : sees t.Arrow w₈ ≡ sees t.Arrow W₄
   sees-arrow =
-      unseen t.Arrow (w₆ ++ W₄) (child k l h d ∷ [])
+      unseen-append t.Arrow (w₆ ++ W₄) (child k l h d ∷ [])
       (sees-append t.Arrow w₆ W₄
       ∙ ap (λ (b : Bool). b || sees t.Arrow W₄) (before-arrow t.Arrow (others₁ t.Arrow (λ e. omega arith)) (λ e. omega arith) (name-no-arrow c name) (λ e. omega arith) (λ e. omega arith) (λ e. omega arith)))
       (sees_child t.Arrow k l h d)
@@ -448,15 +431,11 @@ module _ (W₁ W₃ W₄ : List Sort) (c k l h d : ℕ) {low more number : ℕ} 
 
 -- Its low is small.
 pub low_fits : (v w : List Sort) {low more : ℕ} → low ≡ cond (sees t.Pub v) 1 0 → more ≡ cond (sees t.Arrow w) 2 0 → low + more < u32_count
-low_fits v w {low} {more} e f = omega (arith, one (sees t.Pub v), two (sees t.Arrow w))
+low_fits v w {low} {more} e f = omega (arith, most (sees t.Pub v) 1, most (sees t.Arrow w) 2)
   where
-    one : (b : Bool) → cond b 1 0 ≤ 1
-    one true = omega arith
-    one false = omega arith
-
-    two : (b : Bool) → cond b 2 0 ≤ 2
-    two true = omega arith
-    two false = omega arith
+    most : (b : Bool) (n : ℕ) → cond b n 0 ≤ n
+    most true n = omega arith
+    most false n = omega arith
 
 -- A token of its own.
 pub owns : (a b : ℕ) → 1 ≤ (a + 1) + b

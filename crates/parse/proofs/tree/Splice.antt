@@ -1,22 +1,11 @@
 -- Runs of words written into a buffer.
 -- Assumes nothing.
-use Rattle.std.proofs.Common.{◌≡◌, ℕ, suc, ◌+◌, ◌-◌, ◌*◌, ◌<◌, ◌≤◌, List, [], ◌∷◌, ◌++◌, length, take, drop, set, sym, refl, ap, ◌∙◌, append_assoc, arith, length-append, length-take-le, take_at, drop_at}
-use lib.Seq.{sets, sets-eq, length-sets, set_comm}
+use Rattle.std.proofs.Common.{◌≡◌, ℕ, ◌+◌, ◌-◌, ◌*◌, ◌<◌, ◌≤◌, List, [], ◌++◌, length, take, drop, sym, ap, ◌∙◌, append_assoc, arith, length-append, length-take-le, take_at, drop_at}
+use lib.Seq.{sets, sets-eq, length-sets}
 use Rattle.text.specs.Widths.{rec_wide}
-use Rattle.text.proofs.Sets.{sets-append}
+use Rattle.text.proofs.Sets.{sets-append, sets-sets}
 use Rattle.own.specs.Words.{rec_then}
 use Rattle.parse.specs.Contract.{Halved, Put}
-
--- a word in front can be written last
-sets-set : (ws l : List ℕ) (i j x : ℕ) → i < j → sets (set l i x) j ws ≡ set (sets l j ws) i x
-sets-set [] l i j x h = refl
-sets-set (w ∷ ws) l i j x h =
-    ap (λ (m : List ℕ). sets m (suc j) ws) (set_comm l i j x w (omega arith)) ∙ sets-set ws (set l j w) i (suc j) x (omega arith)
-
--- so can a run of words in front
-sets-sets : (vs ws l : List ℕ) (i j : ℕ) → i + length vs ≤ j → sets (sets l i vs) j ws ≡ sets (sets l j ws) i vs
-sets-sets [] ws l i j h = refl
-sets-sets (v ∷ vs) ws l i j h = sets-sets vs ws (set l i v) (suc i) j (omega arith) ∙ ap (λ (m : List ℕ). sets m (suc i) vs) (sets-set ws l i j v (omega arith))
 
 -- The header law: a record written after what lies below it.
 pub header : (l : List ℕ) {l₁ l' : List ℕ} (ws : List ℕ) (out k b e low high z : ℕ) → l₁ ≡ sets l (rec_wide * (out + 1)) ws → Put l₁ out k b e low high z l' → Halved k low high → rec_wide * out + rec_wide ≤ length l

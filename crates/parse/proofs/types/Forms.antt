@@ -1,6 +1,6 @@
 -- Types: their rules in grammar's table, and the heads of their records.
 -- Assumes nothing.
-use Rattle.std.proofs.Common.{◌≡◌, ℕ, zero, suc, ◌-◌, ◌^◌, ◌<◌, ◌≤◌, Bool, true, false, cond, not, ◌&&◌, ◌||◌, T, eqb, ltb, leb, List, [], ◌∷◌, length, take, drop, sym, refl, ap, ◌∙◌, subst, ap₂, arith, eqb→eq, ltb→lt, ne_eqb}
+use Rattle.std.proofs.Common.{◌≡◌, ℕ, zero, suc, ◌-◌, ◌^◌, ◌<◌, ◌≤◌, Bool, true, false, cond, not, ◌&&◌, ◌||◌, T, eqb, ltb, leb, List, [], ◌∷◌, length, take, drop, sym, refl, ap, ◌∙◌, ap₂, arith, eqb→eq, ltb→lt, ne_eqb}
 use mathlib.Core.Option.{none, some}
 use Rattle.text.specs.Part.{part_of}
 use Rattle.text.specs.Refusals.{refusal_number}
@@ -23,12 +23,11 @@ use Rattle.grammar.specs.Shapes.Shapes.{shapes}
 use Rattle.grammar.specs.Shapes.Tables.{means, table}
 use Rattle.grammar.specs.Records.Records.{Head, head, wide, plain, sees, head_of, form_of, low_half, high_half, type_name_head, text_of, first_of, opening, decimal, place_in, aMark, role_of}
 use Rattle.grammar.specs.Records.Faults.{unless, faults_at, earliest}
-use Rattle.std.specs.Prelude.{Option, None}
-use Rattle.text.specs.declared.refusal.Refusal.{Refusal}
+use Rattle.std.specs.Prelude.{None}
 use Rattle.grammar.specs.Shapes.ShapeKind.{ArrayTypeShape, EitherTypeShape, ListTypeShape, NamedTypeShape, OptionTypeShape, TupleTypeShape}
 use Rattle.grammar.specs.Shapes.TablesIndex.{n-either_type-optional-LAngle, n-list-type, n-list_type-optional-LAngle, n-named_type, n-option_type-optional-LAngle, n-tail-type, n-type}
-use Rattle.parse.specs.Contract.{Text, fault_at, bound_fault, length_fault, Judged}
 use Rattle.parse.specs.declared.State.{State}
+use Rattle.parse.specs.Contract.{Text, fault, fault_at, bound_fault, length_fault}
 use Rattle.parse.specs.Choice as choice
 use Rattle.parse.proofs.choice.Chosen.{where-chosen, alone, is-alone, hit, miss, goes}
 use Rattle.parse.proofs.Rule.Marks.{keeping, keeping-mark, keeps-between}
@@ -240,8 +239,8 @@ module _ (draft : List ℕ) where
       (λ i. earliest (unless (not (sees t.LAngle (e i)) || bound_ok (number_of (text_of draft (f i)))) (refusal_number refusal.Bound) (f i))) ∙ (λ i. earliest (unless (bound_ok (sym g i)) (refusal_number refusal.Bound) y))
       ∙ unless-is y (bound_ok v) refusal.Bound
 
-  pub list-alone-fault : (is : Items) → sorts is ≡ word t.List ∷ [] → earliest (faults_at draft ListTypeShape is) ≡ fault_at None 0
-  unfolding faults_at sees decimal number_of unless earliest fault_at
+  pub list-alone-fault : (is : Items) → sorts is ≡ word t.List ∷ [] → earliest (faults_at draft ListTypeShape is) ≡ fault None
+  unfolding faults_at sees decimal number_of unless earliest fault
   list-alone-fault is e = λ i. earliest (unless (not (sees t.LAngle (e i)) || bound_ok (number_of (text_of draft (first_of t.DecLiteral (marks is))))) (refusal_number refusal.Bound) (first_of t.DecLiteral (marks is)))
 
   pub array-fault : (is : Items) (v : Value) (y : Tok) → first_of t.DecLiteral (marks is) ≡ y → v ≡ number_of (text_of draft y) → earliest (faults_at draft ArrayTypeShape is) ≡ fault_at (length_fault v) y.start
@@ -249,10 +248,6 @@ module _ (draft : List ℕ) where
   array-fault is v y f g =
       (λ i. earliest (unless (length_ok (number_of (text_of draft (f i)))) (refusal_number refusal.Length) (f i))) ∙ (λ i. earliest (unless (length_ok (sym g i)) (refusal_number refusal.Length) y))
       ∙ unless-is y (length_ok v) refusal.Length
-
--- The refusal of a number stands at its token.
-pub judged-at : {outer inner r : State} {n n' : Option Refusal} {p p' : ℕ} → Judged outer inner n p r → n ≡ n' → p ≡ p' → Judged outer inner n' p' r
-judged-at {outer} {inner} {r} {n' = n'} {p = p} j e f = subst (λ q. Judged outer inner n' q r) f (subst (λ q. Judged outer inner q p r) e j)
 
 -- A name of a type: its class is not 0, and the head of its record.
 module _ (c : ℕ) where
@@ -273,7 +268,7 @@ type-kind c = go (eqb c t.bool) (has t.unsigned_types c) (has t.builtin_types c)
     go false false true = (omega arith, omega arith)
     go false false false = (omega arith, omega arith)
 
-module _ {k low : ℕ} (c : ℕ) (e : head k low 0 ≡ type_name_head c) where
+module _ {k low high : ℕ} (c : ℕ) (e : head k low high ≡ type_name_head c) where
   kind-is : (kind.Alias ≤ k) × (k ≤ kind.Unsigned)
   kind-is = let h = type-kind c in let f : k ≡ (type_name_head c).kind = ap (λ (u : Head). u.kind) e in (omega arith, omega arith)
 
@@ -289,6 +284,6 @@ module _ {k low : ℕ} (c : ℕ) (e : head k low 0 ≡ type_name_head c) where
   pub named-role : (d : ℕ) → role_of k d ≡ aMark
   named-role d = keeping-mark k d keeping-kind
 
-pub named-head : (x : Text) (t : Tok) (c : ℕ) {k low : ℕ} → head k low 0 ≡ type_name_head c → decided x NamedTypeShape (word c ∷ []) (t ∷ []) ≡ head k low 0
+pub named-head : (x : Text) (t : Tok) (c : ℕ) {k low high : ℕ} → head k low high ≡ type_name_head c → decided x NamedTypeShape (word c ∷ []) (t ∷ []) ≡ head k low high
 unfolding head_of form_of opening
 named-head x t c e = sym e

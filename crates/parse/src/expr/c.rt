@@ -6,14 +6,23 @@ ghost use Rattle.grammar.specs.Shapes.Tables.{table};
 ghost use Rattle.grammar.specs.Shapes.TablesIndex.{n-single, n-arguments, n-path};
 ghost use Rattle.parse.specs.Choice as choice;
 ghost use Rattle.parse.specs.Contract.{text, Ready, Near, Moved, reserved, Parses, Node, ExprKind, Wraps};
-ghost use Rattle.parse.specs.Infos.{Begun, Generic, Leads, Args, Path};
+ghost use Rattle.parse.specs.Infos.{Begun, Angled, Generic, Leads, Args, Path};
 
 use crate::names::NameSort;
 use crate::token::Source;
-use crate::{State, Step, choice, expr, fault, names, tree, types};
+use crate::tree::Head;
+use crate::{State, Step, expr, fault, names, tree, types};
 use lexer::classes as class;
 use own::call::CallName;
 use own::kind::Kind;
+
+// The calls that `::<..>` may belong to, by what stands in it: a type, a function and a number, or a function.
+#[derive(Clone, Copy, PartialEq, Eq, Debug)]
+pub(crate) enum GenericCall {
+    Typed,
+    Folding,
+    ForWhile,
+}
 
 // `(e, …)`; and 1 if it is one expression without a comma.
 #[cycle(expression)]
@@ -61,7 +70,7 @@ pub(crate) fn simple(source: &Source, tree: &mut [u32], st: State) -> Step
     let Step::Next(z, _, _) = inner else {
         return inner;
     };
-    tree::close(tree, st, z, Kind::Call, u32::from(names::call(st.class)), 0);
+    tree::close(tree, st, z, Head::of_call(names::call(st.class)));
     Step::Next(z, 0, 0)
 }
 
@@ -94,7 +103,7 @@ pub(crate) fn cast(source: &Source, tree: &mut [u32], st: State) -> Step
     let Step::Next(z, _, _) = rest else {
         return rest;
     };
-    tree::close(tree, st, z, Kind::Call, u32::from(CallName::TypeCast), 0);
+    tree::close(tree, st, z, Head::of_call(CallName::TypeCast));
     Step::Next(z, 0, 0)
 }
 
@@ -115,14 +124,16 @@ pub(crate) fn named(source: &Source, tree: &mut [u32], st: State) -> Step
             built(source, tree, st, b)
         }
         _ => {
-            tree::close(tree, st, a, Kind::Variable, 0, 0);
+            tree::close(tree, st, a, Head::plain(Kind::Variable));
             return Step::Next(a, 0, 0);
         }
     };
     step
 }
 
-// A call of a name, from its arguments on; a wrapper where it is one expression and no comma.
+// A call of a name, from its arguments on; a wrapper where it is one expression and no comma. The record begins at `st`, the name, and reading goes on
+// at `a`: two states here and below, whose second has another fact in each function.
+// Its end is that of `simple`, with the arguments laid out here, since calls of a name are the most.
 #[cycle(expression)]
 #[inline(never)]
 fn called(source: &Source, tree: &mut [u32], st: State, a: State) -> Step
@@ -140,7 +151,7 @@ fn called(source: &Source, tree: &mut [u32], st: State, a: State) -> Step
     let Step::Next(z, _, _) = inner else {
         return inner;
     };
-    tree::close(tree, st, z, Kind::Call, u32::from(names::call(st.class)), 0);
+    tree::close(tree, st, z, Head::of_call(names::call(st.class)));
     Step::Next(z, 0, 0)
 }
 
@@ -148,10 +159,9 @@ fn called(source: &Source, tree: &mut [u32], st: State, a: State) -> Step
 #[cycle(expression)]
 fn wrap(source: &Source, tree: &mut [u32], st: State, a: State, kind: Kind) -> Step
     requires ready { Ready (text source.now) st }
-    requires class_value { choose table n-single st.class ≡ choice.Named }
-    requires class_value_2 { Wraps st.class (Some kind) }
+    requires wraps { Wraps st.class (Some kind) }
     requires moved { Moved (text source.now) (reserved st) a }
-    requires class_value_3 { a.class ≡ t.LParen }
+    requires class_value { a.class ≡ t.LParen }
     ensures { Parses n-single (Node ExprKind) (text source.now) st tree.old tree.new result }
 {
     let inner = args(source, tree, a);
@@ -159,12 +169,12 @@ fn wrap(source: &Source, tree: &mut [u32], st: State, a: State, kind: Kind) -> S
         return inner;
     };
     if lone == 1 {
-        tree::close(tree, st, b, kind, 0, 0);
+        tree::close(tree, st, b, Head::plain(kind));
         return Step::Next(b, 0, 0);
     }
-    let z = tree::child(tree, st, b, Kind::Name, 0, 0);
+    let z = tree::name(tree, st, b);
     tree::exchange(tree, a.out, b.out, z.out);
-    tree::close(tree, st, z, Kind::Call, u32::from(CallName::Custom), 0);
+    tree::close(tree, st, z, Head::of_call(CallName::Custom));
     Step::Next(z, 0, 0)
 }
 
@@ -177,12 +187,17 @@ fn built(source: &Source, tree: &mut [u32], st: State, b: State) -> Step
     requires begun { Begun (text source.now) (reserved st) b }
     ensures { Parses n-single (Node ExprKind) (text source.now) st tree.old tree.new result }
 {
-    let d = tree::child(tree, st, b, Kind::Name, 0, 0);
+    let d = tree::name(tree, st, b);
     let rest = path(source, tree, d);
     let Step::Next(z, number, _) = rest else {
         return rest;
     };
-    tree::close(tree, st, z, Kind::EnumConstruction, number + 1, 0);
+    tree::close(
+        tree,
+        st,
+        z,
+        Head::with_low(Kind::EnumConstruction, number + 1),
+    );
     Step::Next(z, 0, 0)
 }
 
@@ -207,6 +222,7 @@ fn path(source: &Source, tree: &mut [u32], st: State) -> Step
 }
 
 // A name that is no call: `None`, a variable or the beginning of an enum construction.
+// It begins as `named` and `generic` do, but goes on by other classes, and a name alone is `None` only here.
 #[cycle(expression)]
 #[inline(never)]
 pub(crate) fn bare(source: &Source, tree: &mut [u32], st: State) -> Step
@@ -216,44 +232,44 @@ pub(crate) fn bare(source: &Source, tree: &mut [u32], st: State) -> Step
 {
     let a = source.advance(tree::reserve(st));
     if a.class != class::DOUBLE_COLON {
-        tree::close(tree, st, a, names::alone(st.class), 0, 0);
+        tree::close(tree, st, a, Head::plain(names::alone(st.class)));
         return Step::Next(a, 0, 0);
     }
     let b = source.advance(a);
     built(source, tree, st, b)
 }
 
-// A name that `::<..>` may follow, by its rule: a call with that, an enum construction or a variable.
+// A name that `::<..>` may follow: a call with that, an enum construction or a variable.
 #[cycle(expression)]
 #[inline(never)]
-pub(crate) fn generic(source: &Source, tree: &mut [u32], st: State, rule: u32) -> Step
+pub(crate) fn generic(source: &Source, tree: &mut [u32], st: State, call: GenericCall) -> Step
     requires ready { Ready (text source.now) st }
-    requires generic { Generic st.class rule }
+    requires generic { Generic st.class call }
     ensures { Parses n-single (Node ExprKind) (text source.now) st tree.old tree.new result }
 {
     let a = source.advance(tree::reserve(st));
     if a.class != class::DOUBLE_COLON {
-        tree::close(tree, st, a, Kind::Variable, 0, 0);
+        tree::close(tree, st, a, Head::plain(Kind::Variable));
         return Step::Next(a, 0, 0);
     }
     let b = source.advance(a);
     if b.class != class::LANGLE {
         return built(source, tree, st, b);
     }
-    match rule {
-        choice::TYPED => of_type(source, tree, st, b),
-        choice::FOLDING => bound(source, tree, st, b),
-        _ => loops(source, tree, st, b),
+    match call {
+        GenericCall::Typed => of_type(source, tree, st, b),
+        GenericCall::Folding => bound(source, tree, st, b),
+        GenericCall::ForWhile => loops(source, tree, st, b),
     }
 }
 
-// `unwrap_left::<T>(e, …)` and kin, from `<` on.
+// `unwrap_left::<T>(e, …)` and kin, from `<` on. That `b` is there (`Angled`) is a clause of these three and no ghost field beside it, since it speaks
+// of the text and of `st` too.
 #[cycle(expression)]
 fn of_type(source: &Source, tree: &mut [u32], st: State, b: State) -> Step
     requires ready { Ready (text source.now) st }
     requires class_value { choose table n-single st.class ≡ choice.Typed }
-    requires begun { Begun (text source.now) (reserved st) b }
-    requires class_value_2 { b.class ≡ t.LAngle }
+    requires angled { Angled (text source.now) (reserved st) b }
     ensures { Parses n-single (Node ExprKind) (text source.now) st tree.old tree.new result }
 {
     let d = source.advance(b);
@@ -269,7 +285,7 @@ fn of_type(source: &Source, tree: &mut [u32], st: State, b: State) -> Step
     let Step::Next(z, _, _) = rest else {
         return rest;
     };
-    tree::close(tree, st, z, Kind::Call, u32::from(names::call(st.class)), 0);
+    tree::close(tree, st, z, Head::of_call(names::call(st.class)));
     Step::Next(z, 0, 0)
 }
 
@@ -278,8 +294,7 @@ fn of_type(source: &Source, tree: &mut [u32], st: State, b: State) -> Step
 fn bound(source: &Source, tree: &mut [u32], st: State, b: State) -> Step
     requires ready { Ready (text source.now) st }
     requires class_value { choose table n-single st.class ≡ choice.Folding }
-    requires begun { Begun (text source.now) (reserved st) b }
-    requires class_value_2 { b.class ≡ t.LAngle }
+    requires angled { Angled (text source.now) (reserved st) b }
     ensures { Parses n-single (Node ExprKind) (text source.now) st tree.old tree.new result }
 {
     let d = source.advance(fault::clean(b));
@@ -303,19 +318,20 @@ fn bound(source: &Source, tree: &mut [u32], st: State, b: State) -> Step
     let Step::Next(y, _, _) = rest else {
         return rest;
     };
-    tree::close(tree, st, y, Kind::Call, u32::from(names::call(st.class)), 0);
+    tree::close(tree, st, y, Head::of_call(names::call(st.class)));
     let n = names::number(source.draft, g);
-    let z = fault::judged(st, y, names::size_fault(st.class, n), g.start);
+    let own = fault::placed(names::size_fault(st.class, n), g.start);
+    let z = fault::judged(st, y, own);
     Step::Next(z, 0, 0)
 }
 
-// `for_while::<f>(e, …)`, from `<` on.
+// `for_while::<f>(e, …)`, from `<` on. It differs from `of_type` in what stands between the angles and in the call. One function would match on
+// `GenericCall` again, as `generic` has just done, and its contract would have to speak of two alternatives.
 #[cycle(expression)]
 fn loops(source: &Source, tree: &mut [u32], st: State, b: State) -> Step
     requires ready { Ready (text source.now) st }
     requires class_value { choose table n-single st.class ≡ choice.ForWhile }
-    requires begun { Begun (text source.now) (reserved st) b }
-    requires class_value_2 { b.class ≡ t.LAngle }
+    requires angled { Angled (text source.now) (reserved st) b }
     ensures { Parses n-single (Node ExprKind) (text source.now) st tree.old tree.new result }
 {
     let d = source.advance(b);
@@ -331,6 +347,6 @@ fn loops(source: &Source, tree: &mut [u32], st: State, b: State) -> Step
     let Step::Next(z, _, _) = rest else {
         return rest;
     };
-    tree::close(tree, st, z, Kind::Call, u32::from(CallName::ForWhile), 0);
+    tree::close(tree, st, z, Head::of_call(CallName::ForWhile));
     Step::Next(z, 0, 0)
 }

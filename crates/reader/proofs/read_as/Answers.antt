@@ -31,9 +31,6 @@ overflow_mul-counts-2 c =
     let h = law.records-room (entry_of c.args.what) c.args.draft.now c.args.tree.now (length c.args.tokens.now) (sym r.ensures.answer ∙ ap meant c.in-Ok.is) in
     omega (arith, h)
 
-pub returns-clause-answer : goal.returns-clause-answer
-returns-clause-answer c = sym (ap meant c.in-Ok.is) ∙ c.read_front-reading.ensures.answer
-
 pub returns-clause-tokens : goal.returns-clause-tokens
 returns-clause-tokens c =
     let r = c.read_front-reading in

@@ -9,9 +9,6 @@ returns-then-tree-records c = raise-none _ _ c.if-tree-records.true
 pub returns-then-records-eq0 : goal.returns-then-records-eq0
 returns-then-records-eq0 c = raise-nothing _ _ c.if-records-eq0.true
 
-pub above-p-requires-clause-i_nonzero : goal.above-p-requires-clause-i_nonzero
-above-p-requires-clause-i_nonzero c = c.loop-i.invariant.some
-
 pub above-p-requires-clause-before_value : goal.above-p-requires-clause-before_value
 above-p-requires-clause-before_value c = raised-at c.loop-i.invariant
 

@@ -28,7 +28,7 @@ loop-kind-preserved-in-Token c =
       | else-not-put w ↦ w.over-is ∙ over-stays _ _ _ _ (sym c.put.ensures.is_written ∙ w.if-not-put.false)
     ]
     in
-    rw (c.nest_after-nest.ensures, o, c.put.ensures.out_after)
+    rw (c.after-nest.ensures, o, c.put.ensures.out_after)
     (fill-token l.invariant _ _ (sym c.step_with-found.ensures ∙ c.in-Token.is) c.requires.1)
 
 pub loop-kind-smaller : goal.loop-kind-smaller

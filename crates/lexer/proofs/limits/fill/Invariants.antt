@@ -1,11 +1,12 @@
 -- The lexemes that are left, with the tokens found, are those of the draft.
 -- Assumes nothing.
 use Rattle.std.proofs.Common.{◌-◌, length}
+use Rattle.lexer.specs.Nesting.{known}
 use Rattle.lexer.proofs.Filling.{Filling}
 use Rattle.lexer.proofs.limits.fill.Given as goal
 
 abbrev pub invariant-loop-kind : goal.invariant-loop-kind
-invariant-loop-kind l = Filling l.draft l.room l.fn.out l.at l.n l.over l.nest l.out
+invariant-loop-kind l = Filling l.draft l.room l.fn.out l.at l.n l.over (known l.nest.counts.depth l.nest.counts.row l.nest.passed) l.out
 
 abbrev pub decreases-loop-kind : goal.decreases-loop-kind
 decreases-loop-kind l = length l.draft - l.at

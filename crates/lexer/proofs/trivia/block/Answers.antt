@@ -41,7 +41,12 @@ returns-in_default c =
     let j = c.loop-j.j in
     let t = c.loop-j-test.true in
     let h : j < length s = omega arith in
-    c.broken.ensures ∙ block-broken s _ p.0 p.1 p.2 j _ v.4 h (none-length _ (sym c.in_default.is ∙ c.sequence.ensures.answer)) v.3
+    c.broken.ensures ∙ block-broken s _ p.0 p.1 p.2 j _ v.4 h (none-length _ (sym c.in_default.is ∙ c.wide.ensures)) v.3
+
+pub overflow_add-j-then-b-gt-LAST_ASCII : goal.overflow_add-j-then-b-gt-LAST_ASCII
+overflow_add-j-then-b-gt-LAST_ASCII c =
+    let h = sequence-within c.args.s.now c.loop-j.j 0 _ (found-length _ _ (sym c.in-Some.is ∙ c.wide.ensures)) c.loop-j.invariant.0 in
+    omega arith
 
 pub loop-j-preserved-then-b-gt-LAST_ASCII : goal.loop-j-preserved-then-b-gt-LAST_ASCII
 loop-j-preserved-then-b-gt-LAST_ASCII c =
@@ -53,11 +58,11 @@ loop-j-preserved-then-b-gt-LAST_ASCII c =
     let o = past-neither (get_or s j 0) (get_or s (j + 1) 0) (omega (arith, c.if-b-gt-LAST_ASCII.true)) in
     let l = v.1 in
     let d = v.2 in (
-      sequence-within s j 0 _ (found-length _ _ (sym c.in-Some.is ∙ c.sequence.ensures.answer)) v.0,
+      sequence-within s j 0 _ (found-length _ _ (sym c.in-Some.is ∙ c.wide.ensures)) v.0,
       omega arith,
       omega arith,
-      block-next s j _ (found-length _ _ (sym c.in-Some.is ∙ c.sequence.ensures.answer)) (found-some _ _ (sym c.in-Some.is ∙ c.sequence.ensures.answer)) _ h o ∙ v.3,
-      good-next _ _ _ _ v.4 (found-length _ _ (sym c.in-Some.is ∙ c.sequence.ensures.answer)) (found-some _ _ (sym c.in-Some.is ∙ c.sequence.ensures.answer)),
+      block-next s j _ (found-length _ _ (sym c.in-Some.is ∙ c.wide.ensures)) (found-some _ _ (sym c.in-Some.is ∙ c.wide.ensures)) _ h o ∙ v.3,
+      good-next _ _ _ _ v.4 (found-length _ _ (sym c.in-Some.is ∙ c.wide.ensures)) (found-some _ _ (sym c.in-Some.is ∙ c.wide.ensures)),
     )
 
 pub loop-j-preserved-in-Opens : goal.loop-j-preserved-in-Opens

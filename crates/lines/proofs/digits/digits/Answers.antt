@@ -1,6 +1,6 @@
 -- Assumes nothing.
 use Rattle.std.proofs.Common.{arith}
-use Rattle.lines.proofs.TwoDigits.{paired-start, paired-more, paired-end, zeros-written}
+use Rattle.lines.proofs.TwoDigits.{paired-start, paired-more, zeros-written}
 use Rattle.lines.proofs.digits.digits.Goals as goal
 
 pub returns-then-v-eq0 : goal.returns-then-v-eq0
@@ -11,6 +11,3 @@ loop-i-init g c = paired-start _ _ _ _
 
 pub loop-i-preserved : goal.loop-i-preserved
 loop-i-preserved g c = paired-more c.loop-i.invariant (omega arith) c.pair.ensures
-
-pub returns : goal.returns
-returns g c = paired-end c.loop-i.invariant (omega arith) c.requires.even

@@ -3,5 +3,5 @@ use Rattle.lines.specs.Lines.{widths}
 use Rattle.lines.proofs.Listing.{Listing}
 use Rattle.lines.proofs.write.lines.Given as goal
 
-abbrev pub invariant-loop-i : goal.invariant-loop-i
-invariant-loop-i l = Listing l.fn.out widths l.tree l.records l.out l.p l.i
+abbrev pub invariant-loop-words : goal.invariant-loop-words
+invariant-loop-words l = Listing l.fn.out widths l.records l.out l.p l.words-index

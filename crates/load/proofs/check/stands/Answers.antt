@@ -1,19 +1,28 @@
 -- `stands` meets its contract.
 -- Assumes nothing.
-use Rattle.std.proofs.Common.{arith}
+use Rattle.std.proofs.Common.{sym, ◌∙◌, arith, leb→le, true≢false}
 use Rattle.load.proofs.Listing.RecordLaws.{records-many}
 use Rattle.load.proofs.CheckLaws.{stands-none, stands-over, stands-place, stands-is}
 use Rattle.load.proofs.Told.{told-so}
+use Rattle.load.proofs.check.stands.Goals.{then-r-ne0, else-r-ne0, then-r-left, else-r-left}
 use Rattle.load.proofs.check.stands.Goals as goal
 
-pub returns-then-r-eq0 : goal.returns-then-r-eq0
-returns-then-r-eq0 c = stands-none _ _ _ c.record-r.ensures c.if-r-eq0.true
+pub returns-then-placed : goal.returns-then-placed
+returns-then-placed c =
+    elim c.if-r-left.branch [
+      | then-r-left w ↦ elim c.if-r-ne0.branch [
+        | then-r-ne0 v ↦ stands-is _ _ _ c.record-r.ensures (omega arith) (omega arith) (omega (arith, v.if-r-ne0.true)) (omega (arith, leb→le _ _ (told-so _ w.if-r-left.true v.value-is), c.count.ensures, records-many c.args.listing.now, c.requires)) (told-so _ (sym w.value-is ∙ c.if-placed.true) w.placed.ensures) c.walk.ensures.is c.verdict.ensures
+        | else-r-ne0 v ↦ absurd (true≢false (sym w.if-r-left.true ∙ v.value-is ∙ simp v.if-r-ne0.false))
+      ]
+      | else-r-left w ↦ absurd (true≢false (sym c.if-placed.true ∙ w.value-is ∙ w.if-r-left.false))
+    ]
 
-pub returns-then-r-count : goal.returns-then-r-count
-returns-then-r-count c = stands-over _ _ _ c.record-r.ensures (omega (arith, c.count.ensures, records-many c.args.listing.now, c.if-r-count.true))
-
-pub returns-then-not-placed : goal.returns-then-not-placed
-returns-then-not-placed c = stands-place _ _ _ c.record-r.ensures c.placed.ensures c.if-not-placed.true
-
-pub returns : goal.returns
-returns c = stands-is _ _ _ c.record-r.ensures (omega arith) (omega arith) (omega (arith, c.if-r-eq0.false)) (omega (arith, c.if-r-count.false, c.count.ensures, records-many c.args.listing.now, c.requires)) (told-so _ c.if-not-placed.false c.placed.ensures) c.start-state.ensures.is c.walk-walked.ensures.is c.verdict.ensures
+pub returns-else-placed : goal.returns-else-placed
+returns-else-placed c =
+    elim c.if-r-left.branch [
+      | then-r-left w ↦ c.if-placed.false ∙ stands-place _ _ _ c.record-r.ensures w.placed.ensures (sym w.value-is ∙ c.if-placed.false)
+      | else-r-left w ↦ elim c.if-r-ne0.branch [
+        | then-r-ne0 v ↦ w.value-is ∙ w.if-r-left.false ∙ stands-over _ _ _ c.record-r.ensures (c.count.ensures ∙ sym (records-many c.args.listing.now)) (sym v.value-is ∙ w.if-r-left.false)
+        | else-r-ne0 v ↦ w.value-is ∙ w.if-r-left.false ∙ stands-none _ _ _ c.record-r.ensures v.if-r-ne0.false
+      ]
+    ]

@@ -4,4 +4,4 @@ use Rattle.load.proofs.WriteLaws.{Filling}
 use Rattle.load.proofs.line.values.Given as goal
 
 abbrev pub invariant-loop-k : goal.invariant-loop-k
-invariant-loop-k l = Filling l.fn.out l.widths l.text l.at l.w l.out l.p l.k
+invariant-loop-k g l = Filling l.widths l.line l.numbers l.p l.k

@@ -11,4 +11,4 @@ use Rattle.parse.proofs.choice.aliases.Goals as goal
 
 pub returns : goal.returns
 unfolding alias_choices
-returns c = c.entry.ensures ∙ entry-is (choose table n-alias_name) alias_choices choice.Absent alias-at alias-named no-alias c.args.class
+returns c = c.at.ensures ∙ entry-is (choose table n-alias_name) alias_choices choice.Absent alias-at alias-named no-alias c.args.class

@@ -9,4 +9,4 @@ use Rattle.parse.proofs.choice.heads.Goals as goal
 
 pub returns : goal.returns
 unfolding head_choices
-returns c = c.entry.ensures ∙ entry-is head_sort head_choices choice.NamedHead head_at head-named head-past c.args.class
+returns c = c.at.ensures ∙ entry-is head_sort head_choices choice.NamedHead head_at head-named head-past c.args.class

@@ -9,4 +9,4 @@ use Rattle.parse.proofs.choice.names.Goals as goal
 
 pub returns : goal.returns
 unfolding name_choices
-returns c = c.entry.ensures ∙ entry-is name_sort name_choices choice.FunctionName name-at name-named name-past c.args.class
+returns c = c.at.ensures ∙ entry-is name_sort name_choices choice.FunctionName name-at name-named name-past c.args.class

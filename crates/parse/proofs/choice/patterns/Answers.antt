@@ -11,4 +11,4 @@ use Rattle.parse.proofs.choice.patterns.Goals as goal
 
 pub returns : goal.returns
 unfolding pattern_choices
-returns c = c.entry.ensures ∙ entry-is (choose table n-pattern) pattern_choices choice.NamePattern pattern-at pattern-named pattern-past c.args.class
+returns c = c.at.ensures ∙ entry-is (choose table n-pattern) pattern_choices choice.NamePattern pattern-at pattern-named pattern-past c.args.class

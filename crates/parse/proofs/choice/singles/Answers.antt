@@ -11,4 +11,4 @@ use Rattle.parse.proofs.choice.singles.Goals as goal
 
 pub returns : goal.returns
 unfolding single_choices
-returns c = c.entry.ensures ∙ entry-is (choose table n-single) single_choices choice.Named single-at single-named single-past c.args.class
+returns c = c.at.ensures ∙ entry-is (choose table n-single) single_choices choice.Named single-at single-named single-past c.args.class

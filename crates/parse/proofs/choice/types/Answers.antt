@@ -11,4 +11,4 @@ use Rattle.parse.proofs.choice.types.Goals as goal
 
 pub returns : goal.returns
 unfolding type_choices
-returns c = c.entry.ensures ∙ entry-is (choose table n-type) type_choices choice.NamedType type_at type-named type-past c.args.class
+returns c = c.at.ensures ∙ entry-is (choose table n-type) type_choices choice.NamedType type_at type-named type-past c.args.class

@@ -9,18 +9,18 @@ use Rattle.own.specs.Law.{word, child}
 use Rattle.grammar.specs.Records.Records.{lone}
 use Rattle.grammar.specs.Shapes.Tables.{table}
 use Rattle.grammar.specs.Shapes.TablesIndex.{n-arguments, n-arm-choice, n-arm-choice-optional-Comma, n-bare-optional-DoubleColon, n-block, n-function_name, n-list-expression, n-named-optional, n-single, n-type}
-use Rattle.grammar.specs.Shapes.ShapeKind.{ArrayShape, AssignmentShape, BareShape, BlockShape, CastCallShape, FoldingShape, ForWhileShape, ListShape, NamedShape, ParensShape, SimpleCallShape, TypedShape}
+use Rattle.grammar.specs.Shapes.ShapeKind.{AssignmentShape, BareShape, BlockShape, CastCallShape, FoldingShape, ForWhileShape, ListShape, NamedShape, SimpleCallShape, TypedShape}
 use Rattle.own.specs.Numbers.{kind_number}
-use Rattle.parse.specs.Contract.{text, classes, tok_at, reserved, read, stuck, ExprKind}
+use Rattle.parse.specs.Contract.{text, classes, tok_at, reserved, read, stuck, ExprKind, opening_class, closing_class}
 use Rattle.parse.specs.Infos as info
 use Rattle.parse.proofs.names.Steps.{ready-near}
 use Rattle.parse.proofs.Rule.Amid.{starts, then_turns, then-passed}
 use Rattle.parse.proofs.Rule.Closing.{opens, opens-clean, as-nonterminal, enters}
 use Rattle.parse.proofs.Rule.Chain.{further, onward-ahead, advances, then-eats, then-lacks, then-node}
-use Rattle.parse.proofs.Rule.Marks.{sign-mark, keeping-mark, word-mark}
+use Rattle.parse.proofs.Rule.Marks.{sign_pos, sign-mark, opens-sign, closes-sign, keeping-mark, word-mark}
 use Rattle.parse.proofs.Rule.Commas.{AnyN}
 use Rattle.parse.proofs.Rule.Commas as lined
-use Rattle.parse.proofs.Rule.Heads.{shut, shut-judged, value-text}
+use Rattle.parse.proofs.Rule.Heads.{judged-at, shut, shut-judged, value-text}
 use Rattle.parse.proofs.names.Chain as chain2
 use Rattle.parse.proofs.pattern.Forms as pattern
 use Rattle.parse.proofs.expr.Elements as elem
@@ -101,13 +101,6 @@ arms-returns-in_default t c =
     let v = c.loop-here.invariant in
     arm-loop.arms-passed y v c.loop-here-test.true (refusal c.in_default.is) c.arm-inner.ensures
 
-pub arms-loop-here-smaller : goal.arms-loop-here-smaller
-arms-loop-here-smaller t c =
-    let y = c.requires.ready in
-    let v = c.loop-here.invariant in
-    let n = arm-loop.arms-again y v c.loop-here-test.true c.arm-inner.ensures c.in-Next.is c.after-order.ensures c.first_end-mid.ensures in
-    omega (arith, arm-loop.arm-ahead c.arm-inner.ensures c.in-Next.is, n.amid.lays.stands.within)
-
 pub arms-loop-here-preserved : goal.arms-loop-here-preserved
 arms-loop-here-preserved t c =
     let y = c.requires.ready in
@@ -120,49 +113,54 @@ arms-returns t c =
     let v = c.loop-here.invariant in
     read (arm-loop.arms-ends y v c.loop-here-test.false)
 
-pub array-exprs-inner-requires : goal.array-exprs-inner-requires
-array-exprs-inner-requires t c =
+pub bracketed-exprs-inner-requires : goal.bracketed-exprs-inner-requires
+bracketed-exprs-inner-requires t c =
     let y = c.requires.ready in
     let e = c.requires.class_value in
+    let b = c.args.brackets in
     let o = opens y c.reserve.ensures in
-    let d0 = starts kind.Array AnyN form.array_rhs c.args.tree.now o.stands in
-    let k = o.class_is ∙ form.at-array c.args.st.class e in
-    let d1 = advances d0 k (omega arith) c.advance-a.ensures (sign-mark kind.Array class.LBracket tt) in
+    let d0 = starts kind.Tuple AnyN (form.bracketed_rhs b) c.args.tree.now o.stands in
+    let k = o.class_is ∙ form.at-bracketed c.args.st.class b e in
+    let d1 = advances d0 k (sign_pos (opening_class b) (opens-sign b)) c.advance-a.ensures (sign-mark kind.Tuple (opening_class b) (opens-sign b)) in
     let f1 = further y o d1 (omega arith) in
     (omega (arith, f1.ahead, f1.within, c.decreases), f1.ready)
 
-pub array-returns-in_default : goal.array-returns-in_default
-array-returns-in_default t c =
+pub bracketed-returns-in_default : goal.bracketed-returns-in_default
+bracketed-returns-in_default t c =
     let y = c.requires.ready in
     let e = c.requires.class_value in
+    let b = c.args.brackets in
     let o = opens y c.reserve.ensures in
-    let d0 = starts kind.Array AnyN form.array_rhs c.args.tree.now o.stands in
-    let k = o.class_is ∙ form.at-array c.args.st.class e in
-    let d1 = advances d0 k (omega arith) c.advance-a.ensures (sign-mark kind.Array class.LBracket tt) in
-    then-passed d1 (refusal c.in_default.is) (enters form.array-rule y e o) c.exprs-inner.ensures
+    let d0 = starts kind.Tuple AnyN (form.bracketed_rhs b) c.args.tree.now o.stands in
+    let k = o.class_is ∙ form.at-bracketed c.args.st.class b e in
+    let d1 = advances d0 k (sign_pos (opening_class b) (opens-sign b)) c.advance-a.ensures (sign-mark kind.Tuple (opening_class b) (opens-sign b)) in
+    then-passed d1 (refusal c.in_default.is) (enters (form.bracketed-rule b) y e o) c.exprs-inner.ensures
 
-pub array-returns-in_default-bracket : goal.array-returns-in_default-bracket
-array-returns-in_default-bracket t c =
+pub bracketed-returns-in_default-end : goal.bracketed-returns-in_default-end
+bracketed-returns-in_default-end t c =
     let y = c.requires.ready in
     let e = c.requires.class_value in
+    let b = c.args.brackets in
     let o = opens y c.reserve.ensures in
-    let d0 = starts kind.Array AnyN form.array_rhs c.args.tree.now o.stands in
-    let k = o.class_is ∙ form.at-array c.args.st.class e in
-    let d1 = advances d0 k (omega arith) c.advance-a.ensures (sign-mark kind.Array class.LBracket tt) in
+    let d0 = starts kind.Tuple AnyN (form.bracketed_rhs b) c.args.tree.now o.stands in
+    let k = o.class_is ∙ form.at-bracketed c.args.st.class b e in
+    let d1 = advances d0 k (sign_pos (opening_class b) (opens-sign b)) c.advance-a.ensures (sign-mark kind.Tuple (opening_class b) (opens-sign b)) in
     let d2 = elem.then-lone d1 c.exprs-inner.ensures c.in-Next.is in
-    then-lacks d2.amid (refusal c.in_default-bracket.is) (enters form.array-rule y e o) c.eat-bracket.ensures
+    then-lacks d2.amid (refusal c.in_default-end.is) (enters (form.bracketed-rule b) y e o) (rw c.end.ensures at c.eat-end.ensures)
 
-pub array-returns : goal.array-returns
-array-returns t c =
+pub bracketed-returns : goal.bracketed-returns
+bracketed-returns t c =
     let y = c.requires.ready in
     let e = c.requires.class_value in
+    let b = c.args.brackets in
     let o = opens y c.reserve.ensures in
-    let d0 = starts kind.Array AnyN form.array_rhs c.args.tree.now o.stands in
-    let k = o.class_is ∙ form.at-array c.args.st.class e in
-    let d1 = advances d0 k (omega arith) c.advance-a.ensures (sign-mark kind.Array class.LBracket tt) in
+    let d0 = starts (kind_number c.kind.result) AnyN (form.bracketed_rhs b) c.args.tree.now o.stands in
+    let k = o.class_is ∙ form.at-bracketed c.args.st.class b e in
+    let d1 = advances d0 k (sign_pos (opening_class b) (opens-sign b)) c.advance-a.ensures (sign-mark (kind_number c.kind.result) (opening_class b) (opens-sign b)) in
     let d2 = elem.then-lone d1 c.exprs-inner.ensures c.in-Next.is in
-    let d3 = then-eats d2.amid (omega arith) c.eat-bracket.ensures c.in-Next-bracket.is (sign-mark kind.Array class.RBracket tt) in
-    as-nonterminal form.array-rule y e (read (shut ArrayShape tt y o d3 (omega arith) (form.array_head d3) tt ExprKind (form.expr-kind (omega arith, omega arith)) c.close.ensures))
+    let d3 = then-eats d2.amid (sign_pos (closing_class b) (closes-sign b)) (rw c.end.ensures at c.eat-end.ensures) c.in-Next-end.is (sign-mark (kind_number c.kind.result) (closing_class b) (closes-sign b)) in
+    let z = form.bracketed-kind b c.in-Next.lone c.kind.ensures in
+    as-nonterminal (form.bracketed-rule b) y e (read (shut (form.bracketed_shape b) (form.bracketed-faultless b) y o d3 (omega arith) (form.bracketed-head b d2.W c.in-Next.lone d3 d2.so.1 c.kind.ensures) (form.not-match z.1 (omega arith)) ExprKind (form.expr-kind (omega (arith, z.0), omega (arith, z.1))) (rw c.plain.ensures at c.close.ensures)))
 
 pub assign-pattern-left-requires : goal.assign-pattern-left-requires
 assign-pattern-left-requires t c =
@@ -267,7 +265,7 @@ assign-returns t c =
     let d4 = then-node d3 c.ty-middle.ensures c.in-Next-middle.is in
     let d5 = then-eats d4.amid (omega arith) c.eat-equal.ensures c.in-Next-equal.is (sign-mark kind.Let class.Eq tt) in
     let d6 = then-node d5 c.expr-right.ensures c.in-Next-right.is in
-    as-nonterminal form.assign-rule y e (read (shut AssignmentShape tt y o d6.amid (omega arith) (form.assign-head d6.amid) tt info.LetKind refl c.close.ensures))
+    as-nonterminal form.assign-rule y e (read (shut AssignmentShape tt y o d6.amid (omega arith) (form.assign-head d6.amid) tt info.LetKind refl (rw c.plain.ensures at c.close.ensures)))
 
 pub block-elems-inner-requires : goal.block-elems-inner-requires
 block-elems-inner-requires t c =
@@ -307,7 +305,7 @@ block-returns t c =
     let d1 = advances d0 (o.class_is ∙ c.requires.class_value) (omega arith) c.advance-a.ensures (sign-mark kind.Block class.LBrace tt) in
     let d2 = elem.then-elements d1 c.elems-inner.ensures c.in-Next.is in
     let d3 = then-eats d2.amid (omega arith) c.eat-brace.ensures c.in-Next-brace.is (sign-mark kind.Block class.RBrace tt) in
-    as-nonterminal form.block-rule y e (read (shut BlockShape tt y o d3 (omega arith) (form.block-head d2.W d3 d2.so) tt ExprKind (form.expr-kind (omega arith, omega arith)) c.close.ensures))
+    as-nonterminal form.block-rule y e (read (shut BlockShape tt y o d3 (omega arith) (form.block-head d2.W d3 d2.so) tt ExprKind (form.expr-kind (omega arith, omega arith)) (rw c.with_low.ensures at c.close.ensures)))
 
 pub body-returns-in_default : goal.body-returns-in_default
 body-returns-in_default t c =
@@ -410,15 +408,15 @@ c::bare-returns-then-a-ne-DOUBLE_COLON t c =
     let ks = call.alone-kinds c.args.st.class (kind_number c.alone.result) c.alone.ensures in
     let a1 = law.first-mark y o z (kind_number c.alone.result) AnyN (nt n-bare-optional-DoubleColon ∷ []) c.args.tree.now c.advance-a.ensures (keeping-mark (kind_number c.alone.result) c.args.st.class (call.alone-keeps ks)) in
     let a2 = then_turns [] a1 call.flat-bare (call.bare-alone (λ h. c.if-a-ne-DOUBLE_COLON.true (a1.lays.stands.class_is ∙ h))) in
-    as-nonterminal call.bare-rule y e (read (shut BareShape tt y o a2 (omega arith) (call.form-bare a2 ∙ call.alone-is c.args.st.class n ∙ sym c.alone.ensures) (call.alone-unturned ks) ExprKind (call.alone-kind ks) c.close.ensures))
+    as-nonterminal call.bare-rule y e (read (shut BareShape tt y o a2 (omega arith) (call.form-bare a2 ∙ call.alone-is c.args.st.class n ∙ sym c.alone.ensures) (call.alone-unturned ks) ExprKind (call.alone-kind ks) (rw c.plain.ensures at c.close.ensures)))
 
 pub c::bound-name-inner-requires : goal.c::bound-name-inner-requires
 c::bound-name-inner-requires t c =
     let y = c.requires.ready in
     let e = c.requires.class_value in
     let o = opens-clean y refl refl in
-    let g = rule.begun-apart c.args.st c.args.b c.requires.begun c.clean.ensures in
-    let h = rule.apart-class c.args.b c.clean.ensures c.requires.class_value_2 in
+    let g = rule.begun-apart c.args.st c.args.b c.requires.angled.begun c.clean.ensures in
+    let h = rule.apart-class c.args.b c.clean.ensures c.requires.angled.angle in
     let a1 = law.angled y o (call.for-folding c.args.st.class e) AnyN (nt n-function_name ∷ tok class.Comma ∷ tok class.DecLiteral ∷ tok class.RAngle ∷ nt n-arguments ∷ []) c.args.tree.now call.flat-folding (λ i h. call.folding-colons h) call.flat-bounded (λ i h. call.folding-angle h) (call.folding-mark c.args.st.class e) g h c.advance-d.ensures in
     let f1 = further y o a1 (omega arith) in
     ready-near f1.ready
@@ -428,8 +426,8 @@ c::bound-returns-in_default t c =
     let y = c.requires.ready in
     let e = c.requires.class_value in
     let o = opens-clean y refl refl in
-    let g = rule.begun-apart c.args.st c.args.b c.requires.begun c.clean.ensures in
-    let h = rule.apart-class c.args.b c.clean.ensures c.requires.class_value_2 in
+    let g = rule.begun-apart c.args.st c.args.b c.requires.angled.begun c.clean.ensures in
+    let h = rule.apart-class c.args.b c.clean.ensures c.requires.angled.angle in
     let a1 = law.angled y o (call.for-folding c.args.st.class e) AnyN (nt n-function_name ∷ tok class.Comma ∷ tok class.DecLiteral ∷ tok class.RAngle ∷ nt n-arguments ∷ []) c.args.tree.now call.flat-folding (λ i h. call.folding-colons h) call.flat-bounded (λ i h. call.folding-angle h) (call.folding-mark c.args.st.class e) g h c.advance-d.ensures in
     then-passed a1 (refusal c.in_default.is) (enters call.folding-rule y e o) c.name-inner.ensures
 
@@ -438,8 +436,8 @@ c::bound-returns-in_default-comma t c =
     let y = c.requires.ready in
     let e = c.requires.class_value in
     let o = opens-clean y refl refl in
-    let g = rule.begun-apart c.args.st c.args.b c.requires.begun c.clean.ensures in
-    let h = rule.apart-class c.args.b c.clean.ensures c.requires.class_value_2 in
+    let g = rule.begun-apart c.args.st c.args.b c.requires.angled.begun c.clean.ensures in
+    let h = rule.apart-class c.args.b c.clean.ensures c.requires.angled.angle in
     let a1 = law.angled y o (call.for-folding c.args.st.class e) AnyN (nt n-function_name ∷ tok class.Comma ∷ tok class.DecLiteral ∷ tok class.RAngle ∷ nt n-arguments ∷ []) c.args.tree.now call.flat-folding (λ i h. call.folding-colons h) call.flat-bounded (λ i h. call.folding-angle h) (call.folding-mark c.args.st.class e) g h c.advance-d.ensures in
     let a2 = law.then-function-name a1 c.name-inner.ensures c.in-Next.is in
     then-lacks a2 (refusal c.in_default-comma.is) (enters call.folding-rule y e o) c.eat-comma.ensures
@@ -450,8 +448,8 @@ c::bound-decimal-size-requires t c =
     let y = c.requires.ready in
     let e = c.requires.class_value in
     let o = opens-clean y refl refl in
-    let g = rule.begun-apart c.args.st c.args.b c.requires.begun c.clean.ensures in
-    let h = rule.apart-class c.args.b c.clean.ensures c.requires.class_value_2 in
+    let g = rule.begun-apart c.args.st c.args.b c.requires.angled.begun c.clean.ensures in
+    let h = rule.apart-class c.args.b c.clean.ensures c.requires.angled.angle in
     let N = law.Valued x c.in-Next-comma.g.at in
     let d1 = law.angled y o (call.for-folding c.args.st.class e) N (nt n-function_name ∷ tok class.Comma ∷ tok class.DecLiteral ∷ tok class.RAngle ∷ nt n-arguments ∷ []) c.args.tree.now call.flat-folding (λ i h. call.folding-colons h) call.flat-bounded (λ i h. call.folding-angle h) (call.folding-mark c.args.st.class e) g h c.advance-d.ensures in
     let d2 = law.then-function-name d1 c.name-inner.ensures c.in-Next.is in
@@ -465,8 +463,8 @@ c::bound-returns-in_default-size t c =
     let y = c.requires.ready in
     let e = c.requires.class_value in
     let o = opens-clean y refl refl in
-    let g = rule.begun-apart c.args.st c.args.b c.requires.begun c.clean.ensures in
-    let h = rule.apart-class c.args.b c.clean.ensures c.requires.class_value_2 in
+    let g = rule.begun-apart c.args.st c.args.b c.requires.angled.begun c.clean.ensures in
+    let h = rule.apart-class c.args.b c.clean.ensures c.requires.angled.angle in
     let N = law.Valued x c.in-Next-comma.g.at in
     let d1 = law.angled y o (call.for-folding c.args.st.class e) N (nt n-function_name ∷ tok class.Comma ∷ tok class.DecLiteral ∷ tok class.RAngle ∷ nt n-arguments ∷ []) c.args.tree.now call.flat-folding (λ i h. call.folding-colons h) call.flat-bounded (λ i h. call.folding-angle h) (call.folding-mark c.args.st.class e) g h c.advance-d.ensures in
     let d2 = law.then-function-name d1 c.name-inner.ensures c.in-Next.is in
@@ -479,8 +477,8 @@ c::bound-returns-in_default-angle t c =
     let y = c.requires.ready in
     let e = c.requires.class_value in
     let o = opens-clean y refl refl in
-    let g = rule.begun-apart c.args.st c.args.b c.requires.begun c.clean.ensures in
-    let h = rule.apart-class c.args.b c.clean.ensures c.requires.class_value_2 in
+    let g = rule.begun-apart c.args.st c.args.b c.requires.angled.begun c.clean.ensures in
+    let h = rule.apart-class c.args.b c.clean.ensures c.requires.angled.angle in
     let N = law.Valued x c.in-Next-comma.g.at in
     let d1 = law.angled y o (call.for-folding c.args.st.class e) N (nt n-function_name ∷ tok class.Comma ∷ tok class.DecLiteral ∷ tok class.RAngle ∷ nt n-arguments ∷ []) c.args.tree.now call.flat-folding (λ i h. call.folding-colons h) call.flat-bounded (λ i h. call.folding-angle h) (call.folding-mark c.args.st.class e) g h c.advance-d.ensures in
     let d2 = law.then-function-name d1 c.name-inner.ensures c.in-Next.is in
@@ -494,8 +492,8 @@ c::bound-args-rest-requires t c =
     let y = c.requires.ready in
     let e = c.requires.class_value in
     let o = opens-clean y refl refl in
-    let g = rule.begun-apart c.args.st c.args.b c.requires.begun c.clean.ensures in
-    let h = rule.apart-class c.args.b c.clean.ensures c.requires.class_value_2 in
+    let g = rule.begun-apart c.args.st c.args.b c.requires.angled.begun c.clean.ensures in
+    let h = rule.apart-class c.args.b c.clean.ensures c.requires.angled.angle in
     let N = law.Valued x c.in-Next-comma.g.at in
     let d1 = law.angled y o (call.for-folding c.args.st.class e) N (nt n-function_name ∷ tok class.Comma ∷ tok class.DecLiteral ∷ tok class.RAngle ∷ nt n-arguments ∷ []) c.args.tree.now call.flat-folding (λ i h. call.folding-colons h) call.flat-bounded (λ i h. call.folding-angle h) (call.folding-mark c.args.st.class e) g h c.advance-d.ensures in
     let d2 = law.then-function-name d1 c.name-inner.ensures c.in-Next.is in
@@ -511,8 +509,8 @@ c::bound-returns-in_default-rest t c =
     let y = c.requires.ready in
     let e = c.requires.class_value in
     let o = opens-clean y refl refl in
-    let g = rule.begun-apart c.args.st c.args.b c.requires.begun c.clean.ensures in
-    let h = rule.apart-class c.args.b c.clean.ensures c.requires.class_value_2 in
+    let g = rule.begun-apart c.args.st c.args.b c.requires.angled.begun c.clean.ensures in
+    let h = rule.apart-class c.args.b c.clean.ensures c.requires.angled.angle in
     let N = law.Valued x c.in-Next-comma.g.at in
     let d1 = law.angled y o (call.for-folding c.args.st.class e) N (nt n-function_name ∷ tok class.Comma ∷ tok class.DecLiteral ∷ tok class.RAngle ∷ nt n-arguments ∷ []) c.args.tree.now call.flat-folding (λ i h. call.folding-colons h) call.flat-bounded (λ i h. call.folding-angle h) (call.folding-mark c.args.st.class e) g h c.advance-d.ensures in
     let d2 = law.then-function-name d1 c.name-inner.ensures c.in-Next.is in
@@ -527,8 +525,8 @@ c::bound-returns t c =
     let y = c.requires.ready in
     let e = c.requires.class_value in
     let o = opens-clean y refl refl in
-    let g = rule.begun-apart c.args.st c.args.b c.requires.begun c.clean.ensures in
-    let h = rule.apart-class c.args.b c.clean.ensures c.requires.class_value_2 in
+    let g = rule.begun-apart c.args.st c.args.b c.requires.angled.begun c.clean.ensures in
+    let h = rule.apart-class c.args.b c.clean.ensures c.requires.angled.angle in
     let p = call.folding-apart c.args.st.class e in
     let N = law.Valued x c.in-Next-comma.g.at in
     let d1 = law.angled y o (call.for-folding c.args.st.class e) N (nt n-function_name ∷ tok class.Comma ∷ tok class.DecLiteral ∷ tok class.RAngle ∷ nt n-arguments ∷ []) c.args.tree.now call.flat-folding (λ i h. call.folding-colons h) call.flat-bounded (λ i h. call.folding-angle h) (call.folding-mark c.args.st.class e) g h c.advance-d.ensures in
@@ -539,16 +537,16 @@ c::bound-returns t c =
     let d6 = law.then-args d5 c.args-rest.ensures c.in-Next-rest.is in
     let nd = law.name-no-decimal c.name-inner.ensures c.in-Next.is in
     let vt = value-text c.args.source.now d3.lays.stands c.number-n.ensures in
-    as-nonterminal call.folding-rule y e (read (shut-judged FoldingShape y o d6.amid (omega (arith, d6.one)) (call.call-low c.args.st.class (call.folding-head d6.amid) (c.from.ensures ∙ c.call.ensures))
-    (law.fold-number d6.amid p.decimal nd) tt ExprKind call.call-kind c.close.ensures
-    (law.judged-at c.judged-z.ensures c.size_fault.ensures d3.lays.stands.start_is)
+    as-nonterminal call.folding-rule y e (read (shut-judged FoldingShape y o d6.amid (omega (arith, d6.one)) (call.call-low c.args.st.class (call.folding-head d6.amid) c.call.ensures)
+    (law.fold-number d6.amid p.decimal nd) tt ExprKind call.call-kind (rw c.of_call.ensures at c.close.ensures)
+    (judged-at c.judged-z.ensures c.placed-own.ensures c.size_fault.ensures d3.lays.stands.start_is)
     (λ is u v. call.fold-fault x.draft is c.args.st.class c.number-n.result (tok_at x c.in-Next-comma.g.at) u (law.fold-first d6.amid p.decimal nd is u v) vt)))
 
 pub c::built-path-rest-requires : goal.c::built-path-rest-requires
 c::built-path-rest-requires t c =
     let y = c.requires.ready in
     let o = opens y refl in
-    let z = rule.enum-begins y o c.requires.begun c.child-d.ensures.put c.child-d.ensures.value c.requires.leads in
+    let z = rule.enum-begins y o c.requires.begun c.name-d.ensures.put c.name-d.ensures.value c.requires.leads in
     let f1 = further y o z.amid (omega arith) in
     (omega (arith, f1.ahead, f1.within, c.decreases), f1.ready)
 
@@ -556,24 +554,23 @@ pub c::built-returns-in_default : goal.c::built-returns-in_default
 c::built-returns-in_default t c =
     let y = c.requires.ready in
     let o = opens y refl in
-    let z = rule.enum-begins y o c.requires.begun c.child-d.ensures.put c.child-d.ensures.value c.requires.leads in
+    let z = rule.enum-begins y o c.requires.begun c.name-d.ensures.put c.name-d.ensures.value c.requires.leads in
     then-passed z.amid (refusal c.in_default.is) (enters z.by.rule y z.by.chosen o) c.path-rest.ensures
 
 pub c::built-returns : goal.c::built-returns
 c::built-returns t c =
     let y = c.requires.ready in
     let o = opens y refl in
-    let z = rule.enum-begins y o c.requires.begun c.child-d.ensures.put c.child-d.ensures.value c.requires.leads in
+    let z = rule.enum-begins y o c.requires.begun c.name-d.ensures.put c.name-d.ensures.value c.requires.leads in
     let d2 = law.then-path z.amid c.path-rest.ensures c.in-Next.is in
-    as-nonterminal z.by.rule y z.by.chosen (read (rule.shut-named z.by y o d2.amid (omega arith) (call.enum_is c.args.st.class d2.W z.by.name d2.angles d2.count_is) (call.enum-unseen c.args.st.class d2.W z.by.name d2.angles) tt ExprKind call.enum_kind c.close.ensures))
+    as-nonterminal z.by.rule y z.by.chosen (read (rule.shut-named z.by y o d2.amid (omega arith) (call.enum_is c.args.st.class d2.W z.by.name d2.angles d2.count_is) (call.enum-unseen c.args.st.class d2.W z.by.name d2.angles) tt ExprKind call.enum_kind (rw c.with_low.ensures at c.close.ensures)))
 
 pub c::called-wrap-requires : goal.c::called-wrap-requires
 c::called-wrap-requires t c =
     let y = c.requires.ready in
-    let e = c.requires.class_value in
     let mv = c.requires.moved in
     let k = c.requires.class_value_2 in
-    (omega (arith, c.decreases), (y, (e, (c.in-Some.ensures, (mv, k)))))
+    (omega (arith, c.decreases), (y, (c.in-Some.ensures, (mv, k))))
 
 pub c::called-arguments-inner-requires : goal.c::called-arguments-inner-requires
 c::called-arguments-inner-requires t c =
@@ -609,7 +606,7 @@ c::called-returns t c =
     let d1 = law.first-called y o (call.for-named c.args.st.class e) AnyN (nt n-named-optional ∷ []) p mv c.callee-b.ensures in
     let d2 = then_turns (nt n-arguments ∷ []) d1.amid call.flat-named (call.named-args (sym d1.amid.lays.stands.class_is ∙ d1.class_is ∙ k)) in
     let d3 = law.then-args d2 c.arguments-inner.ensures c.in-Next.is in
-    as-nonterminal call.named_rule y e (read (shut NamedShape tt y o d3.amid (omega (arith, d3.one)) (call.call-low c.args.st.class (call.form-named d3.amid ∙ call.unwrapped-is c.args.st.class d3.W p c.in_default.ensures d3.commas) (c.from.ensures ∙ c.call.ensures)) tt ExprKind call.call-kind c.close.ensures))
+    as-nonterminal call.named_rule y e (read (shut NamedShape tt y o d3.amid (omega (arith, d3.one)) (call.call-low c.args.st.class (call.form-named d3.amid ∙ call.unwrapped-is c.args.st.class d3.W p c.in_default.ensures d3.commas) c.call.ensures) tt ExprKind call.call-kind (rw c.of_call.ensures at c.close.ensures)))
 
 pub c::cast-ty-inner-requires : goal.c::cast-ty-inner-requires
 c::cast-ty-inner-requires t c =
@@ -702,31 +699,31 @@ c::cast-returns t c =
     let d4 = then-eats d3 (omega arith) c.eat-colons.ensures c.in-Next-colons.is (sign-mark kind.Call class.DoubleColon tt) in
     let d5 = then-eats d4 (omega arith) c.eat-into.ensures c.in-Next-into.is (word-mark class.into tt) in
     let d6 = law.then-args d5 c.args-rest.ensures c.in-Next-rest.is in
-    as-nonterminal call.cast-rule y e (read (shut CastCallShape tt y o d6.amid (omega (arith, d6.one)) (call.cast-head d6.amid) tt ExprKind call.call-kind (rw c.from.ensures at c.close.ensures)))
+    as-nonterminal call.cast-rule y e (read (shut CastCallShape tt y o d6.amid (omega (arith, d6.one)) (call.cast-head d6.amid) tt ExprKind call.call-kind (rw c.of_call.ensures at c.close.ensures)))
 
 pub c::generic-returns-then-a-ne-DOUBLE_COLON : goal.c::generic-returns-then-a-ne-DOUBLE_COLON
 c::generic-returns-then-a-ne-DOUBLE_COLON t c =
     let y = c.requires.ready in
     let g = c.requires.generic in
     let o = opens y c.reserve.ensures in
-    let z = rule.generic-rule g in
+    let z = rule.generic-rule c.args.call g in
     let a1 = law.first-mark y o z.by.one_token kind.Variable AnyN (nt z.by.B ∷ []) c.args.tree.now c.advance-a.ensures (keeping-mark kind.Variable c.args.st.class tt) in
     let a2 = then_turns [] a1 z.by.flat (z.alone (λ h. c.if-a-ne-DOUBLE_COLON.true (a1.lays.stands.class_is ∙ h))) in
-    as-nonterminal z.by.rule y z.by.chosen (read (rule.shut-named z.by y o a2 (omega arith) (call.variable-is c.args.st.class z.by.name z.variable) (call.alone-angle c.args.st.class z.by.name) tt ExprKind call.variable-kind c.close.ensures))
+    as-nonterminal z.by.rule y z.by.chosen (read (rule.shut-named z.by y o a2 (omega arith) (call.variable-is c.args.st.class z.by.name z.variable) (call.alone-angle c.args.st.class z.by.name) tt ExprKind call.variable-kind (rw c.plain.ensures at c.close.ensures)))
 
 pub c::generic-built-requires : goal.c::generic-built-requires
 c::generic-built-requires t c =
     let y = c.requires.ready in
     let g = c.requires.generic in
     let b = law.begun c.reserve.ensures c.advance-a.ensures c.if-a-ne-DOUBLE_COLON.false c.advance-b.ensures in
-    (omega (arith, c.decreases), (y, (info.generic_leads g c.if-b-ne-LANGLE.true, b)))
+    (omega (arith, c.decreases), (y, (info.generic_leads c.args.call g c.if-b-ne-LANGLE.true, b)))
 
 pub c::loops-name-inner-requires : goal.c::loops-name-inner-requires
 c::loops-name-inner-requires t c =
     let y = c.requires.ready in
     let e = c.requires.class_value in
     let o = opens y refl in
-    let d1 = law.angled y o (call.for-whiles c.args.st.class e) AnyN (nt n-function_name ∷ tok class.RAngle ∷ nt n-arguments ∷ []) c.args.tree.now call.flat-whiles (λ i h. call.whiles-colons h) call.flat-looped (λ i h. call.whiles-angle h) (call.whiles-mark c.args.st.class e) c.requires.begun c.requires.class_value_2 c.advance-d.ensures in
+    let d1 = law.angled y o (call.for-whiles c.args.st.class e) AnyN (nt n-function_name ∷ tok class.RAngle ∷ nt n-arguments ∷ []) c.args.tree.now call.flat-whiles (λ i h. call.whiles-colons h) call.flat-looped (λ i h. call.whiles-angle h) (call.whiles-mark c.args.st.class e) c.requires.angled.begun c.requires.angled.angle c.advance-d.ensures in
     let f1 = further y o d1 (omega arith) in
     ready-near f1.ready
 
@@ -735,7 +732,7 @@ c::loops-returns-in_default t c =
     let y = c.requires.ready in
     let e = c.requires.class_value in
     let o = opens y refl in
-    let d1 = law.angled y o (call.for-whiles c.args.st.class e) AnyN (nt n-function_name ∷ tok class.RAngle ∷ nt n-arguments ∷ []) c.args.tree.now call.flat-whiles (λ i h. call.whiles-colons h) call.flat-looped (λ i h. call.whiles-angle h) (call.whiles-mark c.args.st.class e) c.requires.begun c.requires.class_value_2 c.advance-d.ensures in
+    let d1 = law.angled y o (call.for-whiles c.args.st.class e) AnyN (nt n-function_name ∷ tok class.RAngle ∷ nt n-arguments ∷ []) c.args.tree.now call.flat-whiles (λ i h. call.whiles-colons h) call.flat-looped (λ i h. call.whiles-angle h) (call.whiles-mark c.args.st.class e) c.requires.angled.begun c.requires.angled.angle c.advance-d.ensures in
     then-passed d1 (refusal c.in_default.is) (enters call.whiles-rule y e o) c.name-inner.ensures
 
 pub c::loops-returns-in_default-angle : goal.c::loops-returns-in_default-angle
@@ -743,7 +740,7 @@ c::loops-returns-in_default-angle t c =
     let y = c.requires.ready in
     let e = c.requires.class_value in
     let o = opens y refl in
-    let d1 = law.angled y o (call.for-whiles c.args.st.class e) AnyN (nt n-function_name ∷ tok class.RAngle ∷ nt n-arguments ∷ []) c.args.tree.now call.flat-whiles (λ i h. call.whiles-colons h) call.flat-looped (λ i h. call.whiles-angle h) (call.whiles-mark c.args.st.class e) c.requires.begun c.requires.class_value_2 c.advance-d.ensures in
+    let d1 = law.angled y o (call.for-whiles c.args.st.class e) AnyN (nt n-function_name ∷ tok class.RAngle ∷ nt n-arguments ∷ []) c.args.tree.now call.flat-whiles (λ i h. call.whiles-colons h) call.flat-looped (λ i h. call.whiles-angle h) (call.whiles-mark c.args.st.class e) c.requires.angled.begun c.requires.angled.angle c.advance-d.ensures in
     let d2 = law.then-function-name d1 c.name-inner.ensures c.in-Next.is in
     then-lacks d2 (refusal c.in_default-angle.is) (enters call.whiles-rule y e o) c.eat-angle.ensures
 
@@ -752,7 +749,7 @@ c::loops-args-rest-requires t c =
     let y = c.requires.ready in
     let e = c.requires.class_value in
     let o = opens y refl in
-    let d1 = law.angled y o (call.for-whiles c.args.st.class e) AnyN (nt n-function_name ∷ tok class.RAngle ∷ nt n-arguments ∷ []) c.args.tree.now call.flat-whiles (λ i h. call.whiles-colons h) call.flat-looped (λ i h. call.whiles-angle h) (call.whiles-mark c.args.st.class e) c.requires.begun c.requires.class_value_2 c.advance-d.ensures in
+    let d1 = law.angled y o (call.for-whiles c.args.st.class e) AnyN (nt n-function_name ∷ tok class.RAngle ∷ nt n-arguments ∷ []) c.args.tree.now call.flat-whiles (λ i h. call.whiles-colons h) call.flat-looped (λ i h. call.whiles-angle h) (call.whiles-mark c.args.st.class e) c.requires.angled.begun c.requires.angled.angle c.advance-d.ensures in
     let d2 = law.then-function-name d1 c.name-inner.ensures c.in-Next.is in
     let d3 = then-eats d2 (omega arith) c.eat-angle.ensures c.in-Next-angle.is (sign-mark kind.Call class.RAngle tt) in
     let f3 = further y o d3 (omega arith) in
@@ -763,7 +760,7 @@ c::loops-returns-in_default-rest t c =
     let y = c.requires.ready in
     let e = c.requires.class_value in
     let o = opens y refl in
-    let d1 = law.angled y o (call.for-whiles c.args.st.class e) AnyN (nt n-function_name ∷ tok class.RAngle ∷ nt n-arguments ∷ []) c.args.tree.now call.flat-whiles (λ i h. call.whiles-colons h) call.flat-looped (λ i h. call.whiles-angle h) (call.whiles-mark c.args.st.class e) c.requires.begun c.requires.class_value_2 c.advance-d.ensures in
+    let d1 = law.angled y o (call.for-whiles c.args.st.class e) AnyN (nt n-function_name ∷ tok class.RAngle ∷ nt n-arguments ∷ []) c.args.tree.now call.flat-whiles (λ i h. call.whiles-colons h) call.flat-looped (λ i h. call.whiles-angle h) (call.whiles-mark c.args.st.class e) c.requires.angled.begun c.requires.angled.angle c.advance-d.ensures in
     let d2 = law.then-function-name d1 c.name-inner.ensures c.in-Next.is in
     let d3 = then-eats d2 (omega arith) c.eat-angle.ensures c.in-Next-angle.is (sign-mark kind.Call class.RAngle tt) in
     then-passed d3 (refusal c.in_default-rest.is) (enters call.whiles-rule y e o) c.args-rest.ensures
@@ -773,11 +770,11 @@ c::loops-returns t c =
     let y = c.requires.ready in
     let e = c.requires.class_value in
     let o = opens y refl in
-    let d1 = law.angled y o (call.for-whiles c.args.st.class e) AnyN (nt n-function_name ∷ tok class.RAngle ∷ nt n-arguments ∷ []) c.args.tree.now call.flat-whiles (λ i h. call.whiles-colons h) call.flat-looped (λ i h. call.whiles-angle h) (call.whiles-mark c.args.st.class e) c.requires.begun c.requires.class_value_2 c.advance-d.ensures in
+    let d1 = law.angled y o (call.for-whiles c.args.st.class e) AnyN (nt n-function_name ∷ tok class.RAngle ∷ nt n-arguments ∷ []) c.args.tree.now call.flat-whiles (λ i h. call.whiles-colons h) call.flat-looped (λ i h. call.whiles-angle h) (call.whiles-mark c.args.st.class e) c.requires.angled.begun c.requires.angled.angle c.advance-d.ensures in
     let d2 = law.then-function-name d1 c.name-inner.ensures c.in-Next.is in
     let d3 = then-eats d2 (omega arith) c.eat-angle.ensures c.in-Next-angle.is (sign-mark kind.Call class.RAngle tt) in
     let d4 = law.then-args d3 c.args-rest.ensures c.in-Next-rest.is in
-    as-nonterminal call.whiles-rule y e (read (shut ForWhileShape tt y o d4.amid (omega (arith, d4.one)) (call.whiles-low (call.whiles-head d4.amid) (call.at-whiles c.args.st.class e)) tt ExprKind call.call-kind (rw c.from.ensures at c.close.ensures)))
+    as-nonterminal call.whiles-rule y e (read (shut ForWhileShape tt y o d4.amid (omega (arith, d4.one)) (call.whiles-low (call.whiles-head d4.amid) (call.at-whiles c.args.st.class e)) tt ExprKind call.call-kind (rw c.of_call.ensures at c.close.ensures)))
 
 pub c::named-returns-in_default : goal.c::named-returns-in_default
 c::named-returns-in_default t c =
@@ -787,14 +784,14 @@ c::named-returns-in_default t c =
     let n = call.named-name c.args.st.class e in
     let a1 = law.first-mark y o (call.for-named c.args.st.class e) kind.Variable AnyN (nt n-named-optional ∷ []) c.args.tree.now c.advance-a.ensures (keeping-mark kind.Variable c.args.st.class tt) in
     let a2 = then_turns [] a1 call.flat-named (call.named-alone (λ h. c.in_default.in_default-own.rest.1 (a1.lays.stands.class_is ∙ h)) (λ h. c.in_default.in_default-own.rest.0.1 (a1.lays.stands.class_is ∙ h))) in
-    as-nonterminal call.named_rule y e (read (shut NamedShape tt y o a2 (omega arith) (call.form-named a2 ∙ call.variable-is c.args.st.class n (call.named-variable c.args.st.class e)) tt ExprKind call.variable-kind c.close.ensures))
+    as-nonterminal call.named_rule y e (read (shut NamedShape tt y o a2 (omega arith) (call.form-named a2 ∙ call.variable-is c.args.st.class n (call.named-variable c.args.st.class e)) tt ExprKind call.variable-kind (rw c.plain.ensures at c.close.ensures)))
 
 pub c::of_type-ty-inner-requires : goal.c::of_type-ty-inner-requires
 c::of_type-ty-inner-requires t c =
     let y = c.requires.ready in
     let e = c.requires.class_value in
     let o = opens y refl in
-    let d1 = law.angled y o (call.for-typed c.args.st.class e) AnyN (nt n-type ∷ tok class.RAngle ∷ nt n-arguments ∷ []) c.args.tree.now call.flat-typed (λ i h. call.typed-colons h) call.flat-of-type (λ i h. call.typed-angle h) (call.typed-mark c.args.st.class e) c.requires.begun c.requires.class_value_2 c.advance-d.ensures in
+    let d1 = law.angled y o (call.for-typed c.args.st.class e) AnyN (nt n-type ∷ tok class.RAngle ∷ nt n-arguments ∷ []) c.args.tree.now call.flat-typed (λ i h. call.typed-colons h) call.flat-of-type (λ i h. call.typed-angle h) (call.typed-mark c.args.st.class e) c.requires.angled.begun c.requires.angled.angle c.advance-d.ensures in
     let f1 = further y o d1 (omega arith) in
     f1.ready
 
@@ -803,7 +800,7 @@ c::of_type-returns-in_default t c =
     let y = c.requires.ready in
     let e = c.requires.class_value in
     let o = opens y refl in
-    let d1 = law.angled y o (call.for-typed c.args.st.class e) AnyN (nt n-type ∷ tok class.RAngle ∷ nt n-arguments ∷ []) c.args.tree.now call.flat-typed (λ i h. call.typed-colons h) call.flat-of-type (λ i h. call.typed-angle h) (call.typed-mark c.args.st.class e) c.requires.begun c.requires.class_value_2 c.advance-d.ensures in
+    let d1 = law.angled y o (call.for-typed c.args.st.class e) AnyN (nt n-type ∷ tok class.RAngle ∷ nt n-arguments ∷ []) c.args.tree.now call.flat-typed (λ i h. call.typed-colons h) call.flat-of-type (λ i h. call.typed-angle h) (call.typed-mark c.args.st.class e) c.requires.angled.begun c.requires.angled.angle c.advance-d.ensures in
     then-passed d1 (refusal c.in_default.is) (enters call.typed-rule y e o) c.ty-inner.ensures
 
 pub c::of_type-returns-in_default-angle : goal.c::of_type-returns-in_default-angle
@@ -811,7 +808,7 @@ c::of_type-returns-in_default-angle t c =
     let y = c.requires.ready in
     let e = c.requires.class_value in
     let o = opens y refl in
-    let d1 = law.angled y o (call.for-typed c.args.st.class e) AnyN (nt n-type ∷ tok class.RAngle ∷ nt n-arguments ∷ []) c.args.tree.now call.flat-typed (λ i h. call.typed-colons h) call.flat-of-type (λ i h. call.typed-angle h) (call.typed-mark c.args.st.class e) c.requires.begun c.requires.class_value_2 c.advance-d.ensures in
+    let d1 = law.angled y o (call.for-typed c.args.st.class e) AnyN (nt n-type ∷ tok class.RAngle ∷ nt n-arguments ∷ []) c.args.tree.now call.flat-typed (λ i h. call.typed-colons h) call.flat-of-type (λ i h. call.typed-angle h) (call.typed-mark c.args.st.class e) c.requires.angled.begun c.requires.angled.angle c.advance-d.ensures in
     let d2 = then-node d1 c.ty-inner.ensures c.in-Next.is in
     then-lacks d2.amid (refusal c.in_default-angle.is) (enters call.typed-rule y e o) c.eat-angle.ensures
 
@@ -820,7 +817,7 @@ c::of_type-args-rest-requires t c =
     let y = c.requires.ready in
     let e = c.requires.class_value in
     let o = opens y refl in
-    let d1 = law.angled y o (call.for-typed c.args.st.class e) AnyN (nt n-type ∷ tok class.RAngle ∷ nt n-arguments ∷ []) c.args.tree.now call.flat-typed (λ i h. call.typed-colons h) call.flat-of-type (λ i h. call.typed-angle h) (call.typed-mark c.args.st.class e) c.requires.begun c.requires.class_value_2 c.advance-d.ensures in
+    let d1 = law.angled y o (call.for-typed c.args.st.class e) AnyN (nt n-type ∷ tok class.RAngle ∷ nt n-arguments ∷ []) c.args.tree.now call.flat-typed (λ i h. call.typed-colons h) call.flat-of-type (λ i h. call.typed-angle h) (call.typed-mark c.args.st.class e) c.requires.angled.begun c.requires.angled.angle c.advance-d.ensures in
     let d2 = then-node d1 c.ty-inner.ensures c.in-Next.is in
     let d3 = then-eats d2.amid (omega arith) c.eat-angle.ensures c.in-Next-angle.is (sign-mark kind.Call class.RAngle tt) in
     let f3 = further y o d3 (omega arith) in
@@ -831,7 +828,7 @@ c::of_type-returns-in_default-rest t c =
     let y = c.requires.ready in
     let e = c.requires.class_value in
     let o = opens y refl in
-    let d1 = law.angled y o (call.for-typed c.args.st.class e) AnyN (nt n-type ∷ tok class.RAngle ∷ nt n-arguments ∷ []) c.args.tree.now call.flat-typed (λ i h. call.typed-colons h) call.flat-of-type (λ i h. call.typed-angle h) (call.typed-mark c.args.st.class e) c.requires.begun c.requires.class_value_2 c.advance-d.ensures in
+    let d1 = law.angled y o (call.for-typed c.args.st.class e) AnyN (nt n-type ∷ tok class.RAngle ∷ nt n-arguments ∷ []) c.args.tree.now call.flat-typed (λ i h. call.typed-colons h) call.flat-of-type (λ i h. call.typed-angle h) (call.typed-mark c.args.st.class e) c.requires.angled.begun c.requires.angled.angle c.advance-d.ensures in
     let d2 = then-node d1 c.ty-inner.ensures c.in-Next.is in
     let d3 = then-eats d2.amid (omega arith) c.eat-angle.ensures c.in-Next-angle.is (sign-mark kind.Call class.RAngle tt) in
     then-passed d3 (refusal c.in_default-rest.is) (enters call.typed-rule y e o) c.args-rest.ensures
@@ -841,11 +838,11 @@ c::of_type-returns t c =
     let y = c.requires.ready in
     let e = c.requires.class_value in
     let o = opens y refl in
-    let d1 = law.angled y o (call.for-typed c.args.st.class e) AnyN (nt n-type ∷ tok class.RAngle ∷ nt n-arguments ∷ []) c.args.tree.now call.flat-typed (λ i h. call.typed-colons h) call.flat-of-type (λ i h. call.typed-angle h) (call.typed-mark c.args.st.class e) c.requires.begun c.requires.class_value_2 c.advance-d.ensures in
+    let d1 = law.angled y o (call.for-typed c.args.st.class e) AnyN (nt n-type ∷ tok class.RAngle ∷ nt n-arguments ∷ []) c.args.tree.now call.flat-typed (λ i h. call.typed-colons h) call.flat-of-type (λ i h. call.typed-angle h) (call.typed-mark c.args.st.class e) c.requires.angled.begun c.requires.angled.angle c.advance-d.ensures in
     let d2 = then-node d1 c.ty-inner.ensures c.in-Next.is in
     let d3 = then-eats d2.amid (omega arith) c.eat-angle.ensures c.in-Next-angle.is (sign-mark kind.Call class.RAngle tt) in
     let d4 = law.then-args d3 c.args-rest.ensures c.in-Next-rest.is in
-    as-nonterminal call.typed-rule y e (read (shut TypedShape tt y o d4.amid (omega (arith, d4.one)) (call.call-low c.args.st.class (call.typed-head d4.amid) (c.from.ensures ∙ c.call.ensures)) tt ExprKind call.call-kind c.close.ensures))
+    as-nonterminal call.typed-rule y e (read (shut TypedShape tt y o d4.amid (omega (arith, d4.one)) (call.call-low c.args.st.class (call.typed-head d4.amid) c.call.ensures) tt ExprKind call.call-kind (rw c.of_call.ensures at c.close.ensures)))
 
 pub c::path-returns-in_default : goal.c::path-returns-in_default
 c::path-returns-in_default t c =
@@ -903,15 +900,15 @@ c::simple-returns t c =
     let p = call.simple-apart c.args.st.class e in
     let d1 = law.first-called y o (call.for-simple c.args.st.class e) AnyN (nt n-arguments ∷ []) p c.advance-a.ensures c.callee-b.ensures in
     let d2 = law.then-args d1.amid c.args-inner.ensures c.in-Next.is in
-    as-nonterminal call.simple-rule y e (read (shut SimpleCallShape tt y o d2.amid (omega (arith, d2.one)) (call.call-low c.args.st.class (call.form-simple d2.amid ∙ call.unwrapped-is c.args.st.class d2.W p (call.simple-unwrapped c.args.st.class e) d2.commas) (c.from.ensures ∙ c.call.ensures)) tt ExprKind call.call-kind c.close.ensures))
+    as-nonterminal call.simple-rule y e (read (shut SimpleCallShape tt y o d2.amid (omega (arith, d2.one)) (call.call-low c.args.st.class (call.form-simple d2.amid ∙ call.unwrapped-is c.args.st.class d2.W p (call.simple-unwrapped c.args.st.class e) d2.commas) c.call.ensures) tt ExprKind call.call-kind (rw c.of_call.ensures at c.close.ensures)))
 
 pub c::wrap-args-inner-requires : goal.c::wrap-args-inner-requires
 c::wrap-args-inner-requires t c =
     let y = c.requires.ready in
-    let e = c.requires.class_value in
-    let w = c.requires.class_value_2.0 in
+    let w = c.requires.wraps.0 in
+    let e = rule.wrapper-chosen c.args.st.class w in
     let mv = c.requires.moved in
-    let k = c.requires.class_value_3 in
+    let k = c.requires.class_value in
     let o = opens y refl in
     let z = call.for-named c.args.st.class e in
     let a1 = law.first-mark y o z kind.Left AnyN (nt n-named-optional ∷ []) c.args.tree.now mv (keeping-mark kind.Left c.args.st.class tt) in
@@ -922,10 +919,10 @@ c::wrap-args-inner-requires t c =
 pub c::wrap-returns-in_default : goal.c::wrap-returns-in_default
 c::wrap-returns-in_default t c =
     let y = c.requires.ready in
-    let e = c.requires.class_value in
-    let w = c.requires.class_value_2.0 in
+    let w = c.requires.wraps.0 in
+    let e = rule.wrapper-chosen c.args.st.class w in
     let mv = c.requires.moved in
-    let k = c.requires.class_value_3 in
+    let k = c.requires.class_value in
     let o = opens y refl in
     let z = call.for-named c.args.st.class e in
     let a1 = law.first-mark y o z kind.Left AnyN (nt n-named-optional ∷ []) c.args.tree.now mv (keeping-mark kind.Left c.args.st.class tt) in
@@ -935,25 +932,25 @@ c::wrap-returns-in_default t c =
 pub c::wrap-returns-then-lone-eq1 : goal.c::wrap-returns-then-lone-eq1
 c::wrap-returns-then-lone-eq1 t c =
     let y = c.requires.ready in
-    let e = c.requires.class_value in
-    let w = c.requires.class_value_2.0 in
+    let w = c.requires.wraps.0 in
+    let e = rule.wrapper-chosen c.args.st.class w in
     let mv = c.requires.moved in
-    let k = c.requires.class_value_3 in
+    let k = c.requires.class_value in
     let o = opens y refl in
     let p = call.named-apart c.args.st.class e in
     let z = call.for-named c.args.st.class e in
-    let b1 = law.first-mark y o z (kind_number c.args.kind) AnyN (nt n-named-optional ∷ []) c.args.tree.now mv (keeping-mark (kind_number c.args.kind) c.args.st.class (call.wrapper-keeps c.args.st.class w c.requires.class_value_2.1)) in
+    let b1 = law.first-mark y o z (kind_number c.args.kind) AnyN (nt n-named-optional ∷ []) c.args.tree.now mv (keeping-mark (kind_number c.args.kind) c.args.st.class (call.wrapper-keeps c.args.st.class w c.requires.wraps.1)) in
     let b2 = then_turns (nt n-arguments ∷ []) b1 call.flat-named (call.named-args (sym b1.lays.stands.class_is ∙ k)) in
     let b3 = law.then-args b2 c.args-inner.ensures c.in-Next.is in
-    as-nonterminal call.named_rule y e (read (shut NamedShape tt y o b3.amid (omega (arith, b3.one)) (call.form-named b3.amid ∙ call.wrapper-is c.args.st.class w c.requires.class_value_2.1 b3.W p b3.commas b3.lone_is c.if-lone-eq1.true) (call.wrapper-unturned c.args.st.class w c.requires.class_value_2.1) ExprKind (call.wrapper-kind c.args.st.class w c.requires.class_value_2.1) c.close.ensures))
+    as-nonterminal call.named_rule y e (read (shut NamedShape tt y o b3.amid (omega (arith, b3.one)) (call.form-named b3.amid ∙ call.wrapper-is c.args.st.class w c.requires.wraps.1 b3.W p b3.commas b3.lone_is c.if-lone-eq1.true) (call.wrapper-unturned c.args.st.class w c.requires.wraps.1) ExprKind (call.wrapper-kind c.args.st.class w c.requires.wraps.1) (rw c.plain.ensures at c.close.ensures)))
 
 pub c::wrap-returns : goal.c::wrap-returns
 c::wrap-returns t c =
     let y = c.requires.ready in
-    let e = c.requires.class_value in
-    let w = c.requires.class_value_2.0 in
+    let w = c.requires.wraps.0 in
+    let e = rule.wrapper-chosen c.args.st.class w in
     let mv = c.requires.moved in
-    let k = c.requires.class_value_3 in
+    let k = c.requires.class_value in
     let o = opens y refl in
     let p = call.named-apart c.args.st.class e in
     let z = call.for-named c.args.st.class e in
@@ -961,10 +958,10 @@ c::wrap-returns t c =
     let a2 = then_turns (nt n-arguments ∷ []) a1 call.flat-named (call.named-args (sym a1.lays.stands.class_is ∙ k)) in
     let n = law.near (further y o a2 (omega arith)).ready in
     let g = law.went-args c.args-inner.ensures c.in-Next.is in
-    let d1 = law.first-name y o z kind.Call AnyN (nt n-named-optional ∷ []) mv (law.put-before n g c.child-z.ensures.put c.child-z.ensures.value c.exchange.ensures) refl (call.called-role c.args.st.class (call.wrapper-named c.args.st.class w)) in
+    let d1 = law.first-name y o z kind.Call AnyN (nt n-named-optional ∷ []) mv (law.put-before n g c.name-z.ensures.put c.name-z.ensures.value c.exchange.ensures) refl (call.called-role c.args.st.class (call.wrapper-named c.args.st.class w)) in
     let d2 = then_turns (nt n-arguments ∷ []) d1 call.flat-named (call.named-args (sym d1.lays.stands.class_is ∙ law.reserved-class c.args.a (reserved c.args.a) refl ∙ k)) in
-    let d3 = law.then-args d2 (read (law.behind n g c.child-z.ensures.put c.child-z.ensures.value c.exchange.ensures)) refl in
-    as-nonterminal call.named_rule y e (read (shut NamedShape tt y o d3.amid (omega (arith, d3.one)) (call.form-named d3.amid ∙ call.other-is c.args.st.class d3.W w p d3.commas d3.lone_is c.if-lone-eq1.false) tt ExprKind call.call-kind (rw c.from.ensures at c.close-2.ensures)))
+    let d3 = law.then-args d2 (read (law.behind n g c.name-z.ensures.put c.name-z.ensures.value c.exchange.ensures)) refl in
+    as-nonterminal call.named_rule y e (read (shut NamedShape tt y o d3.amid (omega (arith, d3.one)) (call.form-named d3.amid ∙ call.other-is c.args.st.class d3.W w p d3.commas d3.lone_is c.if-lone-eq1.false) tt ExprKind call.call-kind (rw c.of_call.ensures at c.close-2.ensures)))
 
 pub cases-expr-inner-requires : goal.cases-expr-inner-requires
 cases-expr-inner-requires t c =
@@ -1028,7 +1025,7 @@ cases-returns t c =
     let h = c.requires.class_value in
     let o = opens-clean y c.clean.ensures c.reserve.ensures in
     let k = match.at-match c.args.st.class h in
-    as-nonterminal match.match-rule y h (read (match.match-shut o k c.advance-a.ensures c.expr-inner.ensures c.in-Next.is c.eat-open.ensures c.in-Next-open.is c.arms-rest.ensures c.in-Next-rest.is c.eat-brace.ensures c.in-Next-brace.is c.arrange.ensures y (rw⁻¹ c.kind.ensures c.close.ensures) (rw⁻¹ c.fault.ensures c.judged-z.ensures)))
+    as-nonterminal match.match-rule y h (read (match.match-shut o k c.advance-a.ensures c.expr-inner.ensures c.in-Next.is c.eat-open.ensures c.in-Next-open.is c.arms-rest.ensures c.in-Next-rest.is c.eat-brace.ensures c.in-Next-brace.is c.arrange.ensures y (rw⁻¹ c.kind.ensures (rw c.plain.ensures at c.close.ensures)) (judged-at c.judged-z.ensures c.placed.ensures c.fault.ensures refl)))
 
 pub elems-loop-here-init : goal.elems-loop-here-init
 elems-loop-here-init t c =
@@ -1201,52 +1198,7 @@ list-returns t c =
     let d2 = then-eats d1 (omega arith) c.eat-open.ensures c.in-Next.is (sign-mark kind.List class.LBracket tt) in
     let d3 = elem.then-lone d2 c.exprs-inner.ensures c.in-Next-inner.is in
     let d4 = then-eats d3.amid (omega arith) c.eat-bracket.ensures c.in-Next-bracket.is (sign-mark kind.List class.RBracket tt) in
-    as-nonterminal form.listed-rule y e (read (shut ListShape tt y o d4 (omega arith) (form.listed-head d4) tt ExprKind (form.expr-kind (omega arith, omega arith)) c.close.ensures))
-
-pub parens-exprs-inner-requires : goal.parens-exprs-inner-requires
-parens-exprs-inner-requires t c =
-    let y = c.requires.ready in
-    let e = c.requires.class_value in
-    let o = opens y c.reserve.ensures in
-    let d0 = starts kind.Parenthesised AnyN form.parens_rhs c.args.tree.now o.stands in
-    let k = o.class_is ∙ form.at-parens c.args.st.class e in
-    let d1 = advances d0 k (omega arith) c.advance-a.ensures (sign-mark kind.Parenthesised class.LParen tt) in
-    let f1 = further y o d1 (omega arith) in
-    (omega (arith, f1.ahead, f1.within, c.decreases), f1.ready)
-
-pub parens-returns-in_default : goal.parens-returns-in_default
-parens-returns-in_default t c =
-    let y = c.requires.ready in
-    let e = c.requires.class_value in
-    let o = opens y c.reserve.ensures in
-    let d0 = starts kind.Parenthesised AnyN form.parens_rhs c.args.tree.now o.stands in
-    let k = o.class_is ∙ form.at-parens c.args.st.class e in
-    let d1 = advances d0 k (omega arith) c.advance-a.ensures (sign-mark kind.Parenthesised class.LParen tt) in
-    then-passed d1 (refusal c.in_default.is) (enters form.parens-rule y e o) c.exprs-inner.ensures
-
-pub parens-returns-in_default-paren : goal.parens-returns-in_default-paren
-parens-returns-in_default-paren t c =
-    let y = c.requires.ready in
-    let e = c.requires.class_value in
-    let o = opens y c.reserve.ensures in
-    let d0 = starts kind.Parenthesised AnyN form.parens_rhs c.args.tree.now o.stands in
-    let k = o.class_is ∙ form.at-parens c.args.st.class e in
-    let d1 = advances d0 k (omega arith) c.advance-a.ensures (sign-mark kind.Parenthesised class.LParen tt) in
-    let d2 = elem.then-lone d1 c.exprs-inner.ensures c.in-Next.is in
-    then-lacks d2.amid (refusal c.in_default-paren.is) (enters form.parens-rule y e o) c.eat-paren.ensures
-
-pub parens-returns : goal.parens-returns
-parens-returns t c =
-    let y = c.requires.ready in
-    let e = c.requires.class_value in
-    let o = opens y c.reserve.ensures in
-    let k = o.class_is ∙ form.at-parens c.args.st.class e in
-    let a0 = starts (kind_number c.only.result) AnyN form.parens_rhs c.args.tree.now o.stands in
-    let a1 = advances a0 k (omega arith) c.advance-a.ensures (sign-mark (kind_number c.only.result) class.LParen tt) in
-    let a2 = elem.then-lone a1 c.exprs-inner.ensures c.in-Next.is in
-    let a3 = then-eats a2.amid (omega arith) c.eat-paren.ensures c.in-Next-paren.is (sign-mark (kind_number c.only.result) class.RParen tt) in
-    let z = form.parens-kind c.in-Next.lone c.only.ensures in
-    as-nonterminal form.parens-rule y e (read (shut ParensShape tt y o a3 (omega arith) (form.parens-head a2.W c.in-Next.lone a3 a2.so.1 c.only.ensures) (form.not-match z.1 (omega arith)) ExprKind (form.expr-kind (omega (arith, z.0), omega (arith, z.1))) c.close.ensures))
+    as-nonterminal form.listed-rule y e (read (shut ListShape tt y o d4 (omega arith) (form.listed-head d4) tt ExprKind (form.expr-kind (omega arith, omega arith)) (rw c.plain.ensures at c.close.ensures)))
 
 pub single-returns-in_default : goal.single-returns-in_default
 single-returns-in_default t c =

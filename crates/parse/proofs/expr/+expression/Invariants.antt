@@ -26,11 +26,8 @@ decreases-exprs l = 8 * (length (text l.source.now).ts - l.st.at) + 5
 abbrev pub decreases-assign : goal.decreases-assign
 decreases-assign l = 8 * (length (text l.source.now).ts - l.st.at) + 1
 
-abbrev pub decreases-parens : goal.decreases-parens
-decreases-parens l = 8 * (length (text l.source.now).ts - l.st.at) + 1
-
-abbrev pub decreases-array : goal.decreases-array
-decreases-array l = 8 * (length (text l.source.now).ts - l.st.at) + 1
+abbrev pub decreases-bracketed : goal.decreases-bracketed
+decreases-bracketed l = 8 * (length (text l.source.now).ts - l.st.at) + 1
 
 abbrev pub decreases-list : goal.decreases-list
 decreases-list l = 8 * (length (text l.source.now).ts - l.st.at) + 1

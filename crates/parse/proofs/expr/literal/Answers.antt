@@ -18,7 +18,7 @@ returns c =
     let y = c.requires.ready in
     let e = c.requires.class_value in
     let o = opens y c.reserve.ensures in
-    let k = form.literal-kind c.args.st.class c.literal.ensures c.truth.ensures in
-    let d0 = starts (kind_number c.literal.result) AnyN form.literal_rhs c.args.tree.now o.stands in
-    let d1 = advances-one d0 form.flat-literal (form.at_literal c.args.st.class e) o.class_is (form.literal-pos c.args.st.class e) c.advance-a.ensures (keeping-mark (kind_number c.literal.result) c.args.st.class (form.keeping-low (kind_number c.literal.result) (omega (arith, k.0), omega (arith, k.1)))) in
-    as-nonterminal form.literal-rule y e (read (shut LiteralShape tt y o d1 (omega arith) (form.literal-head c.args.st.class c.literal.ensures c.truth.ensures x (tok_at x c.reserve.result.at)) (form.not-match k.1 (omega arith)) ExprKind (form.expr-kind (omega (arith, k.0), omega (arith, k.1))) c.close.ensures))
+    let k = form.literal-kind c.args.st.class c.literal.ensures in
+    let d0 = starts (kind_number c.literal.result.kind) AnyN form.literal_rhs c.args.tree.now o.stands in
+    let d1 = advances-one d0 form.flat-literal (form.at_literal c.args.st.class e) o.class_is (form.literal-pos c.args.st.class e) c.advance-a.ensures (keeping-mark (kind_number c.literal.result.kind) c.args.st.class (form.keeping-low (kind_number c.literal.result.kind) (omega (arith, k.0), omega (arith, k.1)))) in
+    as-nonterminal form.literal-rule y e (read (shut LiteralShape tt y o d1 (omega arith) (form.literal-head c.args.st.class c.literal.ensures x (tok_at x c.reserve.result.at)) (form.not-match k.1 (omega arith)) ExprKind (form.expr-kind (omega (arith, k.0), omega (arith, k.1))) c.close.ensures))

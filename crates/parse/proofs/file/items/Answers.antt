@@ -1,5 +1,4 @@
 -- Assumes nothing.
-use Rattle.std.proofs.Common.{arith}
 use Rattle.parse.specs.Contract.{read}
 use Rattle.parse.proofs.file.Loop as loop
 use Rattle.parse.proofs.Rule.Refused.{refusal}
@@ -10,14 +9,6 @@ loop-here-init c = loop.items-starts c.requires
 
 pub returns-in_default : goal.returns-in_default
 returns-in_default c = loop.items-passed c.requires c.loop-here.invariant c.loop-here-test.true c.item-inner.ensures (refusal c.in_default.is)
-
-pub loop-here-smaller : goal.loop-here-smaller
-loop-here-smaller c =
-    let y = c.requires in
-    let v = c.loop-here.invariant in
-    let n = loop.items-again y v c.loop-here-test.true c.item-inner.ensures c.in-Next.is in
-    let less = loop.item-ahead y v c.loop-here-test.true c.item-inner.ensures c.in-Next.is in
-    omega (arith, less, n.amid.lays.stands.within)
 
 pub loop-here-preserved : goal.loop-here-preserved
 loop-here-preserved c = loop.items-again c.requires c.loop-here.invariant c.loop-here-test.true c.item-inner.ensures c.in-Next.is

@@ -102,4 +102,4 @@ returns c =
     let d3 = then-eats d2 (omega arith) c.eat-equals.ensures c.in-Next-equals.is (sign-mark kind.TypeItem class.Eq tt) in
     let d4 = then-node d3 c.ty-inner.ensures c.in-Next-inner.is in
     let d5 = then-eats d4.amid (omega arith) c.eat-semi.ensures c.in-Next-semi.is (sign-mark kind.TypeItem class.Semi tt) in
-    as-nonterminal form.type-item-rule y e (read (shut TypeItemShape tt y o d5 (omega arith) (form.type-item-head d5) tt TypeItemKind refl c.close.ensures))
+    as-nonterminal form.type-item-rule y e (read (shut TypeItemShape tt y o d5 (omega arith) (form.type-item-head d5) tt TypeItemKind refl (rw c.plain.ensures at c.close.ensures)))

@@ -11,7 +11,6 @@ use Rattle.lexer.specs.Classes as class
 use Rattle.own.specs.Kinds as kind
 use Rattle.own.specs.Arms as arm
 use Rattle.grammar.specs.Shapes.TablesIndex.{n-head}
-use Rattle.parse.specs.Infos.{name_begins}
 use Rattle.parse.proofs.heads.head.Goals as goal
 
 pub returns-in-1 : goal.returns-in-1
@@ -31,9 +30,6 @@ returns-in-2 c =
     let e2 = sym c.heads.ensures ∙ c.in-2.is in
     let d2 = advances (form.turns (tok class.true ∷ []) s form.flat-head (form.true-row i.st.class e2)) (form.at_true i.st.class e2) (omega arith) c.advance-b.ensures (keeping-mark kind.BuiltinArm class.true tt) in
     rw c.from-in-2.ensures (read (form.built_in arm.True d2 (λ h. omega arith) form.unseen-nil form.true-place (omega arith) (omega arith)))
-
-pub enum_path-requires-clause-leading : goal.enum_path-requires-clause-leading
-enum_path-requires-clause-leading c = name_begins (sym c.heads.ensures ∙ c.in-5.is)
 
 pub returns-in_default : goal.returns-in_default
 returns-in_default c =

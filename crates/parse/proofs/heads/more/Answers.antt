@@ -28,12 +28,6 @@ returns-in_default c =
     let v = c.loop-here.invariant in
     pairs.more-passed y v c.loop-here-test.true c.advance-a.ensures c.if-a-eq-RPAREN.false (refusal c.in_default.is) c.pair-next.ensures
 
-pub overflow_add-number : goal.overflow_add-number
-overflow_add-number c =
-    let y = c.requires in
-    let v = c.loop-here.invariant in
-    omega (arith, pairs.more-few y v)
-
 pub loop-here-smaller : goal.loop-here-smaller
 loop-here-smaller c =
     let y = c.requires in

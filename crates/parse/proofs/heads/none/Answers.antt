@@ -11,7 +11,6 @@ use Rattle.lexer.specs.Classes as class
 use Rattle.own.specs.Kinds as kind
 use Rattle.own.specs.Arms as arm
 use Rattle.grammar.specs.Shapes.TablesIndex.{n-head, n-head-optional}
-use Rattle.parse.specs.Infos.{none_begins}
 use Rattle.parse.proofs.heads.none.Goals as goal
 
 pub returns-then-a-ne-DOUBLE_COLON : goal.returns-then-a-ne-DOUBLE_COLON
@@ -24,6 +23,3 @@ returns-then-a-ne-DOUBLE_COLON c =
     let a1 = advances a0 k (omega arith) c.advance-a.ensures (keeping-mark kind.BuiltinArm class.None tt) in
     let a2 = form.turns [] a1 form.flat-optional (form.no-optional-row c.advance-a.result.class c.if-a-ne-DOUBLE_COLON.true) in
     rw c.from.ensures (read (form.built_in arm.None a2 (λ h. omega arith) form.unseen-nil form.none-place (omega arith) (omega arith)))
-
-pub enum_path-requires-clause-leading : goal.enum_path-requires-clause-leading
-enum_path-requires-clause-leading c = none_begins c.requires.class_value c.if-a-ne-DOUBLE_COLON.false

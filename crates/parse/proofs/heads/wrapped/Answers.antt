@@ -12,11 +12,7 @@ use Rattle.own.specs.Kinds as kind
 use Rattle.own.specs.Law.{sorts}
 use Rattle.grammar.specs.Shapes.TablesIndex.{n-head, n-head-choice, n-head-word, n-pair}
 use Rattle.parse.proofs.Rule.Refused.{refusal}
-use Rattle.parse.specs.Infos.{word_begins}
 use Rattle.parse.proofs.heads.wrapped.Goals as goal
-
-pub enum_path-requires-clause-leading : goal.enum_path-requires-clause-leading
-enum_path-requires-clause-leading c = word_begins c.requires.class_value c.if-a-ne-LPAREN.true
 
 pub pair-inner-requires : goal.pair-inner-requires
 pair-inner-requires c =

@@ -9,4 +9,4 @@ returns-then-st-ne-DEC_LITERAL c = refuses-tok c.requires c.if-st-ne-DEC_LITERAL
 
 pub returns : goal.returns
 unfolding text
-returns c = child-decimal c.requires c.if-st-ne-DEC_LITERAL.false c.advance-a.ensures c.child_number-b.ensures.put_number c.child_number-b.ensures.value c.number.ensures
+returns c = child-decimal c.requires c.if-st-ne-DEC_LITERAL.false c.advance-a.ensures c.decimal-b.ensures.put_number c.decimal-b.ensures.value c.number.ensures

@@ -11,4 +11,4 @@ returns-then-not-is_name c = refuses-near c.requires (no-name c.args.sort _ (sym
 pub returns : goal.returns
 returns c =
     let e = sym c.is_name.ensures ∙ c.if-not-is_name.false in
-    child-near c.requires (named-pos c.args.sort _ e) c.advance-a.ensures c.child-b.ensures.put c.child-b.ensures.value (flat-name c.args.sort) (a-name c.args.sort _ e)
+    child-near c.requires (named-pos c.args.sort _ e) c.advance-a.ensures c.name-b.ensures.put c.name-b.ensures.value (flat-name c.args.sort) (a-name c.args.sort _ e)

@@ -4,7 +4,7 @@ use Rattle.std.proofs.Common.{arith}
 use Rattle.parse.specs.Contract.{read}
 use Rattle.parse.proofs.Rule.Refused.{refusal}
 use Rattle.parse.proofs.names.Steps.{ready-near}
-use Rattle.parse.proofs.names.Joined.{joined-starts, joined-less, joined-within, joined-again, names-passed, first-ready, names-few, next-ready, next-passed, names-went}
+use Rattle.parse.proofs.names.Joined.{joined-starts, joined-less, joined-within, joined-again, names-passed, first-ready, next-ready, next-passed, names-went}
 use Rattle.parse.proofs.names.names.Goals as goal
 
 pub returns-in_default : goal.returns-in_default
@@ -18,9 +18,6 @@ name-next-requires c = ready-near (next-ready c.requires c.name-first.ensures c.
 
 pub returns-in_default-next : goal.returns-in_default-next
 returns-in_default-next c = next-passed c.requires c.name-first.ensures c.in-Next.is c.loop-here.invariant c.loop-here-test.true c.advance-b.ensures (refusal c.in_default-next.is) c.name-next.ensures
-
-pub overflow_add-number : goal.overflow_add-number
-overflow_add-number c = omega (arith, names-few c.requires c.name-first.ensures c.in-Next.is c.loop-here.invariant)
 
 pub loop-here-smaller : goal.loop-here-smaller
 loop-here-smaller c =

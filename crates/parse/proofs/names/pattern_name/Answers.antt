@@ -1,16 +1,15 @@
--- Only a plain name of one byte is looked at.
+-- Only a plain name is looked at, and compared with `_`.
 -- Assumes nothing.
-use Rattle.parse.proofs.names.Tests.{is-underscore, is-other, is-longer, no-plain-name}
+use Rattle.std.proofs.Common.{◌∙◌, sym}
+use Rattle.std.specs.Cmp.Lexicographic.{same_text, other_text}
+use Rattle.parse.proofs.names.Tests.{is-underscore, is-other, no-plain-name}
 use Rattle.parse.proofs.names.pattern_name.Goals as goal
 
 pub returns-then-st-ne-IDENT : goal.returns-then-st-ne-IDENT
 returns-then-st-ne-IDENT c = no-plain-name _ _ c.if-st-ne-IDENT.true
 
-pub returns-then-t-eq95 : goal.returns-then-t-eq95
-returns-then-t-eq95 c = is-underscore _ _ _ c.part-t.ensures c.if-st-ne-IDENT.false c.if-t-eq1.true c.if-t-eq95.true
+pub returns-then-eq : goal.returns-then-eq
+returns-then-eq c = is-underscore _ _ _ c.part-t.ensures c.if-st-ne-IDENT.false (same_text _ _ (sym c.if-eq.true ∙ c.eq.ensures) ∙ c.as_slice.ensures)
 
-pub returns-else-t-eq95 : goal.returns-else-t-eq95
-returns-else-t-eq95 c = is-other _ _ _ c.part-t.ensures c.if-st-ne-IDENT.false c.if-t-eq1.true c.if-t-eq95.false
-
-pub returns-else-t-eq1 : goal.returns-else-t-eq1
-returns-else-t-eq1 c = is-longer _ _ _ c.part-t.ensures c.if-st-ne-IDENT.false c.if-t-eq1.false
+pub returns : goal.returns
+returns c = is-other _ _ _ c.part-t.ensures c.if-st-ne-IDENT.false (λ e. other_text _ _ (sym c.if-eq.false ∙ c.eq.ensures) (e ∙ sym c.as_slice.ensures))

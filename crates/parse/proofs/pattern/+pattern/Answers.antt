@@ -3,110 +3,67 @@ use Rattle.std.proofs.Common.{rules, sym, ap, ◌∙◌, arith}
 use Rattle.theory.specs.Walk.{k_nt}
 use Rattle.theory.specs.Machine.{expand}
 use Rattle.grammar.specs.Shapes.Tables.{table}
-use Rattle.parse.specs.Contract.{read, stuck, PatternKind}
+use Rattle.parse.specs.Contract.{read, stuck, PatternKind, opening_class, closing_class, pattern_kind}
 use Rattle.parse.proofs.Rule.Amid.{starts, then-passed}
 use Rattle.parse.proofs.Rule.Closing.{opens, as-nonterminal, enters}
 use Rattle.parse.proofs.Rule.Chain.{further, advances, then-eats, then-lacks}
-use Rattle.parse.proofs.Rule.Marks.{sign-mark}
+use Rattle.parse.proofs.Rule.Marks.{sign_pos, sign-mark, opens-sign, closes-sign}
 use Rattle.parse.proofs.Rule.Commas.{AnyN, Lined}
 use Rattle.parse.proofs.Rule.Commas as lined
 use Rattle.parse.proofs.Rule.Heads.{shut}
 use Rattle.parse.proofs.pattern.Forms as form
-use Rattle.lexer.specs.Classes as class
-use Rattle.own.specs.Kinds as kind
 use Rattle.grammar.specs.Shapes.TablesIndex.{n-pattern}
-use Rattle.grammar.specs.Shapes.ShapeKind.{ArrayPatternShape, TuplePatternShape}
 use Rattle.parse.proofs.Rule.Refused.{refusal}
 use Rattle.std.proofs.Common.{not}
 use Rattle.parse.proofs.pattern.+pattern.Goals as goal
 
-pub array-patterns-inner-requires : goal.array-patterns-inner-requires
-array-patterns-inner-requires t c =
+pub bracketed-patterns-inner-requires : goal.bracketed-patterns-inner-requires
+bracketed-patterns-inner-requires t c =
     let y = c.requires.ready in
     let e = c.requires.class_value in
+    let b = c.args.brackets in
     let o = opens y c.reserve.ensures in
-    let d0 = starts kind.ArrayPattern AnyN form.array_rhs c.args.tree.now o.stands in
-    let k = o.class_is ∙ form.at-array c.args.st.class e in
-    let d1 = advances d0 k (omega arith) c.advance-a.ensures (sign-mark kind.ArrayPattern class.LBracket tt) in
+    let d0 = starts (pattern_kind b) AnyN (form.list_rhs b) c.args.tree.now o.stands in
+    let k = o.class_is ∙ form.at-list c.args.st.class b e in
+    let d1 = advances d0 k (sign_pos (opening_class b) (opens-sign b)) c.advance-a.ensures (sign-mark (pattern_kind b) (opening_class b) (opens-sign b)) in
     let f1 = further y o d1 (omega arith) in
     (omega (arith, f1.ahead, f1.within, c.decreases), f1.ready)
 
-pub array-returns-in_default : goal.array-returns-in_default
-array-returns-in_default t c =
+pub bracketed-returns-in_default : goal.bracketed-returns-in_default
+bracketed-returns-in_default t c =
     let y = c.requires.ready in
     let e = c.requires.class_value in
+    let b = c.args.brackets in
     let o = opens y c.reserve.ensures in
-    let d0 = starts kind.ArrayPattern AnyN form.array_rhs c.args.tree.now o.stands in
-    let k = o.class_is ∙ form.at-array c.args.st.class e in
-    let d1 = advances d0 k (omega arith) c.advance-a.ensures (sign-mark kind.ArrayPattern class.LBracket tt) in
-    then-passed d1 (refusal c.in_default.is) (enters form.array-rule y e o) c.patterns-inner.ensures
+    let d0 = starts (pattern_kind b) AnyN (form.list_rhs b) c.args.tree.now o.stands in
+    let k = o.class_is ∙ form.at-list c.args.st.class b e in
+    let d1 = advances d0 k (sign_pos (opening_class b) (opens-sign b)) c.advance-a.ensures (sign-mark (pattern_kind b) (opening_class b) (opens-sign b)) in
+    then-passed d1 (refusal c.in_default.is) (enters (form.list-rule b) y e o) c.patterns-inner.ensures
 
-pub array-returns-in_default-bracket : goal.array-returns-in_default-bracket
-array-returns-in_default-bracket t c =
+pub bracketed-returns-in_default-end : goal.bracketed-returns-in_default-end
+bracketed-returns-in_default-end t c =
     let y = c.requires.ready in
     let e = c.requires.class_value in
+    let b = c.args.brackets in
     let o = opens y c.reserve.ensures in
-    let d0 = starts kind.ArrayPattern AnyN form.array_rhs c.args.tree.now o.stands in
-    let k = o.class_is ∙ form.at-array c.args.st.class e in
-    let d1 = advances d0 k (omega arith) c.advance-a.ensures (sign-mark kind.ArrayPattern class.LBracket tt) in
+    let d0 = starts (pattern_kind b) AnyN (form.list_rhs b) c.args.tree.now o.stands in
+    let k = o.class_is ∙ form.at-list c.args.st.class b e in
+    let d1 = advances d0 k (sign_pos (opening_class b) (opens-sign b)) c.advance-a.ensures (sign-mark (pattern_kind b) (opening_class b) (opens-sign b)) in
     let d2 = lined.then-list d1 c.patterns-inner.ensures c.in-Next.is in
-    then-lacks d2.amid (refusal c.in_default-bracket.is) (enters form.array-rule y e o) c.eat-bracket.ensures
+    then-lacks d2.amid (refusal c.in_default-end.is) (enters (form.list-rule b) y e o) (rw c.end.ensures at c.eat-end.ensures)
 
-pub array-returns : goal.array-returns
-array-returns t c =
+pub bracketed-returns : goal.bracketed-returns
+bracketed-returns t c =
     let y = c.requires.ready in
     let e = c.requires.class_value in
+    let b = c.args.brackets in
     let o = opens y c.reserve.ensures in
-    let d0 = starts kind.ArrayPattern AnyN form.array_rhs c.args.tree.now o.stands in
-    let k = o.class_is ∙ form.at-array c.args.st.class e in
-    let d1 = advances d0 k (omega arith) c.advance-a.ensures (sign-mark kind.ArrayPattern class.LBracket tt) in
+    let d0 = starts (pattern_kind b) AnyN (form.list_rhs b) c.args.tree.now o.stands in
+    let k = o.class_is ∙ form.at-list c.args.st.class b e in
+    let d1 = advances d0 k (sign_pos (opening_class b) (opens-sign b)) c.advance-a.ensures (sign-mark (pattern_kind b) (opening_class b) (opens-sign b)) in
     let d2 = lined.then-list d1 c.patterns-inner.ensures c.in-Next.is in
-    let d3 = then-eats d2.amid (omega arith) c.eat-bracket.ensures c.in-Next-bracket.is (sign-mark kind.ArrayPattern class.RBracket tt) in
-    as-nonterminal form.array-rule y e (read (shut ArrayPatternShape tt y o d3 (omega arith) (form.array_head d3) tt PatternKind (omega arith, omega arith) c.close.ensures))
-
-pub tuple-patterns-inner-requires : goal.tuple-patterns-inner-requires
-tuple-patterns-inner-requires t c =
-    let y = c.requires.ready in
-    let e = c.requires.class_value in
-    let o = opens y c.reserve.ensures in
-    let d0 = starts kind.TuplePattern AnyN form.tuple_rhs c.args.tree.now o.stands in
-    let k = o.class_is ∙ form.at-tuple c.args.st.class e in
-    let d1 = advances d0 k (omega arith) c.advance-a.ensures (sign-mark kind.TuplePattern class.LParen tt) in
-    let f1 = further y o d1 (omega arith) in
-    (omega (arith, f1.ahead, f1.within, c.decreases), f1.ready)
-
-pub tuple-returns-in_default : goal.tuple-returns-in_default
-tuple-returns-in_default t c =
-    let y = c.requires.ready in
-    let e = c.requires.class_value in
-    let o = opens y c.reserve.ensures in
-    let d0 = starts kind.TuplePattern AnyN form.tuple_rhs c.args.tree.now o.stands in
-    let k = o.class_is ∙ form.at-tuple c.args.st.class e in
-    let d1 = advances d0 k (omega arith) c.advance-a.ensures (sign-mark kind.TuplePattern class.LParen tt) in
-    then-passed d1 (refusal c.in_default.is) (enters form.tuple-rule y e o) c.patterns-inner.ensures
-
-pub tuple-returns-in_default-paren : goal.tuple-returns-in_default-paren
-tuple-returns-in_default-paren t c =
-    let y = c.requires.ready in
-    let e = c.requires.class_value in
-    let o = opens y c.reserve.ensures in
-    let d0 = starts kind.TuplePattern AnyN form.tuple_rhs c.args.tree.now o.stands in
-    let k = o.class_is ∙ form.at-tuple c.args.st.class e in
-    let d1 = advances d0 k (omega arith) c.advance-a.ensures (sign-mark kind.TuplePattern class.LParen tt) in
-    let d2 = lined.then-list d1 c.patterns-inner.ensures c.in-Next.is in
-    then-lacks d2.amid (refusal c.in_default-paren.is) (enters form.tuple-rule y e o) c.eat-paren.ensures
-
-pub tuple-returns : goal.tuple-returns
-tuple-returns t c =
-    let y = c.requires.ready in
-    let e = c.requires.class_value in
-    let o = opens y c.reserve.ensures in
-    let d0 = starts kind.TuplePattern AnyN form.tuple_rhs c.args.tree.now o.stands in
-    let k = o.class_is ∙ form.at-tuple c.args.st.class e in
-    let d1 = advances d0 k (omega arith) c.advance-a.ensures (sign-mark kind.TuplePattern class.LParen tt) in
-    let d2 = lined.then-list d1 c.patterns-inner.ensures c.in-Next.is in
-    let d3 = then-eats d2.amid (omega arith) c.eat-paren.ensures c.in-Next-paren.is (sign-mark kind.TuplePattern class.RParen tt) in
-    as-nonterminal form.tuple-rule y e (read (shut TuplePatternShape tt y o d3 (omega arith) (form.tuple-head d3) tt PatternKind (omega arith, omega arith) c.close.ensures))
+    let d3 = then-eats d2.amid (sign_pos (closing_class b) (closes-sign b)) (rw c.end.ensures at c.eat-end.ensures) c.in-Next-end.is (sign-mark (pattern_kind b) (closing_class b) (closes-sign b)) in
+    as-nonterminal (form.list-rule b) y e (read (shut (form.list_shape b) (form.list-faultless b) y o d3 (omega arith) (form.list-head b d3) (form.list-unturned b) PatternKind (form.list-kind b) (rw (c.plain.ensures, c.kind.ensures) at c.close.ensures)))
 
 pub pattern-returns-in_default : goal.pattern-returns-in_default
 pattern-returns-in_default t c =

@@ -23,4 +23,4 @@ returns c =
     let d0 = starts (kind_number c.pattern_name-kind.result) AnyN form.named_rhs c.args.tree.now o.stands in
     let d1 = advances-one d0 form.flat-named (form.at_named k e) o.class_is (form.named-pos k e) c.advance-a.ensures (form.named-role p k h k) in
     as-nonterminal form.named_rule y e
-    (read (shut NamePatternShape tt y o d1 (omega arith) (form.named-head c.args.source.now c.reserve.result y.stands o.at_is h) (form.named-unturned p k h) PatternKind (form.named-kind p k h) c.close.ensures))
+    (read (shut NamePatternShape tt y o d1 (omega arith) (form.named-head c.args.source.now c.reserve.result y.stands o.at_is h) (form.named-unturned p k h) PatternKind (form.named-kind p k h) (rw c.plain.ensures at c.close.ensures)))

@@ -184,8 +184,8 @@ returns-in_default-body c =
     let d7 = form.then-optional d6 c.result-arrow.ensures c.in-Next-arrow.is in
     then-passed d7.amid (refusal c.in_default-body.is) (form.function-enters y o) c.block-body.ensures
 
-pub overflow_add-low : goal.overflow_add-low
-overflow_add-low c =
+pub overflow_add-head : goal.overflow_add-head
+overflow_add-head c =
     let y = c.requires in
     let x = text c.args.source.now in
     let o = opens y c.reserve.ensures in

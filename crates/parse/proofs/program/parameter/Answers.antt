@@ -77,4 +77,4 @@ returns c =
     let d1 = then-named d0 c.name-first.ensures c.in-Next.is (name-role kind.Parameter (tok_at x c.reserve.result.at).class form.named-parameter name) in
     let d2 = then-eats d1 (omega arith) c.eat-colon.ensures c.in-Next-colon.is (sign-mark kind.Parameter class.Colon tt) in
     let d3 = then-node d2 c.ty-inner.ensures c.in-Next-inner.is in
-    as-nonterminal form.parameter-rule y e (read (shut ParameterShape tt y o d3.amid (omega arith) (form.parameter-head d3.amid) tt ParameterKind refl c.close.ensures))
+    as-nonterminal form.parameter-rule y e (read (shut ParameterShape tt y o d3.amid (omega arith) (form.parameter-head d3.amid) tt ParameterKind refl (rw c.plain.ensures at c.close.ensures)))

@@ -1,6 +1,7 @@
--- The record is put where it was reserved, with the number of records since.
+-- The two halves are written.
 -- Assumes nothing.
+use Rattle.parse.specs.Contract.{written}
 use Rattle.parse.proofs.tree.close_number.Goals as goal
 
 pub returns : goal.returns
-returns c = rw c.saturating_sub.ensures at c.put_number.ensures
+returns c = written c.in-Some.is (rw c.of_number.ensures at c.close.ensures)

@@ -11,7 +11,7 @@ use Rattle.parse.proofs.Rule.Chain.{further, advances, then-eats, then-lacks, th
 use Rattle.parse.proofs.Rule.Marks.{sign-mark, keeping-mark}
 use Rattle.parse.proofs.Rule.Commas.{AnyN, Lined}
 use Rattle.parse.proofs.Rule.Commas as lined
-use Rattle.parse.proofs.Rule.Heads.{shut, shut-judged, number_at, value-is, value-text, first-is}
+use Rattle.parse.proofs.Rule.Heads.{judged-at, shut, shut-judged, number_at, value-is, value-text, first-is}
 use Rattle.parse.proofs.tree.Numbers.{array-numbered, list-numbered, put-number}
 use Rattle.parse.proofs.types.Forms as form
 use Rattle.lexer.specs.Classes as class
@@ -87,7 +87,7 @@ array-returns t c =
     let d5 = then-eats d4 (omega arith) c.eat-bracket.ensures c.in-Next-bracket.is (sign-mark kind.ArrayType class.RBracket tt) in
     let n = value-is c.args.source.now d3.lays.stands c.number-v.ensures in
     let z = form.wide_is (form.array_head d5) (number_at d5) refl refl in
-    as-nonterminal form.array-rule y e (read (shut-judged ArrayTypeShape y o d5 (omega arith) z tt tt TypeKind (omega arith, omega arith) (put-number (value_at x c.in-Next-semi.c.at) n array-numbered c.close_number.ensures) (form.judged-at c.judged-f.ensures c.array_length.ensures d3.lays.stands.start_is)
+    as-nonterminal form.array-rule y e (read (shut-judged ArrayTypeShape y o d5 (omega arith) z tt tt TypeKind (omega arith, omega arith) (put-number (value_at x c.in-Next-semi.c.at) n array-numbered c.close_number.ensures) (judged-at c.judged-f.ensures c.placed.ensures c.array_length.ensures d3.lays.stands.start_is)
     (λ is u v. form.array-fault x.draft is c.number-v.result (tok_at x c.in-Next-semi.c.at) (first-is is u v) (value-text c.args.source.now d3.lays.stands c.number-v.ensures))))
 
 pub either-returns-then-a-ne-LANGLE : goal.either-returns-then-a-ne-LANGLE
@@ -99,7 +99,7 @@ either-returns-then-a-ne-LANGLE t c =
     let a0 = starts kind.Alias AnyN form.either_rhs c.args.tree.now o.stands in
     let a1 = advances a0 k (omega arith) c.advance-a.ensures (keeping-mark kind.Alias class.Either tt) in
     let a2 = then_turns [] a1 form.flat-either (form.either-alone (λ h. c.if-a-ne-LANGLE.true (a1.lays.stands.class_is ∙ h))) in
-    as-nonterminal form.either-rule y e (read (shut EitherTypeShape tt y o a2 (omega arith) (form.either-alone-head a2) tt TypeKind (omega arith, omega arith) c.close.ensures))
+    as-nonterminal form.either-rule y e (read (shut EitherTypeShape tt y o a2 (omega arith) (form.either-alone-head a2) tt TypeKind (omega arith, omega arith) (rw c.plain.ensures at c.close.ensures)))
 
 pub either-ty-left-requires : goal.either-ty-left-requires
 either-ty-left-requires t c =
@@ -198,7 +198,7 @@ either-returns t c =
     let d6 = then-node d5 c.ty-right.ensures c.in-Next-right.is in
     let d7 = then-eats d6.amid (omega arith) c.eat-angle.ensures c.in-Next-angle.is (sign-mark kind.EitherType class.RAngle tt) in
     let z = form.wide_is (form.either-head d7) (number_at d7 ∙ form.no_value (text c.args.source.now).draft) form.zero-low form.zero_high in
-    as-nonterminal form.either-rule y e (read (shut EitherTypeShape tt y o d7 (omega arith) z tt TypeKind (omega arith, omega arith) c.close-2.ensures))
+    as-nonterminal form.either-rule y e (read (shut EitherTypeShape tt y o d7 (omega arith) z tt TypeKind (omega arith, omega arith) (rw c.plain-2.ensures at c.close-2.ensures)))
 
 pub list-returns-then-a-ne-LANGLE : goal.list-returns-then-a-ne-LANGLE
 list-returns-then-a-ne-LANGLE t c =
@@ -210,7 +210,7 @@ list-returns-then-a-ne-LANGLE t c =
     let a0 = starts kind.Alias AnyN form.list_rhs c.args.tree.now o.stands in
     let a1 = advances a0 k (omega arith) c.advance-a.ensures (keeping-mark kind.Alias class.List tt) in
     let a2 = then_turns [] a1 form.flat_list (form.list-alone (λ h. c.if-a-ne-LANGLE.true (a1.lays.stands.class_is ∙ h))) in
-    as-nonterminal form.list-rule y e (read (shut-judged ListTypeShape y o a2 (omega arith) (form.list-alone-head a2) tt tt TypeKind (omega arith, omega arith) c.close.ensures c.judged-z.ensures (λ is u v. form.list-alone-fault x.draft is u)))
+    as-nonterminal form.list-rule y e (read (shut-judged ListTypeShape y o a2 (omega arith) (form.list-alone-head a2) tt tt TypeKind (omega arith, omega arith) (rw c.plain.ensures at c.close.ensures) c.judged-z.ensures (λ is u v. form.list-alone-fault x.draft is u)))
 
 pub list-ty-inner-requires : goal.list-ty-inner-requires
 list-ty-inner-requires t c =
@@ -296,7 +296,7 @@ list-returns t c =
     let d7 = then-eats d6 (omega arith) c.eat-angle.ensures c.in-Next-angle.is (sign-mark kind.ListType class.RAngle tt) in
     let n = value-is c.args.source.now d5.lays.stands c.number-v.ensures in
     let z = form.wide_is (form.list-head d7) (number_at d7) refl refl in
-    as-nonterminal form.list-rule y e (read (shut-judged ListTypeShape y o d7 (omega arith) z tt tt TypeKind (omega arith, omega arith) (put-number (value_at x c.in-Next-comma.d.at) n list-numbered c.close_number.ensures) (form.judged-at c.judged-g.ensures c.bound.ensures d5.lays.stands.start_is)
+    as-nonterminal form.list-rule y e (read (shut-judged ListTypeShape y o d7 (omega arith) z tt tt TypeKind (omega arith, omega arith) (put-number (value_at x c.in-Next-comma.d.at) n list-numbered c.close_number.ensures) (judged-at c.judged-g.ensures c.placed.ensures c.bound.ensures d5.lays.stands.start_is)
     (λ is u v. form.list-fault x.draft is c.number-v.result (tok_at x c.in-Next-comma.d.at) u (first-is is u v) (value-text c.args.source.now d5.lays.stands c.number-v.ensures))))
 
 pub option-returns-then-a-ne-LANGLE : goal.option-returns-then-a-ne-LANGLE
@@ -308,7 +308,7 @@ option-returns-then-a-ne-LANGLE t c =
     let a0 = starts kind.Alias AnyN form.option_rhs c.args.tree.now o.stands in
     let a1 = advances a0 k (omega arith) c.advance-a.ensures (keeping-mark kind.Alias class.Option tt) in
     let a2 = then_turns [] a1 form.flat-option (form.option-alone (λ h. c.if-a-ne-LANGLE.true (a1.lays.stands.class_is ∙ h))) in
-    as-nonterminal form.option-rule y e (read (shut OptionTypeShape tt y o a2 (omega arith) (form.option-alone-head a2) tt TypeKind (omega arith, omega arith) c.close.ensures))
+    as-nonterminal form.option-rule y e (read (shut OptionTypeShape tt y o a2 (omega arith) (form.option-alone-head a2) tt TypeKind (omega arith, omega arith) (rw c.plain.ensures at c.close.ensures)))
 
 pub option-ty-inner-requires : goal.option-ty-inner-requires
 option-ty-inner-requires t c =
@@ -361,7 +361,7 @@ option-returns t c =
     let d4 = then-node d3 c.ty-inner.ensures c.in-Next.is in
     let d5 = then-eats d4.amid (omega arith) c.eat-angle.ensures c.in-Next-angle.is (sign-mark kind.OptionType class.RAngle tt) in
     let z = form.wide_is (form.option-head d5) (number_at d5 ∙ form.no_value (text c.args.source.now).draft) form.zero-low form.zero_high in
-    as-nonterminal form.option-rule y e (read (shut OptionTypeShape tt y o d5 (omega arith) z tt TypeKind (omega arith, omega arith) c.close-2.ensures))
+    as-nonterminal form.option-rule y e (read (shut OptionTypeShape tt y o d5 (omega arith) z tt TypeKind (omega arith, omega arith) (rw c.plain-2.ensures at c.close-2.ensures)))
 
 pub tuple-types-inner-requires : goal.tuple-types-inner-requires
 tuple-types-inner-requires t c =
@@ -405,7 +405,7 @@ tuple-returns t c =
     let d1 = advances d0 k (omega arith) c.advance-a.ensures (sign-mark kind.TupleType class.LParen tt) in
     let d2 = lined.then-list d1 c.types-inner.ensures c.in-Next.is in
     let d3 = then-eats d2.amid (omega arith) c.eat-paren.ensures c.in-Next-paren.is (sign-mark kind.TupleType class.RParen tt) in
-    as-nonterminal form.tuple-rule y e (read (shut TupleTypeShape tt y o d3 (omega arith) (form.tuple-head d3) tt TypeKind (omega arith, omega arith) c.close.ensures))
+    as-nonterminal form.tuple-rule y e (read (shut TupleTypeShape tt y o d3 (omega arith) (form.tuple-head d3) tt TypeKind (omega arith, omega arith) (rw c.plain.ensures at c.close.ensures)))
 
 pub ty-returns-in_default : goal.ty-returns-in_default
 ty-returns-in_default t c =
