@@ -4,19 +4,19 @@
 Nothing here needs trust: the crate's proofs compute the table's rule against the definition (specs/Bytes.antt) over all 256 entries.
     tools/bytes.py            write the file
     tools/bytes.py --check    exit 1 if the file is not what would be written
-The numbers of the classes are those of src/byte.rt and, for a mark of one byte, its kind's of src/classes.rt.
+The numbers of the classes are those of specs/Bytes.antt and, for a mark of one byte, its kind's of src/classes.rt.
 """
 import pathlib, re, string, sys
 
 root = pathlib.Path(__file__).resolve().parent.parent / "crates/lexer"
 
 
-def constants(file):
-    return {name: value for name, value in re.findall(r"const (\w+): u\d+ = ([^;]+);", (root / file).read_text())}
+def numbers(file, form):
+    return dict(re.findall(form, (root / file).read_text(), re.M))
 
 
-kinds = constants("src/classes.rt")
-classes = constants("src/byte.rt")
+kinds = numbers("src/classes.rt", r"const (\w+): u32 = (\d+);")
+classes = numbers("specs/Bytes.antt", r"^(\w+) = (\d+)$")
 # the marks of one byte
 marks = {":": "COLON", ";": "SEMI", ",": "COMMA", "=": "EQ", "(": "LPAREN", ")": "RPAREN", "[": "LBRACKET", "]": "RBRACKET", "{": "LBRACE", "}": "RBRACE",
          "<": "LANGLE", ">": "RANGLE"}
@@ -26,26 +26,26 @@ def class_of(byte):
     """The first set that has the byte gives its class."""
     b = chr(byte)
     if byte > 127:
-        return classes["NOT_ASCII"]
+        return classes["NotAscii"]
     if b in "\r\n":
-        return classes["LINE_END"]
+        return classes["LineEnd"]
     if 9 <= byte <= 13 or byte == 32:  # "Whitespace is bytes 9 to 13 and 32."
-        return classes["SPACE"]
+        return classes["Space"]
     if b == "_":
-        return classes["UNDERSCORE"]
+        return classes["Underscore"]
     if b in "01":
-        return classes["BINARY_DIGIT"]
+        return classes["BinaryDigit"]
     if b in string.digits:
-        return classes["DIGIT"]
+        return classes["Digit"]
     if b in string.hexdigits:
-        return classes["HEX_LETTER"]
+        return classes["HexLetter"]
     if b in string.ascii_letters:
-        return classes["LETTER"]
+        return classes["Letter"]
     if b == "/":
-        return classes["SLASH"]
+        return classes["Slash"]
     if b == "-":
-        return classes["MINUS"]
-    return kinds[marks[b]] if b in marks else classes["OTHER"]
+        return classes["Minus"]
+    return kinds[marks[b]] if b in marks else classes["Other"]
 
 
 table = [int(class_of(byte)) for byte in range(256)]

@@ -201,8 +201,6 @@ def heads():
 
 
 HEADS = heads()
-BEGINS_AT = HEAD_COLUMNS * (1 + LAST)
-BEGINS = HEADS[BEGINS_AT:]
 KIND_CUES = [next((i + 1 for i, g in enumerate(CATEGORIES) if kind in g), 0) for kind in range(1 + LAST)]
 
 
@@ -234,27 +232,22 @@ def code():
     def string(xs):
         return "".join(f"\\x{x:02x}" for x in xs)
 
-    def entries(name, length, xs, width):
-        rows = [string(xs[i:i + width]) for i in range(0, len(xs), width)]
-        return f'pub(crate) static {name}: [u8; {length}] = *b"\\\n    ' + "\\\n    ".join(rows) + '";\n'
-
-    def rows(name, length, xss):
-        return f"pub(crate) static {name}: [{length}] = [\n" + "".join(f'    *b"{string(xs)}",\n' for xs in xss) + "];\n"
+    def state(row):
+        return f'    State {{\n        next: *b"{string(row[:-1])}",\n        ends: {"true" if row[-1] else "false"},\n    }},\n'
 
     def head(kind):
         asked, first, lows = HEADS[HEAD_COLUMNS * kind:HEAD_COLUMNS * (kind + 1)]
-        case = ("nothing", *ASKED)[asked].capitalize()
-        return f"    Head {{\n        asked: Asked::{case},\n        first: {max(0, first - BEGINS_AT)},\n        lows: {lows},\n    }},\n"
+        if not asked:
+            return "    None,\n"
+        begins = string(HEADS[first:first + lows])
+        return f'    Some(Head {{\n        asked: Asked::{ASKED[asked - 1].capitalize()},\n        begins: b"{begins}",\n    }}),\n'
 
     return ("// The automaton of a record's children, and the states that it begins in, by kind. Made by tools/children.py from the kinds table; the proofs\n"
-            "// compute that both are right (proofs/Children).\nuse crate::begin::{Asked, Head};\n\n"
-            "// How many states there are, and how many entries each has: the next state by cue, and then 1 where a record may end.\n"
-            f"pub(crate) const STATES: usize = {COUNT};\n\npub(crate) const COLUMNS: usize = {len(CUES) + 1};\n\n"
-            + rows("STEPS", "[u8; COLUMNS]; STATES", ROWS)
-            + "\n// How many kinds there are, and for each what is asked of low and high, where the states of its lows stand, and how many lows are looked up.\n"
-            f"pub(crate) const KINDS: usize = {1 + LAST};\n\npub(crate) static HEADS: [Head; KINDS] = [\n" + "".join(map(head, range(1 + LAST))) + "];\n"
-            + f"\n// The states that the children of a record begin in, by kind and low.\npub(crate) const BEGIN_ENTRIES: usize = {len(BEGINS)};\n\n"
-            + entries("BEGINS", "BEGIN_ENTRIES", BEGINS, 24))
+            "// compute that both are right (proofs/Children).\nuse crate::begin::{Asked, Head};\nuse crate::walk::State;\n\n"
+            f"// How many states there are.\npub(crate) const STATE_COUNT: usize = {COUNT};\n\n"
+            "pub(crate) static STATES: [State; STATE_COUNT] = [\n" + "".join(map(state, ROWS)) + "];\n"
+            + "\n// How many kinds there are; and for each what it asks of low and high, and the states that the children begin in, by low.\n"
+            f"pub(crate) const KINDS: usize = {1 + LAST};\n\npub(crate) static HEADS: [Option<Head>; KINDS] = [\n" + "".join(map(head, range(1 + LAST))) + "];\n")
 
 
 def main():

@@ -76,10 +76,10 @@ def byte(n):
 def code(classes, all_choices):
     """The constants of choice.rt."""
     n = len(all_choices[0].entries)
-    out = f"// The classes are the numbers below this one.\nconst CLASSES: u32 = {classes};\n\n"
-    out += f"// Those from this one on are the names of types, which all lead to the same alternative; a table has an entry for each of the others.\nconst TYPE_NAMES: u32 = {n};\n\n"
+    out = "// The classes are the numbers below this one.\nconst CLASSES: u32 = class::LAST + 1;\n\n"
+    out += f"// Those from this one on are the names of types, which all lead to the same alternative; a table has an entry for each of the others.\nconst TYPE_NAMES: u32 = class::BOOL_TYPE;\n\n"
     out += "// The alternatives of the classes below those, and what all names of types lead to.\n"
-    out += f"struct Choices {{\n    of: [u8; {n}],\n    named: u32,\n}}\n\n"
+    out += f"struct Choices {{\n    of: [u8; TYPE_NAMES as usize],\n    named: u32,\n}}\n\n"
     out += "// At a class that begins none of the alternatives.\npub(crate) const ABSENT: u32 = 0;\n\n"
     for t in all_choices:
         out += f"// {t.what}.\n"

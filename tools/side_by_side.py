@@ -5,7 +5,7 @@
 
 A function's statement is its signature with its clauses, a type's its declaration with its invariants, a definition's its whole text, a theorem's its type. A
 name is looked for in its crate first and then in all, so one that only moved is not listed. Answers and invariants of proofs are no statements. Laws are the
-theorems whose names stood in specs/ at COMMIT or at the commit that docs/PORT.md begins with; a step inside a proof (`go`) is none."""
+theorems whose names stood in their crate's specs/ at COMMIT or at the commit that docs/PORT.md begins with; a step inside a proof (`go`) is none."""
 import pathlib
 import re
 import subprocess
@@ -46,6 +46,7 @@ def antt_items(crate):
         text = without_comments(path.read_text(), "--")
         for block in re.split(r"\n\s*\n", text):
             block = re.sub(r"^(?:unfoldable )?(?:pub )?use .*\n?", "", block, flags=re.M).strip("\n")
+            block = re.sub(r"^ *module .*? where\n", "", block, flags=re.S)
             found = re.match(r"\s*(abbrev |unfoldable )?(?:pub )?(data |record )?([^\s:({]+)(?: \{ℓ\})?[^:\n]*:", block)
             if not found:
                 continue
@@ -78,11 +79,12 @@ def older(commit):
 
 
 def in_specs(root):
-    """The names of the theorems that stand in specs/, as they are spelled now."""
+    """The crate and the name of each theorem that stands in specs/, as they are spelled now."""
     named = set()
     for path in (root / "crates").glob("*/specs/**/*.antt"):
-        named |= {spelled(name) for name in re.findall(r"^ *(?:pub )?([^\s:({=]+)(?: \{[^}]*\})? : ", path.read_text(), re.M)}
-    return named - set(STEPS)
+        crate = path.relative_to(root / "crates").parts[0]
+        named |= {(crate, spelled(name)) for name in re.findall(r"^ *(?:pub )?([^\s:({=]+)(?: \{[^}]*\})? : ", path.read_text(), re.M) if name not in STEPS}
+    return named
 
 
 def spelled(name):
@@ -91,8 +93,8 @@ def spelled(name):
 
 
 def as_laws(found, stood=None):
-    """The theorems of these names, or all, under a kind of their own."""
-    return {("laws", crate, name): said for (kind, crate, name), said in found.items() if kind == "theorems" and (stood is None or spelled(name) in stood)}
+    """The theorems of these names in these crates, or all, under a kind of their own."""
+    return {("laws", crate, name): said for (kind, crate, name), said in found.items() if kind == "theorems" and (stood is None or (crate, spelled(name)) in stood)}
 
 
 def main():

@@ -84,8 +84,8 @@ def main():
     for name, value in (("ENTRIES", len(entries)), ("LETTERS", len(letters)), ("SLOTS", SLOTS), ("FEWEST", min(lengths))):
         code += f"pub(crate) const {name}: usize = {value};\n\n"
     code += f'pub(crate) static BYTES: [u8; LETTERS] =\n    *b"{letters}";\n\n'
-    code += f"// Where each entry starts in BYTES, and its length.\npub(crate) static STARTS: [u16; ENTRIES] = [{', '.join(map(str, starts))}];\n\n"
-    code += f"pub(crate) static SIZES: [u8; ENTRIES] = {bytes_of(lengths)};\n"
+    places = ", ".join(map(str, zip(starts, lengths)))
+    code += f"// Where each entry starts in BYTES, and its length.\npub(crate) static PLACES: [(u16, u8); ENTRIES] = [{places}];\n"
     for name, base, t, longest_, m, row in zip(names, bases, tables, longest, hashes, slots):
         code += f"\npub(crate) static {name}: Words = Words {{\n    first: {base},\n    count: {len(t)},\n    longest: {longest_},\n    multipliers: [{', '.join(map(str, m))}],\n"
         code += f"    slots: {bytes_of(row)},\n}};\n"
@@ -113,12 +113,17 @@ letters = ascii "{letters}"
 unfoldable pub slot_of : List ℕ → List ℕ → ℕ
 slot_of m w = (length w + get_or m 0 0 * get_or w 0 0 + get_or m 1 0 * get_or w 1 0 + get_or m 2 0 * get_or w (length w - 1) 0) % {SLOTS}
 """
-    def values(name, what, numbers):
-        rows = [" ∷ ".join(map(str, numbers[i:i + 32])) for i in range(0, len(numbers), 32)]
-        return f"\n-- {what}\nunfoldable pub {name} : List ℕ\n{name} =\n    " + " ∷\n    ".join(rows) + " ∷ []\n"
+    pairs = [f"({start}, {size})" for start, size in zip(starts, lengths)]
+    rows = " ∷\n    ".join(" ∷ ".join(pairs[i:i + 16]) for i in range(0, len(pairs), 16))
+    lists_ = f"""-- Where the entries lie, by src/layout.rt, as a list. Made by tools/words.py.
+-- Assumes nothing.
+use Rattle.std.specs.Prelude.{{List, [], ◌∷◌, ℕ}}
 
-    lists_ = "-- Where the entries lie, by src/layout.rt, as lists. Made by tools/words.py.\n-- Assumes nothing.\nuse Rattle.std.specs.Prelude.{List, [], ◌∷◌, ℕ}\n"
-    lists_ += values("starts", "where each entry starts among the letters", starts) + values("sizes", "the length of each entry", lengths)
+-- where each entry starts among the letters, and its length
+unfoldable pub places : List (ℕ × ℕ)
+places =
+    {rows} ∷ []
+"""
     status = 0
     made = formatted({f"crates/words/{path}": text for path, text in (("proofs/Constants.antt", lists_), ("src/layout.rt", code), ("specs/Layout.antt", spec))})
     for path, text in made.items():

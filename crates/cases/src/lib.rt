@@ -2,9 +2,10 @@
 // the text behind; then the text and a line end.
 #![tactic(auto)]
 
-ghost use Rattle.std.specs.Prelude.{◌≡◌, [], ◌∷◌, ◌++◌, ◌<◌, length, true, cond, codes, All, IfSome, MatchOption, MatchResult};
+ghost use Rattle.std.specs.Prelude.{◌≡◌, [], ◌∷◌, ◌++◌, ◌<◌, ◌*◌, Some, drop, length, true, cond, codes, All, None, IfSome, MatchOption, MatchResult};
 ghost use Rattle.std.specs.Iterator.{at_most};
 ghost use Rattle.std.specs.Bool.{Decides};
+ghost use Rattle.std.specs.Simd.{first_chunks};
 ghost use Rattle.cases.specs.Stream.{StartsWith, Within};
 
 use std::error::Error;
@@ -22,6 +23,8 @@ pub struct Case<'a, const N: usize> {
 pub struct BadCase;
 
 impl fmt::Display for BadCase {
+    ghost output = { λ _. Some (codes "BAD CASE") };
+
     fn fmt<W: fmt::Write>(&self, f: &mut fmt::Formatter<W>) -> fmt::Result {
         f.write_str("BAD CASE")
     }
@@ -54,11 +57,30 @@ fn numbers<const N: usize>(line: &[u8]) -> Option<[usize; N]> {
     fields.next().is_none().then_some(numbers)
 }
 
-/// Whether all words are 0.
-pub fn is_zero(words: &[u32]) -> bool
-    ensures { Decides result (All (λ word. word ≡ 0) words.now) }
+/// What a word or a byte of a lent buffer holds before, so that one that is not written shows.
+pub const UNWRITTEN: u8 = 7;
+
+/// Whether all words are 0, or all bytes. At u32 and at u8 the clause says that each is the number 0 (proofs/AllZero.antt).
+pub fn is_zero<T: Copy + PartialEq + From<u8>>(words: &[T]) -> bool
+    ensures { (zero : T) × T.from_gives 0 zero × Decides result (All (λ word. T.eq word zero ≡ true) words.now) }
 {
-    words.iter().all(|word| *word == 0)
+    let zero = T::from(0);
+    words.iter().all(|word| *word == zero)
+}
+
+/// The first `count` arrays of `N` words, and the words behind them; none if there are not so many words, or if an array has none.
+#[tactic(auto, using(crate::proofs::Chunks::chunks_of_front))]
+pub fn front<const N: usize>(words: &[u32], count: usize) -> Option<(&[[u32; N]], &[u32])>
+    ensures empty { N ≡ 0 → result ≡ None }
+    ensures pieces { 0 < N → MatchOption result (length words.now < count * N)
+        (λ parts. parts.0.now ≡ first_chunks N count words.now × parts.1.now ≡ drop (count * N) words.now) }
+{
+    if N == 0 {
+        return None;
+    }
+    let (pieces, behind) = words.split_at_checked(count.checked_mul(N)?)?;
+    let (pieces, _) = pieces.as_chunks::<N>();
+    Some((pieces, behind))
 }
 
 /// What is shown of words or bytes that must be 0, by whether all are.
@@ -109,7 +131,7 @@ fn split_case<'a, const N: usize>(
 }
 
 impl<'a, const N: usize> Cases<'a, N> {
-    /// The cases of a stream, whatever their numbers.
+    /// The cases of a stream, whatever their numbers. No program here calls it: each lends the buffers that a case asks for, which `within` limits.
     pub fn new(stream: &'a [u8]) -> Self
         ensures { result.stream.now ≡ stream.now }
     {
@@ -147,6 +169,7 @@ impl<'a, const N: usize> Iterator for Cases<'a, N> {
         Some(Ok(case))
     }
 
+    // Its clause is that of the trait: so many cases as are left lie between the two numbers.
     fn size_hint(&self) -> (usize, Option<usize>) {
         (0, Some(self.stream.len()))
     }

@@ -11,9 +11,10 @@ use lib.Bits.{bit_and, and_zero_l, and_zero_r}
 use lib.Dec.{T, eqb, eqb→eq, ltb, ltb→lt}
 use lib.ListN.{length, get_or}
 use Rattle.std.proofs.Math.ListN.{get_or-eq_default}
+use Rattle.std.specs.Cmp.{booleans_Decides}
 use types.Run.{OneOf}
 use Rattle.text.specs.Table.{every}
-use Rattle.text.proofs.Table.{first-of, second-of, at, table_at, or_cases}
+use Rattle.text.proofs.Table.{is_true, first-of, second-of, at, table_at, or_cases}
 
 -- A function and its table: each entry is right, and past the table the function is 0.
 pub record Table (f : ℕ → ℕ) : Type 0 where
@@ -80,12 +81,6 @@ no_key (ks ∷ kss) x n t = go (or_cases (key ks x) (key_of kss x) t) (no_key ks
     go (inl u) r = n.1 (key_in ks x u)
     go (inr u) r = r u
 
-beq_same : (a b : Bool) → T (beq a b) → a ≡ b
-beq_same true true t = refl
-beq_same true false t = absurd t
-beq_same false true t = absurd t
-beq_same false false t = refl
-
 module _ {f : ℕ → ℕ} (t : Table f) where
   -- the entry x of the table
   entry : (x : ℕ) → x < length t.entries → get_or t.entries x 0 ≡ f x
@@ -151,4 +146,4 @@ module _ {f g : ℕ → ℕ} (s : Table f) (t : Table g) (may : ℕ → ℕ → 
           let its = at row s.entries 0 r k p in
           let one = at (λ d b. beq (not (eqb (bit_and (get_or s.entries k 0) b) 0)) (may k d)) t.entries 0 its c q in
           ap (λ (x : ℕ). not (eqb (bit_and x (g c)) 0)) (sym (entry s k p)) ∙ ap (λ (x : ℕ). not (eqb (bit_and (get_or s.entries k 0) x) 0)) (sym (entry t c q))
-          ∙ beq_same (not (eqb (bit_and (get_or s.entries k 0) (get_or t.entries c 0)) 0)) (may k c) one
+          ∙ (booleans_Decides _ _).0 (is_true _ one)

@@ -1,14 +1,15 @@
 -- What is known of a number that names no kind: the tables of the functions over kinds have nothing there.
 -- Assumes nothing.
-use Rattle.std.specs.Prelude.{false, List, [], ◌∷◌, ◌≡◌, ◌≢◌, ℕ, suc, ◌-◌, ◌<◌, ◌≤◌, T, eqb, length, get_or}
+use Rattle.std.specs.Prelude.{Bool, false, List, [], ◌∷◌, ◌≡◌, ◌≢◌, ℕ, suc, ◌-◌, ◌<◌, ◌≤◌, T, eqb, length, get_or, Result, Ok, Err, MatchResult}
 use Rattle.std.proofs.Common.{sym, ap, ◌∙◌, arith, eqb→eq}
 use Rattle.std.proofs.Math.Decide.{dec_lt}
 use mathlib.Core.Logic.{◌⊎◌, inl, inr}
 use Rattle.text.specs.Lists.{all, count}
 use Rattle.text.proofs.ListLaws.{all-count}
 use Rattle.own.specs.Kinds as kind
-use Rattle.own.specs.Numbers.{kind_number}
+use Rattle.own.specs.Numbers.{kind_number, NamesKind}
 use Rattle.own.specs.declared.kind.Kind.{Kind}
+use Rattle.own.specs.declared.kind.NoKind.{NoKind}
 use Rattle.own.specs.declared.kind.Kind.TheVariants as kinds
 use Rattle.kinds.specs.Decide.{may_own, may_hold}
 use Rattle.kinds.specs.Groups.{category_set}
@@ -41,7 +42,17 @@ none_named n h = go (dec_lt 0 n) (dec_lt kind.Last n)
         (eqb→eq (kind_number (get_or every_kind (n - 1) kinds.Function)) n
         (all-count (λ m. eqb (kind_number (get_or every_kind (m - 1) kinds.Function)) m) kind.Last 1 n kinds_listed (omega arith) (omega arith))))
 
+-- What is decided of a number: of its kind, where it names one, and false where it names none.
+pub decided : {n : ℕ} {b : Bool} {Met : Kind → Type 0} (may : ℕ → Bool) (r : Result Kind NoKind) → NamesKind n r → MatchResult r Met (λ _. b ≡ false)
+    → ((k : Kind) → Met k → b ≡ may (kind_number k)) → (((k : Kind) → kind_number k ≢ n) → may n ≡ false) → b ≡ may n
+decided may (Ok k) named m each none = each k m ∙ ap may named
+decided may (Err e) named m each none = m ∙ sym (none named.1)
+
 module _ {f : ℕ → ℕ} (t : Table f) where
+  -- A value at the number of a kind.
+  pub its : (v : ℕ) (j : Kind) {k : Kind} → T (at_key t v (kind_number j)) → k ≡ j → v ≡ f (kind_number k)
+  its v j h e = at_right t v (kind_number j) h ∙ ap (λ (i : Kind). f (kind_number i)) (sym e)
+
   -- A number that names no kind is 0, or past the last: the function is 0 there.
   unnamed : T (at_key t 0 0) → length t.entries ≤ suc kind.Last → (n : ℕ) → ((k : Kind) → kind_number k ≢ n) → f n ≡ 0
   unnamed z l n h = go (none_named n h)

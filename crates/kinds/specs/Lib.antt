@@ -10,3 +10,4 @@ pub mod Examples
 pub mod Ownership
 pub mod Decide
 pub mod Groups
+pub mod Parts

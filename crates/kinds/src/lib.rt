@@ -5,10 +5,12 @@
 ghost use Rattle.std.specs.Prelude.{◌≡◌};
 ghost use Rattle.own.specs.Numbers.{kind_number};
 ghost use Rattle.kinds.specs.Decide.{may_own, may_hold};
+ghost use Rattle.kinds.specs.Parts.{part_or_none};
 ghost use Rattle.kinds.specs.Groups.{mark_set, group_set, part_set, category_set};
 
 use lexer::classes as class;
 use own::kind::Kind;
+use part::Part;
 
 mod mark;
 pub mod part;
@@ -121,13 +123,13 @@ fn marks(kind: Kind) -> u64
 
 // The group of a child kind.
 #[tactic(auto, using(crate::proofs::Tables::category_at))]
-fn child_group(child: Kind) -> u32
-    ensures { result ≡ category_set (kind_number child) }
+fn child_group(child: Kind) -> Option<Part>
+    ensures { part_or_none result ≡ category_set (kind_number child) }
 {
     match child {
-        Kind::Function => part::FUNCTION_ITEM,
-        Kind::Name => part::NAME,
-        Kind::Parameter => part::PARAMETER,
+        Kind::Function => Some(Part::Function),
+        Kind::Name => Some(Part::Name),
+        Kind::Parameter => Some(Part::Parameter),
         Kind::Alias
         | Kind::Builtin
         | Kind::BoolType
@@ -136,11 +138,11 @@ fn child_group(child: Kind) -> u32
         | Kind::OptionType
         | Kind::TupleType
         | Kind::ArrayType
-        | Kind::ListType => part::TYPE,
+        | Kind::ListType => Some(Part::Type),
         Kind::IdentifierPattern | Kind::IgnorePattern | Kind::TuplePattern | Kind::ArrayPattern =>
-            part::PATTERN,
-        Kind::Let => part::LET_STATEMENT,
-        Kind::Block => part::BLOCK,
+            Some(Part::Pattern),
+        Kind::Let => Some(Part::Let),
+        Kind::Block => Some(Part::Block),
         Kind::Left
         | Kind::Right
         | Kind::Some
@@ -159,25 +161,22 @@ fn child_group(child: Kind) -> u32
         | Kind::EnumConstruction
         | Kind::Match
         | Kind::EnumMatch
-        | Kind::Call => part::SINGLE,
-        Kind::BuiltinArm => part::BUILTIN_ARM,
-        Kind::EnumArm => part::ENUM_ARM,
-        Kind::Number => part::NUMBER,
-        Kind::TypeItem => part::TYPE_ITEM,
-        Kind::Program => 0,
+        | Kind::Call => Some(Part::Single),
+        Kind::BuiltinArm => Some(Part::BuiltinArm),
+        Kind::EnumArm => Some(Part::EnumArm),
+        Kind::Number => Some(Part::Number),
+        Kind::TypeItem => Some(Part::TypeItem),
+        Kind::Program => None,
     }
 }
 
-// The group of the kind of this number; none, where no kind has it.
-// A kind is a word of a lent buffer, which may hold any number. The group is a set, and 0 is none, as `may_hold` meets it with others.
+// The group of the kind of this number; none, where no kind has it, or it is that of a whole file.
+// A kind is a word of a lent buffer, which may hold any number.
 #[tactic(auto, using(crate::proofs::Named::no_category))]
-pub fn category(child: u32) -> u32
-    ensures { result ≡ category_set child }
+pub fn category(child: u32) -> Option<Part>
+    ensures { part_or_none result ≡ category_set child }
 {
-    match Kind::try_from(child) {
-        Ok(child) => child_group(child),
-        Err(_) => 0,
-    }
+    child_group(Kind::try_from(child).ok()?)
 }
 
 // The groups of the children of a record kind; kinds of one token have none.
@@ -231,20 +230,14 @@ fn parts(kind: Kind) -> u32
 pub fn may_own(kind: u32, class: u32) -> bool
     ensures { result ≡ may_own kind class }
 {
-    match Kind::try_from(kind) {
-        Ok(kind) => marks(kind) & group(class) != 0,
-        Err(_) => false,
-    }
+    Kind::try_from(kind).is_ok_and(|kind| marks(kind) & group(class) != 0)
 }
 
-// Whether a record of the kind may hold a child of that kind. The shape is that of `may_own`, over other sets; one function of both would take the two sets
-// as closures with contracts of their own.
+// Whether a record of the kind may hold a child of that kind. What it shares with `may_own` is one call of the library: one function of both would take the
+// sets, words of two widths, as closures.
 #[tactic(auto, using(crate::proofs::Tables::holds_at, crate::proofs::Named::holds_none))]
 pub fn may_hold(kind: u32, child: u32) -> bool
     ensures { result ≡ may_hold kind child }
 {
-    match Kind::try_from(kind) {
-        Ok(kind) => parts(kind) & category(child) != 0,
-        Err(_) => false,
-    }
+    Kind::try_from(kind).is_ok_and(|kind| parts(kind) & category(child).map_or(0, u32::from) != 0)
 }

@@ -1,5 +1,6 @@
-// Groups of token classes, one bit each, in the order of `groups` (specs/Groups.antt). A set of them is a word, and `|` and `&` are those of words:
-// a type of sets would say the same again.
+// Groups of token classes, one bit each, in the order of `groups` (specs/Groups.antt). A set of them is a word, and `|` and `&` are those of words: the
+// operators of the library's `bitflags` have no clause, so each in lib.rt would be a call of `union` or `intersection`, and each union below would be spelled
+// `Set(IDENT.0 | LEFT.0)`, since a constant's value may call no function.
 // `pub`, `fn` and the thin arrow; `let`; `match`.
 pub(crate) const FUNCTION: u64 = 1 << 0;
 

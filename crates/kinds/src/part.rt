@@ -1,27 +1,53 @@
-// Groups of child kinds, one bit each, in the order of `categories` (specs/Groups.antt); the families are those of specs/Families.antt.
-// Constants of a word, as in mark.rt: the group of one kind is a set too, which meets that of the children of another.
-pub const NAME: u32 = 1 << 0;
+// Groups of child kinds, in the order of `categories` (specs/Groups.antt); the families are those of specs/Families.antt.
+// The group of one kind is a `Part`; a set of them is a word, one bit a group, and `|` and `&` are those of words, as mark.rt says.
+ghost use Rattle.std.specs.Prelude.{◌≡◌};
+ghost use Rattle.kinds.specs.Parts.{part_number};
 
-pub const PARAMETER: u32 = 1 << 1;
+#[derive(Clone, Copy, PartialEq, Eq, Debug)]
+pub enum Part {
+    Name = 1 << 0,
+    Parameter = 1 << 1,
+    Type = 1 << 2,
+    Pattern = 1 << 3,
+    Let = 1 << 4,
+    Block = 1 << 5,
+    Single = 1 << 6,
+    BuiltinArm = 1 << 7,
+    EnumArm = 1 << 8,
+    Number = 1 << 9,
+    Function = 1 << 10,
+    TypeItem = 1 << 11,
+}
 
-pub const TYPE: u32 = 1 << 2;
+impl From<Part> for u32 {
+    ghost from_gives = { λ p n. n ≡ part_number p };
 
-pub const PATTERN: u32 = 1 << 3;
+    fn from(part: Part) -> u32 {
+        part as u32
+    }
+}
 
-pub const LET_STATEMENT: u32 = 1 << 4;
+// Their words, for sets.
+pub(crate) const NAME: u32 = Part::Name as u32;
 
-pub const BLOCK: u32 = 1 << 5;
+pub(crate) const PARAMETER: u32 = Part::Parameter as u32;
 
-pub const SINGLE: u32 = 1 << 6;
+pub(crate) const TYPE: u32 = Part::Type as u32;
 
-pub const BUILTIN_ARM: u32 = 1 << 7;
+pub(crate) const PATTERN: u32 = Part::Pattern as u32;
 
-pub const ENUM_ARM: u32 = 1 << 8;
+pub(crate) const LET_STATEMENT: u32 = Part::Let as u32;
 
-pub const NUMBER: u32 = 1 << 9;
+pub(crate) const BLOCK: u32 = Part::Block as u32;
 
-pub const FUNCTION_ITEM: u32 = 1 << 10;
+pub(crate) const BUILTIN_ARM: u32 = Part::BuiltinArm as u32;
 
-pub const TYPE_ITEM: u32 = 1 << 11;
+pub(crate) const ENUM_ARM: u32 = Part::EnumArm as u32;
 
-pub const EXPRESSION: u32 = BLOCK | SINGLE;
+pub(crate) const NUMBER: u32 = Part::Number as u32;
+
+pub(crate) const FUNCTION_ITEM: u32 = Part::Function as u32;
+
+pub(crate) const TYPE_ITEM: u32 = Part::TypeItem as u32;
+
+pub(crate) const EXPRESSION: u32 = BLOCK | Part::Single as u32;

@@ -194,7 +194,7 @@ module _ (draft : List ℕ) (front rest : List Token) (e : lexemes draft ≡ tok
 
 -- ---- the class of a token, whatever its text
 
-pub class-law : {k : ℕ} {w : List ℕ} {c : ℕ} → c ≡ class_of k w → OneToken k w → ClassLaw k w c
-class-law {k} {w} e o =
+pub class_law : {k : ℕ} {w : List ℕ} {c : ℕ} → c ≡ class_of k w → OneToken k w → ClassLaw k w c
+class_law {k} {w} e o =
     subst (ClassLaw k w) (sym e)
     (record { identifier = identifier-class o; function_name = function-name-class o; alias_name = alias-name-class o; word = λ d g h. named-class d g h o })

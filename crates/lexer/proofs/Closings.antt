@@ -18,9 +18,7 @@ use Rattle.text.proofs.Table.{both_left, both_right}
 use Rattle.utf8.proofs.Sequences.{high}
 use Rattle.lexer.specs.Chars.{first}
 use Rattle.lexer.specs.Lexemes.{closed, within, inside, onward, closing}
-use Rattle.lexer.specs.Trivia.{edge_of, broken_of}
-use Rattle.text.specs.declared.refusal.Refusal.TheVariants as code
-use Rattle.lexer.specs.Step.{refused_step}
+use Rattle.lexer.specs.Trivia.{edge_of}
 use Rattle.lexer.specs.declared.trivia.Edge.TheVariants.{Opens, Closes, Neither}
 use Rattle.lexer.proofs.Rest.{rest-first, rest-cons, there}
 
@@ -115,14 +113,6 @@ place-two : (x : Option ℕ) (j : ℕ) → place_of (more (more x)) j ≡ place_
 place-two none j = refl
 place-two (some n) j = ap some (let z : j + suc (suc n) ≡ j + 2 + n = omega arith in z)
 
-broken-more : (x : Option ℕ) (i k : ℕ) → broken_of (more x) i k ≡ broken_of x i k
-broken-more none i k = refl
-broken-more (some n) i k = refl
-
-broken-two : (x : Option ℕ) (i k : ℕ) → broken_of (more (more x)) i k ≡ broken_of x i k
-broken-two none i k = refl
-broken-two (some n) i k = refl
-
 -- ---- the same at a place of a draft
 
 module _ (s : List ℕ) (j d : ℕ) where
@@ -174,21 +164,6 @@ module _ (s : List ℕ) (j d : ℕ) where
     pub place-neither : Neither ≡ edge_of (get_or s j 0) (get_or s (j + 1) 0) → place_of (closing (drop (j + 1) s) d 0) (j + 1) ≡ place_of (closing (drop j s) d 0) j
     place-neither e = sym (place-more (closing (drop (j + 1) s) d 0) j) ∙ sym (ap (λ x. place_of x j) (closing-neither e))
 
-    -- and so does whether it is
-    module _ (i k : ℕ) where
-      pub broken-opens : Opens ≡ edge_of (get_or s j 0) (get_or s (j + 1) 0) → broken_of (closing (drop (j + 2) s) (d + 1) 0) i k ≡ broken_of (closing (drop j s) d 0) i k
-      broken-opens e = sym (broken-two (closing (drop (j + 2) s) (d + 1) 0) i k) ∙ sym (ap (λ x. broken_of x i k) (closing-opens e))
-
-      pub broken-closes : Closes ≡ edge_of (get_or s j 0) (get_or s (j + 1) 0) → (d ≡ 0 → ⊥)
-          → broken_of (closing (drop (j + 2) s) (d - 1) 0) i k ≡ broken_of (closing (drop j s) d 0) i k
-      broken-closes e n = sym (broken-two (closing (drop (j + 2) s) (d - 1) 0) i k) ∙ sym (ap (λ x. broken_of x i k) (closing-closes e n))
-
-      pub broken-last : Closes ≡ edge_of (get_or s j 0) (get_or s (j + 1) 0) → d ≡ 0 → refused_step code.NotUtf8 k ≡ broken_of (closing (drop j s) d 0) i k
-      broken-last e z = sym (ap (λ x. broken_of x i k) (closing-last e z))
-
-      pub broken-neither : Neither ≡ edge_of (get_or s j 0) (get_or s (j + 1) 0) → broken_of (closing (drop (j + 1) s) d 0) i k ≡ broken_of (closing (drop j s) d 0) i k
-      broken-neither e = sym (broken-more (closing (drop (j + 1) s) d 0) i k) ∙ sym (ap (λ x. broken_of x i k) (closing-neither e))
-
   -- one byte closes nothing
   closing-never : length s ≤ j + 1 → closing (drop j s) d 0 ≡ none
   unfolding closing inside
@@ -198,9 +173,6 @@ module _ (s : List ℕ) (j d : ℕ) where
       go [] k = refl
       go (b ∷ []) k = refl
       go (b ∷ c ∷ l) k = absurd (omega arith)
-
-  pub broken-never : (i k : ℕ) → length s ≤ j + 1 → refused_step code.Unclosed i ≡ broken_of (closing (drop j s) d 0) i k
-  broken-never i k h = sym (ap (λ x. broken_of x i k) (closing-never h))
 
   pub place-never : length s ≤ j + 1 → place_of (closing (drop j s) d 0) j ≡ none
   place-never h = ap (λ x. place_of x j) (closing-never h)

@@ -16,17 +16,17 @@ use Rattle.text.specs.Refusals.{refusal_number}
 use Rattle.text.specs.declared.refusal.Refusal.TheVariants as refusal
 use Rattle.text.proofs.Same.{differ}
 use Rattle.text.proofs.Table.{both_left, both_right}
-use Rattle.utf8.proofs.Parts.{bad_in, bad-end, bad-found, Good, good-next}
+use Rattle.utf8.proofs.Parts.{bad_in, bad-end, bad-found, Good, good_start, good-next}
 use Rattle.utf8.proofs.Sequences.{ascii-at, high, char-high}
 use Rattle.utf8.specs.Utf8.{char_length, bad_at}
 use Rattle.lexer.specs.Chars.{among, whitespace, line_ends, decimal_digits, underscore, name_starts, first, run, begins}
 use Rattle.lexer.specs.Lexemes.{Inside, closed, within, inside, onward, closing, block, refused, checked, comment, in_line, space, line_comment, block_comment, qualified, macro, digits, hexadecimal, binary, decimal, word, marks, mark, no_lexeme, lexeme}
 use Rattle.lexer.specs.Step.{refused_step, step_from, lexeme_at}
-use Rattle.lexer.specs.Trivia.{plain_beside, plain_in_line, plain_in_block, edge_of, broken_of}
+use Rattle.lexer.specs.Trivia.{CommentAt, closed_at, bad_between, plain_beside, plain_in_line, plain_in_block, edge_of, broken_of}
 use Rattle.lexer.specs.declared.Step.{Step}
 use Rattle.lexer.specs.declared.Step.TheVariants.{Trivia}
 use Rattle.lexer.specs.declared.trivia.Edge.TheVariants.{Opens, Closes, Neither}
-use Rattle.lexer.proofs.Rest.{rest-first, rest-cons, rest-drop, begins-one}
+use Rattle.lexer.proofs.Rest.{rest-first, rest-cons, rest-drop, begins-one, there}
 use Rattle.lexer.proofs.Runs.{run_end, run_in, run-true}
 use Rattle.lexer.proofs.Closings.{edge-opens, edge-closes, two-within, two-inside, high-on, place-neither}
 
@@ -173,6 +173,15 @@ good-closes s i j g h e =
     let w = two-inside s j 0 h e in
     good-two s i j g (omega arith) (omega (arith, p.0)) (omega (arith, p.1))
 
+-- the same of the bytes up to another place
+pub good-none : (s : List ℕ) (i e : ℕ) → Good s i e → bad_between s i e ≡ none
+unfolding bad_in
+good-none s i e g = sym (g.keeps e (omega arith)) ∙ bad-end s e
+
+pub good-bad : (s : List ℕ) (i j : ℕ) → Good s i j → j < length s → 0 ≡ char_length (drop j s) → (e : ℕ) → j < e → bad_between s i e ≡ some j
+unfolding bad_in
+good-bad s i j g h q e k = sym (g.keeps e (omega arith)) ∙ bad-found s j e 0 q refl h k
+
 -- ---- the lexeme at a `/`
 
 module _ (r : List ℕ) where
@@ -241,15 +250,22 @@ module _ (s : List ℕ) (i b : ℕ) (h : i < length s) (e : get_or s i 0 ≡ 47)
 
 -- ---- a line comment
 
-module _ (s : List ℕ) (i j : ℕ) (h : i + 1 < length s) (a : get_or s i 0 ≡ 47) (b : get_or s (i + 1) 0 ≡ 47) where
+-- a byte behind the first is within the draft, as it is not 0
+pub comment-begins : (s : List ℕ) (i b : ℕ) → CommentAt s i (suc b) → i + 1 < length s
+comment-begins s i b c = there s (i + 1) b c.1
+
+module _ (s : List ℕ) (i j : ℕ) (c : CommentAt s i 47) where
+  starts : i < length s
+  starts = omega (arith, comment-begins s i 46 c)
+
   pub line-whole : i ≤ j → Good s i j → j ≡ run_end in_line s (i + 2) → Trivia j ≡ lexeme_at s i
-  line-whole l g e = comment-whole s i j l g ∙ at-line s i 47 (omega arith) a (sym b) refl j e
+  line-whole l g e = comment-whole s i j l g ∙ at-line s i 47 starts c.0 (sym c.1) refl j e
 
   pub line-broken : Good s i j → j < length s → in_line (get_or s j 0) ≡ true → 0 ≡ char_length (drop j s) → run_end in_line s j ≡ run_end in_line s (i + 2)
       → refused_step refusal.NotUtf8 j ≡ lexeme_at s i
   line-broken g l x q e =
       let z = run_in in_line s j l x in
-      comment-broken s i j (run_end in_line s (i + 2)) g l q (omega arith) ∙ at-line s i 47 (omega arith) a (sym b) refl _ refl
+      comment-broken s i j (run_end in_line s (i + 2)) g l q (omega arith) ∙ at-line s i 47 starts c.0 (sym c.1) refl _ refl
 
 -- ---- a block comment
 
@@ -266,20 +282,29 @@ closing-some (b ∷ r) d p n e = go (inside d p b) e
     go closed e = let z : 1 ≡ n = cc in omega arith
     go (within d p) e = further (closing r d p) e
 
-module _ (s : List ℕ) (i : ℕ) (h : i + 1 < length s) (a : get_or s i 0 ≡ 47) (b : get_or s (i + 1) 0 ≡ 42) where
-  pub block-broken : (j d : ℕ) → Good s i j → j < length s → 0 ≡ char_length (drop j s) → place_of (closing (drop j s) d 0) j ≡ place_of (closing (drop (i + 2) s) 0 0) (i + 2)
+module _ (s : List ℕ) (i : ℕ) (c : CommentAt s i 42) where
+  begins_in : i < length s
+  begins_in = omega (arith, comment-begins s i 41 c)
+
+  -- the two bytes at its front are two sequences
+  behind : Good s i (i + 2)
+  behind = good-two s i i (good_start s i) (comment-begins s i 41 c) (omega (arith, c.0)) (omega (arith, c.1))
+
+  pub block-broken : (j d : ℕ) → i + 2 ≤ j → ((e : ℕ) → j < e → bad_between s (i + 2) e ≡ some j) → closed_at s j d ≡ closed_at s (i + 2) 0
       → broken_of (closing (drop j s) d 0) i j ≡ lexeme_at s i
-  block-broken j d g l q c = go (closing (drop j s) d 0) refl
+  unfolding bad_in
+  block-broken j d l b e₀ = go (closing (drop j s) d 0) refl
     where
       go : (x : Option ℕ) → closing (drop j s) d 0 ≡ x → broken_of (closing (drop j s) d 0) i j ≡ lexeme_at s i
-      go none e = ap (λ x. broken_of x i j) e ∙ at-unclosed s i 42 (omega arith) a (sym b) refl (sym c ∙ ap (λ x. place_of x j) e)
+      go none e = ap (λ x. broken_of x i j) e ∙ at-unclosed s i 42 begins_in c.0 (sym c.1) refl (sym e₀ ∙ ap (λ x. place_of x j) e)
       go (some n) e =
           let o = closing-some (drop j s) d 0 n e in
-          ap (λ x. broken_of x i j) e ∙ comment-broken s i j (j + n) g l q (omega arith)
-          ∙ at_block s i 42 (omega arith) a (sym b) refl (j + n) (sym c ∙ ap (λ x. place_of x j) e)
+          ap (λ x. broken_of x i j) e ∙ comment-bad s i (j + n) j (sym (behind.keeps (j + n) (omega arith)) ∙ b (j + n) (omega arith))
+          ∙ at_block s i 42 begins_in c.0 (sym c.1) refl (j + n) (sym e₀ ∙ ap (λ x. place_of x j) e)
 
-  pub block-whole : (k : ℕ) → i ≤ k → Good s i k → place_of (closing (drop (i + 2) s) 0 0) (i + 2) ≡ some k → Trivia k ≡ lexeme_at s i
-  block-whole k l g e = comment-whole s i k l g ∙ at_block s i 42 (omega arith) a (sym b) refl k e
+  pub block-whole : (k : ℕ) → i + 2 ≤ k → bad_between s (i + 2) k ≡ none → closed_at s (i + 2) 0 ≡ some k → Trivia k ≡ lexeme_at s i
+  unfolding bad_in
+  block-whole k l b e = comment-good s i k (omega arith) (sym (behind.keeps k l) ∙ b) ∙ at_block s i 42 begins_in c.0 (sym c.1) refl k e
 
-  pub block-unclosed : place_of (closing (drop (i + 2) s) 0 0) (i + 2) ≡ none → refused_step refusal.Unclosed i ≡ lexeme_at s i
-  block-unclosed e = at-unclosed s i 42 (omega arith) a (sym b) refl e
+  pub block-unclosed : closed_at s (i + 2) 0 ≡ none → refused_step refusal.Unclosed i ≡ lexeme_at s i
+  block-unclosed e = at-unclosed s i 42 begins_in c.0 (sym c.1) refl e

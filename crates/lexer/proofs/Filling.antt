@@ -1,30 +1,27 @@
 -- What the proofs of the lexing loop cite: how the buffer is filled with the tokens of a draft.
 -- Assumes nothing.
-use mathlib.Core.Bool.{Bool, true, false, cond}
 use mathlib.Core.List.{List, [], ◌∷◌, ◌++◌, append-nil, append_assoc}
-use mathlib.Core.Option.{Option, none, some}
+use mathlib.Core.Option.{Option}
 use mathlib.Core.Path.{◌≡◌, refl, sym, ◌∙◌, ap, ap₂, subst}
 use Prim.Native.Nat.{ℕ, suc, ◌+◌, ◌*◌, ◌≤◌, ◌<◌}
 use native.Mathlib.Omega.{arith}
-use borrow.Author.Tests.{lt-ltb, ltb-true, ltb-false, eqb-true, eqb-false, ne_eqb}
-use lib.Dec.{ltb, eqb}
-use lib.ListN.{length, get_or, drop, set, length-drop, length-append, length-set, get_or-append}
+use borrow.Author.Tests.{lt-ltb, le-ltb}
+use lib.ListN.{length, get_or, drop, set, length-drop, length-append, length-set}
 use lib.Seq.{sets-eq, take_at, drop_at, drop-drop, get_or_at}
-use Rattle.text.specs.Answers.{Answer, accepted, refused}
+use Rattle.text.specs.Answers.{Answer, refused}
 use Rattle.text.specs.declared.refusal.Refusal.TheVariants as refusal
 use Rattle.text.specs.Widths.{tok_wide}
 use Rattle.text.specs.Front.{front, Held}
 use Rattle.lexer.specs.Lexemes.{Token, Lexemes, tokens, refused_at, with_token, lexemes_from, lexemes}
-use Rattle.lexer.specs.Limits.{no_token, meant, first_too_deep, deep, judged_in, token_words, tokens_of}
+use Rattle.lexer.specs.Limits.{no_token, first_too_deep, deep, judged_in, too_many, token_words, tokens_of}
 use Rattle.lexer.specs.Buffer.{put_at}
-use Rattle.lexer.proofs.Fits.{not-both, token-words-length}
+use Rattle.lexer.proofs.Fits.{token-words-length}
 use Rattle.lexer.specs.Nesting.{Nesting, nest_after, nest_of, outermost, passed_at}
 use Rattle.lexer.specs.Step.{step_of}
 use Rattle.lexer.specs.declared.Step.{Step}
 use Rattle.lexer.specs.declared.Step.TheVariants as S
-use Rattle.std.specs.Prelude as std
 use Rattle.text.specs.declared.refusal.Refused.{Refused}
-use Rattle.text.specs.Refusals.{refusal_number}
+use Rattle.text.specs.Refusals.{refusal_number, refused_by}
 use Rattle.lexer.proofs.Nesting.{nest-snoc, nest_deep}
 use Rattle.lexer.proofs.Steps.{follow, Leads, rest-follows, step-leads}
 
@@ -52,17 +49,8 @@ token-more p o k a e m l h =
     ∙ sets-eq (k ∷ a ∷ e ∷ []) q m n
     ∙ ap₂ (λ x y. x ++ (k ∷ a ∷ e ∷ []) ++ y) (take_at p (drop m o) m l) f
 
-length-put : (out : List ℕ) (room n k a e : ℕ) → length (put_at out room n k a e) ≡ length out
-unfolding put_at
-length-put out room n k a e = go (ltb n room)
-  where
-    go : (b : Bool) → length (cond b (set (set (set out (tok_wide * n) k) (tok_wide * n + 1) a) (tok_wide * n + 2) e) out) ≡ length out
-    go true = simp length-set
-    go false = refl
-
--- what is written is not the first token too many
-pub over-stays : (n room at over : ℕ) → ltb n room ≡ true → over ≡ cond (eqb n room) at over
-over-stays n room at over h = let l = ltb-true n room h in simp (ne_eqb n room (λ z. absurd (omega arith)))
+length-put : (out : List ℕ) (n k a e : ℕ) → length (put_at out n k a e) ≡ length out
+length-put out n k a e = simp length-set
 
 -- ---- the tokens found so far
 
@@ -79,128 +67,146 @@ before-snoc : (ts : List Token) (t : Token) (x : Lexemes) → before (ts ++ t �
 before-snoc ts t (tokens us) = ap tokens (append_assoc ts (t ∷ []) us)
 before-snoc ts t (refused_at c p) = refl
 
--- at place i of s, with n tokens found: those below the room stand in the buffer, w is the start of the first too many, x what is counted of them all
-pub record Filling (s : List ℕ) (room : ℕ) (o : List ℕ) (i n w : ℕ) (x : Nesting) (out : List ℕ) : Type 0 where
+-- at place i of s, with n tokens found, which are within the room: they stand in the buffer, x is what is counted of them all
+pub record Filling (s : List ℕ) (room : ℕ) (o : List ℕ) (i n : ℕ) (x : Nesting) (out : List ℕ) : Type 0 where
   pub done : List Token
   pub number : length done ≡ n
   pub within : i ≤ length s
   pub few : n ≤ i
+  pub fits : n ≤ room
   pub rest : before done (lexemes_from (drop i s) i 0) ≡ lexemes s
   pub long : length out ≡ length o
-  pub written : n ≤ room → out ≡ token_words done ++ drop (tok_wide * n) o
-  pub over : room < n → w ≡ (get_or done room no_token).start
+  pub written : out ≡ token_words done ++ drop (tok_wide * n) o
   pub nested : nest_of outermost done ≡ x
 
-pub fill_start : (s : List ℕ) (room : ℕ) (o : List ℕ) (x : Nesting) → x ≡ outermost → Filling s room o 0 0 0 x o
+-- where a step leads
+pub leads-to : (s : List ℕ) (i : ℕ) (t : Step) → step_of s i ≡ t → Leads i (length s) t
+leads-to s i t q = subst (Leads i (length s)) q (step-leads s i)
+
+pub fill_start : (s : List ℕ) (room : ℕ) (o : List ℕ) (x : Nesting) → x ≡ outermost → Filling s room o 0 0 x o
 unfolding lexemes token_words
 fill_start s room o x e = record {
   done = [];
   number = refl;
   within = omega arith;
   few = omega arith;
+  fits = omega arith;
   rest = before-none _;
   long = refl;
-  written = λ _. refl;
-  over = λ h. absurd (omega arith);
+  written = refl;
   nested = sym e;
 }
 
-module _ {s : List ℕ} {room : ℕ} {o : List ℕ} {i n w : ℕ} {x : Nesting} {out : List ℕ} (v : Filling s room o i n w x out) (t : Step) (q : step_of s i ≡ t) where
+module _ {s : List ℕ} {room : ℕ} {o : List ℕ} {i n : ℕ} {x : Nesting} {out : List ℕ} (v : Filling s room o i n x out) (t : Step) (q : step_of s i ≡ t) where
   -- what is left, as the step has it
   left : before v.done (follow t i (λ j. lexemes_from (drop j s) j 0)) ≡ lexemes s
   left = sym (ap (before v.done) (rest-follows s i ∙ ap (λ x. follow x i (λ j. lexemes_from (drop j s) j 0)) q)) ∙ v.rest
 
-  pub fill-leads : Leads i (length s) t
-  fill-leads = subst (Leads i (length s)) q (step-leads s i)
-
-module _ {s : List ℕ} {room : ℕ} {o : List ℕ} {i n w : ℕ} {x : Nesting} {out : List ℕ} (v : Filling s room o i n w x out) where
-  pub fill-trivia : (e : ℕ) → step_of s i ≡ S.Trivia e → Filling s room o e n w x out
+module _ {s : List ℕ} {room : ℕ} {o : List ℕ} {i n : ℕ} {x : Nesting} {out : List ℕ} (v : Filling s room o i n x out) where
+  pub fill-trivia : (e : ℕ) → step_of s i ≡ S.Trivia e → Filling s room o e n x out
   fill-trivia e q =
-      let m = fill-leads v (S.Trivia e) q in
+      let m = leads-to s i (S.Trivia e) q in
       record {
         done = v.done;
         number = v.number;
         within = m.1;
         few = omega (arith, m.0, v.few);
+        fits = v.fits;
         rest = left v (S.Trivia e) q;
         long = v.long;
         written = v.written;
-        over = v.over;
         nested = v.nested;
       }
 
   pub fill-refused : (r : Refused) → step_of s i ≡ S.Refused r → lexemes s ≡ refused_at (refusal_number r.refusal) r.place
   fill-refused r q = sym (left v (S.Refused r) q)
 
-  pub fill-over : step_of s i ≡ S.Nothing → lexemes s ≡ tokens v.done
-  fill-over q = sym (left v S.Nothing q) ∙ ap tokens (append-nil v.done)
+  fill-end : step_of s i ≡ S.Nothing → lexemes s ≡ tokens v.done
+  fill-end q = sym (left v S.Nothing q) ∙ ap tokens (append-nil v.done)
 
   module _ (k e : ℕ) (q : step_of s i ≡ S.Token k e) where
     abbrev this : Token
     this = record { kind = k; start = i; end = e }
 
-    put_written : tok_wide * room ≤ length o → n + 1 ≤ room → put_at out room n k i e ≡ token_words (v.done ++ this ∷ []) ++ drop (tok_wide * (n + 1)) o
-    unfolding put_at
+    -- one token more than fit: what is said of those that are left is said of all
+    pub fill-over : n ≡ room → too_many (lexemes_from (drop i s) i 0) i ≡ judged_in room (lexemes s)
+    fill-over h =
+        ap (λ x. too_many x i) next
+        ∙ go (lexemes_from (drop e s) e 0)
+        ∙ ap (judged_in room) (left v (S.Token k e) q)
+      where
+        next : lexemes_from (drop i s) i 0 ≡ with_token this (lexemes_from (drop e s) e 0)
+        next = rest-follows s i ∙ ap (λ x. follow x i (λ j. lexemes_from (drop j s) j 0)) q
+
+        go : (y : Lexemes) → too_many (with_token this y) i ≡ judged_in room (before v.done (with_token this y))
+        go (refused_at c p) = refl
+        go (tokens ts) =
+            let l : room < length (v.done ++ this ∷ ts) = omega (arith, length-append v.done (this ∷ ts), v.number) in
+            let f : get_or (v.done ++ this ∷ ts) room no_token ≡ this = get_or_at v.done this ts no_token room (omega (arith, v.number)) in
+            simp (lt-ltb _ _ l, f)
+
+    put_written : tok_wide * room ≤ length o → n < room → put_at out n k i e ≡ token_words (v.done ++ this ∷ []) ++ drop (tok_wide * (n + 1)) o
     put_written f h =
         let l : length (token_words v.done) ≡ tok_wide * n = token-words-length v.done ∙ ap (λ x. tok_wide * x) v.number in
         let a : tok_wide * n + tok_wide ≡ tok_wide * (n + 1) = omega arith in
-        let b : n < room = omega arith in
-        ap (λ x. cond x (set (set (set out (tok_wide * n) k) (tok_wide * n + 1) i) (tok_wide * n + 2) e) out) (lt-ltb n room b)
-        ∙ ap (λ x. set (set (set x (tok_wide * n) k) (tok_wide * n + 1) i) (tok_wide * n + 2) e) (v.written (omega arith))
+        ap (λ x. set (set (set x (tok_wide * n) k) (tok_wide * n + 1) i) (tok_wide * n + 2) e) v.written
         ∙ token-more (token_words v.done) o k i e (tok_wide * n) l (omega arith)
         ∙ ap₂ (λ x y. x ++ drop y o) (sym (words_snoc v.done this)) a
 
-    put-over : room < n + 1 → cond (eqb n room) i w ≡ (get_or (v.done ++ this ∷ []) room no_token).start
-    put-over h = go (eqb n room) refl
-      where
-        go : (b : Bool) → eqb n room ≡ b → cond b i w ≡ (get_or (v.done ++ this ∷ []) room no_token).start
-        go true f = ap (λ x. x.start) (sym (get_or_at v.done this [] no_token room (v.number ∙ eqb-true n room f)))
-        go false f =
-            let g : room < n = omega (arith, eqb-false n room f) in
-            v.over g ∙ ap (λ x. x.start) (sym (get_or-append v.done (this ∷ []) no_token room (omega (arith, v.number))))
-
-    pub fill-token : tok_wide * room ≤ length o → Filling s room o e (n + 1) (cond (eqb n room) i w) (nest_after x k i) (put_at out room n k i e)
-    fill-token f =
-        let m = fill-leads v (S.Token k e) q in
+    pub fill-token : tok_wide * room ≤ length o → n < room → Filling s room o e (n + 1) (nest_after x k i) (put_at out n k i e)
+    fill-token f h =
+        let m = leads-to s i (S.Token k e) q in
         record {
           done = v.done ++ this ∷ [];
           number = length-append v.done (this ∷ []) ∙ ap (λ x. x + 1) v.number;
           within = m.1;
           few = omega (arith, m.0, v.few);
+          fits = omega arith;
           rest = before-snoc v.done this (lexemes_from (drop e s) e 0) ∙ left v (S.Token k e) q;
-          long = length-put out room n k i e ∙ v.long;
-          written = put_written f;
-          over = put-over;
+          long = length-put out n k i e ∙ v.long;
+          written = put_written f h;
           nested = nest-snoc outermost v.done this ∙ ap (λ (y : Nesting). nest_after y k i) v.nested;
         }
 
   -- every token is found: the answer and the buffer
-  abbrev said : Bool → Option ℕ → Answer
-  said a b = cond a (refused (refusal_number refusal.TooMany) w) (deep b n)
-
   deep_is : deep (passed_at x) n ≡ deep (first_too_deep 0 0 v.done) n
   deep_is = ap (λ (p : Option ℕ). deep p n) (sym (ap passed_at v.nested) ∙ nest_deep v.done 0 0)
 
-  pub fill-answer : step_of s i ≡ S.Nothing → said (ltb room n) (passed_at x) ≡ judged_in room (lexemes s)
+  pub fill-answer : step_of s i ≡ S.Nothing → deep (passed_at x) n ≡ judged_in room (lexemes s)
   fill-answer q =
-      go (ltb room n) refl
-      ∙ sym (ap (λ y. cond (ltb room y) (refused (refusal_number refusal.TooMany) first-over) (deep (first_too_deep 0 0 v.done) y)) v.number)
-      ∙ sym (ap (judged_in room) (fill-over q))
-    where
-      first-over : ℕ
-      first-over = (get_or v.done room no_token).start
+      deep_is
+      ∙ sym (rw (v.number, le-ltb room n v.fits) refl)
+      ∙ sym (ap (judged_in room) (fill-end q))
 
-      go : (b : Bool) → ltb room n ≡ b → said b (passed_at x) ≡ cond b (refused (refusal_number refusal.TooMany) first-over) (deep (first_too_deep 0 0 v.done) n)
-      go true f = ap (refused (refusal_number refusal.TooMany)) (v.over (ltb-true room n f))
-      go false f = deep_is
+  pub fill-held : (a : Answer) → step_of s i ≡ S.Nothing → Held a (token_words (tokens_of (lexemes s))) o out
+  fill-held a q =
+      let w : length (token_words v.done) ≡ tok_wide * n = token-words-length v.done ∙ ap (λ y. tok_wide * y) v.number in
+      record {
+        holds = λ k m h. v.written ∙ ap (λ (k : ℕ). token_words v.done ++ drop k o) (sym w) ∙ ap (λ (y : Lexemes). front (token_words (tokens_of y)) o) (sym (fill-end q));
+      }
 
-  -- the tokens stand in the buffer unless they are refused
-  pub fill-held : (r : std.Result ℕ Refused) → step_of s i ≡ S.Nothing → meant r ≡ said (ltb room n) (passed_at x) → Held (meant r) (token_words (tokens_of (lexemes s))) o out
-  fill-held r q e = record { holds = λ k m h. go (ltb room n) (passed_at x) refl (sym e ∙ h) }
+-- ---- behind the first token too many
+
+-- what is said from place i on, where the token at p is one too many
+abbrev pub over_from : List ℕ → ℕ → ℕ → Answer
+over_from s p i = too_many (lexemes_from (drop i s) i 0) p
+
+module _ (s : List ℕ) (p i : ℕ) where
+  over-follow : (t : Step) → step_of s i ≡ t → over_from s p i ≡ too_many (follow t i (λ j. lexemes_from (drop j s) j 0)) p
+  over-follow t q = ap (λ x. too_many x p) (rest-follows s i ∙ ap (λ x. follow x i (λ j. lexemes_from (drop j s) j 0)) q)
+
+  pub over-token : (k e : ℕ) → step_of s i ≡ S.Token k e → over_from s p i ≡ over_from s p e
+  over-token k e q = over-follow _ q ∙ go (lexemes_from (drop e s) e 0)
     where
-      go : (a : Bool) (b : Option ℕ) → ltb room n ≡ a → {k m : ℕ} → said a b ≡ accepted k m → out ≡ front (token_words (tokens_of (lexemes s))) o
-      go true b f h = absurd (not-both h)
-      go false (some p) f h = absurd (not-both h)
-      go false none f h =
-          let l : length (token_words v.done) ≡ tok_wide * n = token-words-length v.done ∙ ap (λ y. tok_wide * y) v.number in
-          v.written (ltb-false room n f) ∙ ap (λ (k : ℕ). token_words v.done ++ drop k o) (sym l) ∙ ap (λ (y : Lexemes). front (token_words (tokens_of y)) o) (sym (fill-over q))
+      go : (y : Lexemes) → too_many (with_token (record { kind = k; start = i; end = e }) y) p ≡ too_many y p
+      go (tokens ts) = refl
+      go (refused_at c q) = refl
+
+  pub over-trivia : (e : ℕ) → step_of s i ≡ S.Trivia e → over_from s p i ≡ over_from s p e
+  over-trivia e q = over-follow _ q
+
+  pub over-refused : (r : Refused) → step_of s i ≡ S.Refused r → over_from s p i ≡ refused_by r
+  over-refused r q = over-follow _ q
+
+  pub over-end : step_of s i ≡ S.Nothing → over_from s p i ≡ refused (refusal_number refusal.TooMany) p
+  over-end q = over-follow _ q

@@ -7,8 +7,8 @@ use mathlib.Core.Path.{◌≡◌, refl, sym, ◌∙◌, ap, subst}
 use Prim.Native.Nat.{ℕ, suc, ◌+◌, ◌≤◌, ◌<◌}
 use native.Mathlib.Numerals.{add-one}
 use native.Mathlib.Omega.{arith}
-use borrow.Author.Tests.{eq-eqb, ne_eqb, leb-true, leb-false}
-use lib.Dec.{T, eqb, leb}
+use borrow.Author.Tests.{eq-eqb, ne_eqb, leb-true, leb-false, ltb-true, ltb-false}
+use lib.Dec.{T, eqb, leb, ltb}
 use lib.ListN.{length, get_or, drop, replicate, length-replicate}
 use Rattle.text.specs.Ascii.{ascii, ascii_from}
 use Rattle.text.specs.Refusals.{refusal_number}
@@ -22,6 +22,7 @@ use Rattle.lexer.specs.Bytes as byte
 use Rattle.lexer.specs.Classes as t
 use Rattle.lexer.specs.Chars.{among, whitespace, line_ends, plain_bytes, binary_digits, decimal_digits, hex_digits, underscore, name_starts, is, first, begins}
 use Rattle.lexer.specs.Lexemes.{Lexeme, token, refused, ◌or_else◌, space, line_comment, block_comment, qualified, macro, digits, hexadecimal, binary, decimal, word, marks, mark, no_lexeme, lexeme}
+use Rattle.lexer.specs.Places.{Rare}
 use Rattle.lexer.proofs.SameLexeme.{same_lexeme, same-lexeme}
 use Rattle.lexer.specs.Step.{step_from, lexeme_at}
 use Rattle.lexer.specs.declared.Step.TheVariants.{Token}
@@ -55,6 +56,15 @@ mark_tests b =
 marks-pass : T (every {A = ℕ} (λ b x. cond (in_classes byte.Minus byte.Other b) (all (mark_tests b)) true) 0 (replicate 128 0))
 unfolding same_lexeme mark marks no_lexeme in_classes byte_class mark_class same ascii ascii_from begins among whitespace line_ends plain_bytes binary_digits decimal_digits hex_digits underscore name_starts
 marks-pass = tt
+
+-- behind `-` only the class of no lexeme and that of bytes over 127 are rare
+pub over-rare : (c : ℕ) → Rare c → byte.Minus < c → (c ≡ byte.Other → ⊥) → byte.LineEnd < c
+over-rare c r a n = go (ltb c byte.Other) (leb c byte.LineEnd) refl refl
+  where
+    go : (s t : Bool) → ltb c byte.Other ≡ s → leb c byte.LineEnd ≡ t → byte.LineEnd < c
+    go true t e f = absurd (r.0 (a, ltb-true _ _ e))
+    go false true e f = let h = ltb-false _ _ e in absurd (r.1 (grind (arith, h, n), leb-true _ _ f))
+    go false false e f = leb-false _ _ f
 
 -- a byte of these classes is not over 127
 not-over : (b : ℕ) → in_classes byte.Minus byte.Other b ≡ true → b ≤ 127

@@ -159,9 +159,9 @@ named s i e h n q = record {
   within = (let w = run-end-within (in_classes byte.Underscore byte.Letter) s i (omega arith) in omega arith);
 }
 
-pub keyword-count : length KEYWORDS ≡ 14
+pub keyword_count : length KEYWORDS ≡ 14
 unfolding KEYWORDS
-keyword-count = refl
+keyword_count = refl
 
 pub module-count : length MODULE_RESERVED ≡ 3
 unfolding MODULE_RESERVED

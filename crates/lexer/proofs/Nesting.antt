@@ -4,22 +4,23 @@ use mathlib.Core.Bool.{Bool, true, false, cond}
 use mathlib.Core.List.{List, [], ◌∷◌, ◌++◌}
 use mathlib.Core.Option.{some}
 use mathlib.Core.Path.{◌≡◌, refl, sym, ◌∙◌, ap, ap₂}
-use Prim.Native.Nat.{ℕ, ◌≤◌}
+use Prim.Native.Nat.{ℕ, ◌+◌, ◌≤◌, ◌<◌}
 use native.Mathlib.Omega.{arith}
 use borrow.Author.Tests.{le-ltb, ne_eqb}
 use lib.Dec.{eqb}
-use Rattle.std.specs.Prelude as std
-use Rattle.std.specs.Option.{is_some}
-use Rattle.text.proofs.Same.{differ}
 use Rattle.lexer.specs.Classes as t
 use Rattle.lexer.specs.Lexemes.{Token}
 use Rattle.lexer.specs.Limits.{most_open, most_in_row, depth_after, row_after, passes, first_too_deep}
-use Rattle.lexer.specs.Nesting.{Nesting, within, past, Passes, Counted, known, nest_after, nest_of, passed_at, Uncounted}
+use Rattle.lexer.specs.Nesting.{Nesting, within, past, counted, Passes, Counted, nest_after, nest_of, passed_at, Uncounted}
 
 -- ---- both counts against their limits
 
 pub passes-not : (d m : ℕ) → d ≤ most_open → m ≤ most_in_row → passes d m ≡ false
 passes-not d m h k = simp (le-ltb most_open d h, le-ltb most_in_row m k)
+
+-- one `match` more in a row, within the limit
+pub row_within : (d i : ℕ) → d ≤ most_open → (m : ℕ) → m < most_in_row → within d (m + 1) ≡ counted d (m + 1) i
+row_within d i h m k = ap (λ b. cond b (past i) (within d (m + 1))) (sym (passes-not d (m + 1) h (omega arith)))
 
 -- any other kind than `match` and the brackets
 pub uncounted : (k : ℕ) → (k ≡ t.Match → ⊥) → ((b : ℕ) → t.LParen ≤ b → b ≤ t.RAngle → k ≡ b → ⊥) → Uncounted k
@@ -61,16 +62,6 @@ module _ (d m k i : ℕ) where
   uncounted_within u h e f =
       ap₂ within (e ∙ sym (u.depth d)) (f ∙ sym (u.row m))
       ∙ ap after (sym (ap₂ passes (u.depth d) (u.row m) ∙ passes-not d 0 h (omega arith)))
-
--- the first token that passes a limit
-pub passes_first : (o : std.Option ℕ) (d m k i : ℕ) → is_some o ≡ false → Passes (depth_after k d) (row_after k m) → past i ≡ nest_after (known d m o) k i
-passes_first (std.Some p) d m k i e h = differ (sym e)
-passes_first std.None d m k i e h = counted_past d m k i h
-
--- one that is not counted, whether a limit is passed or not
-pub uncounts : (o : std.Option ℕ) (d m k i : ℕ) → Uncounted k → d ≤ most_open → {d' m' : ℕ} → d' ≡ d → m' ≡ 0 → known d' m' o ≡ nest_after (known d m o) k i
-uncounts (std.Some p) d m k i u h e f = refl
-uncounts std.None d m k i u h e f = uncounted_within d m k i u h e f
 
 -- ---- some tokens
 

@@ -1,7 +1,7 @@
 -- What the proofs of the entry cite: refusal 1 before the others, and what the buffer holds at the end.
 -- Assumes nothing.
 use mathlib.Core.List.{List, ◌++◌}
-use mathlib.Core.Path.{◌≡◌, sym, ◌∙◌, ap}
+use mathlib.Core.Path.{◌≡◌, refl, sym, ◌∙◌, ap}
 use Prim.Native.Nat.{ℕ, ◌-◌, ◌*◌, ◌≤◌, ◌<◌, ◌/◌, min}
 use native.Mathlib.Omega.{arith}
 use borrow.Author.Tests.{lt-ltb, le-ltb}
@@ -14,7 +14,7 @@ use Rattle.lexer.specs.Lexemes.{lexemes}
 use Rattle.lexer.specs.Limits.{limits_of, room, meant, judged_in, lexed_of, tokens_of, token_words, content, buffer_of}
 use Rattle.text.specs.Front.{Held}
 use Rattle.lexer.proofs.Fits.{words-fit, tokens-cleared}
-use Rattle.std.specs.Prelude.{Result, Ok, Err}
+use Rattle.std.specs.Prelude.{Result, Ok, Err, MatchResult}
 use Rattle.text.specs.declared.refusal.Refused.{Refused}
 
 module _ (b t : ℕ) (s : List ℕ) (size : ℕ) where
@@ -41,3 +41,11 @@ module _ (b t : ℕ) (s o : List ℕ) {r : Result ℕ Refused} {n : ℕ} (out : 
 
   pub buffer_held : Held (meant r) (token_words (tokens_of (lexemes s))) o out → take (tok_wide * n) out ++ replicate (length out - tok_wide * n) 0 ≡ buffer_of (limits_of b t) s (length o)
   buffer_held h = tokens-cleared (limits_of b t) s o n (is-accepted b t s (length o) e g) (h.holds n 0 (ap meant g))
+
+-- Cleared behind the tokens, or from the beginning on a refusal, the buffer is the one that is handed over.
+pub buffer-cleared : (b t : ℕ) (s o out : List ℕ) (r : Result ℕ Refused) {k : ℕ} {Behind : ℕ → Type 0} → meant r ≡ lexed_of (limits_of b t) s (length o) → Held (meant r) (token_words (tokens_of (lexemes s))) o out
+    → length out ≡ length o → MatchResult r Behind (λ _. k ≡ 0) → ((n : ℕ) → Behind n → k ≡ tok_wide * n) → take k out ++ replicate (length out - k) 0 ≡ buffer_of (limits_of b t) s (length o)
+buffer-cleared b t s o out (Ok n) e h l m f = rw (f n m) (buffer_held b t s o out e refl h)
+buffer-cleared b t s o out (Err x) {k = k} e h l m f =
+    let z : length out - k ≡ length o = omega arith in
+    rw (z, m) (buffer-refused b t s (length o) e refl)

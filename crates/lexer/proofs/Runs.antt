@@ -1,11 +1,18 @@
 -- Runs of bytes: what a loop over one keeps, and runs of equal tests.
 -- Assumes nothing.
-use mathlib.Core.Bool.{Bool, true, false}
+use mathlib.Core.Bool.{Bool, true, false, cond, not}
 use mathlib.Core.List.{List, [], ◌∷◌}
-use mathlib.Core.Path.{◌≡◌, refl, ◌∙◌, ap}
+use mathlib.Core.Path.{◌≡◌, refl, sym, ◌∙◌, ap, subst}
 use Prim.Native.Nat.{ℕ, suc, ◌+◌, ◌≤◌, ◌<◌}
 use native.Mathlib.Numerals.{add-one}
 use native.Mathlib.Omega.{arith}
+use borrow.Author.Tests.{ltb-false}
+use lib.Dec.{ltb}
+use Rattle.std.specs.Prelude.{Option, Some, None}
+use Rattle.std.specs.List.{position, position_or_len}
+use Rattle.std.specs.Option.{MatchOption}
+use Rattle.std.proofs.lemmas.List.Recursion.{is_position_or_len}
+use Rattle.std.proofs.lemmas.List.Sums.{prefix_len-le-length}
 use lib.ListN.{length, get_or, drop, length-drop, drop_of_length-le}
 use lib.Seq.{drop-cons}
 use Rattle.lexer.specs.Chars.{run}
@@ -41,6 +48,32 @@ module _ (p : ℕ → Bool) (s : List ℕ) (j : ℕ) where
   pub run-over : length s ≤ j → j ≡ run_end p s j
   unfolding run
   run-over h = let q : run p (drop j s) ≡ 0 = ap (run p) (drop_of_length-le s h) in omega arith
+
+-- a run is as long as what lies before the first byte that fails
+run-position : (p : ℕ → Bool) (r : List ℕ) → run p r ≡ position_or_len (λ b. not (p b)) r
+unfolding run
+run-position p = is_position_or_len (run p) (λ b. not (p b)) refl (λ b r. turned (p b) (run p r))
+  where
+    turned : (t : Bool) (n : ℕ) → grown t n ≡ cond (not t) 0 (1 + n)
+    turned true n = omega arith
+    turned false n = refl
+
+-- the place that is found, or the end
+pub run_placed : (p : ℕ → Bool) (i : ℕ) (s : List ℕ) (e : ℕ) {o : Option ℕ} {Behind : ℕ → Type 0} → i ≤ length s
+    → o ≡ position (λ b. not (p b)) (drop i s) → MatchOption o (e ≡ length s) Behind → ((n : ℕ) → Behind n → e ≡ i + n) → e ≡ run_end p s i
+run_placed p i s e {Behind = Behind} h q m a = go (ltb k (length (drop i s))) refl
+  where
+    k : ℕ
+    k = position_or_len (λ b. not (p b)) (drop i s)
+
+    told : (t : Bool) → ltb k (length (drop i s)) ≡ t → MatchOption (cond t (Some k) None) (e ≡ length s) Behind
+    told t f = subst (λ o. MatchOption o (e ≡ length s) Behind) (q ∙ ap (λ t. cond t (Some k) None) f) m
+
+    go : (t : Bool) → ltb k (length (drop i s)) ≡ t → e ≡ run_end p s i
+    go true f = a k (told true f) ∙ ap (λ n. i + n) (sym (run-position p (drop i s)))
+    go false f =
+        let l = prefix_len-le-length (λ b. not (not (p b))) (drop i s) in
+        omega (arith, told false f, ltb-false _ _ f, l, length-drop i s, run-position p (drop i s), h)
 
 -- tests that agree have the same runs
 pub run-same : (p q : ℕ → Bool) → ((b : ℕ) → p b ≡ q b) → (r : List ℕ) → run p r ≡ run q r

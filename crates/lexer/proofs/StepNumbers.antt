@@ -19,9 +19,9 @@ numbers-from m (token k n) i v = refl
 numbers-from m (trivia n) i v = refl
 numbers-from m (refused c n) i v = ap (λ d. stops d (i + n)) (number-back c v.0)
 
-pub numbers-at : (draft : List ℕ) (i : ℕ) {r : Step} → r ≡ step_of draft i → numbers r ≡ numbers_at draft i
+pub step_numbers : (draft : List ℕ) (i : ℕ) {r : Step} → r ≡ step_of draft i → numbers r ≡ numbers_at draft i
 unfolding step_of numbers_at
-numbers-at draft i e = ap numbers e ∙ go (ltb i (length draft)) refl
+step_numbers draft i e = ap numbers e ∙ go (ltb i (length draft)) refl
   where
     go : (b : Bool) → ltb i (length draft) ≡ b → numbers (cond b (lexeme_at draft i) Nothing) ≡ cond b (numbers_from (lexeme (drop i draft)) i) (stops 0 0)
     go true h = numbers-from (length (drop i draft)) (lexeme (drop i draft)) i (here draft i (ltb-true i (length draft) h))

@@ -1,12 +1,12 @@
 -- How tokens lie in the token buffer.
 -- Assumes nothing.
-use Rattle.std.specs.Prelude.{cond, List, [], ◌∷◌, ℕ, zero, suc, ◌+◌, ◌*◌, ltb, get_or, drop, set}
+use Rattle.std.specs.Prelude.{List, [], ◌∷◌, ℕ, zero, suc, ◌+◌, ◌*◌, get_or, drop, set}
 use Rattle.text.specs.Widths.{tok_wide}
 use Rattle.lexer.specs.Lexemes.{Token}
 
--- token number n is written if it is below the room
-unfoldable pub put_at : List ℕ → ℕ → ℕ → ℕ → ℕ → ℕ → List ℕ
-put_at out room n kind start end = cond (ltb n room) (set (set (set out (tok_wide * n) kind) (tok_wide * n + 1) start) (tok_wide * n + 2) end) out
+-- token number n is written
+abbrev pub put_at : List ℕ → ℕ → ℕ → ℕ → ℕ → List ℕ
+put_at out n kind start end = set (set (set out (tok_wide * n) kind) (tok_wide * n + 1) start) (tok_wide * n + 2) end
 
 -- the first n tokens that the words hold
 unfoldable pub tokens_in : ℕ → List ℕ → List Token

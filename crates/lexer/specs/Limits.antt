@@ -73,6 +73,11 @@ abbrev pub judged_in : ℕ → Lexemes → Answer
 judged_in r (refused_at c p) = refused c p
 judged_in r (tokens ts) = cond (ltb r (length ts)) (refused (refusal_number refusal.TooMany) (get_or ts r no_token).start) (deep (first_too_deep 0 0 ts) (length ts))
 
+-- where the token at p is one too many, by what is left: the refusals of the bytes come first
+abbrev pub too_many : Lexemes → ℕ → Answer
+too_many (refused_at c q) p = refused c q
+too_many (tokens ts) p = refused (refusal_number refusal.TooMany) p
+
 abbrev pub judged : Limits → ℕ → Lexemes → Answer
 judged l size = judged_in (room l size)
 

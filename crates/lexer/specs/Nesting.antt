@@ -1,10 +1,11 @@
 -- Brackets open and `match` tokens in a row, counted token by token until a limit is passed.
 -- Assumes nothing.
-use Rattle.std.specs.Prelude.{Bool, true, false, cond, ◌≡◌, List, [], ◌∷◌, ℕ}
-use Rattle.std.specs.Prelude as std
+use Rattle.std.specs.Prelude.{true, false, cond, ◌≡◌, List, [], ◌∷◌, ℕ}
 use Rattle.std.proofs.Math.Option.{Option, none, some}
 use Rattle.lexer.specs.Lexemes.{Token}
 use Rattle.lexer.specs.Limits.{depth_after, row_after, passes}
+use Rattle.lexer.specs.declared.depth.Nest.{Nest}
+use Rattle.lexer.specs.declared.depth.Nest.TheVariants.{Within, Past}
 
 -- d brackets open and m `match` tokens in a row, or a limit is passed, whichever, by the token at p
 pub data Nesting : Type 0 where
@@ -47,7 +48,7 @@ Passes d m = passes d m ≡ true
 abbrev pub Counted : ℕ → ℕ → ℕ → ℕ → Type 0
 Counted d m depth row = (passes d m ≡ false) × (depth ≡ d) × (row ≡ m)
 
--- what is known, by the counts and by where a limit was passed
-abbrev pub known : ℕ → ℕ → std.Option ℕ → Nesting
-known d m std.None = within d m
-known d m (std.Some p) = past p
+-- what is known, as the code has it
+abbrev pub known : Nest → Nesting
+known (Within c) = within c.depth c.row
+known (Past p) = past p

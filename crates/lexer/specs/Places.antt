@@ -37,3 +37,7 @@ pub record Based (s : List ℕ) (i kind most : ℕ) : Type 0 where
 abbrev pub IfAny : List ℕ → ℕ → Option Step → Type 0
 IfAny s i None = Unit
 IfAny s i (Some t) = t ≡ lexeme_at s i
+
+-- the class of a byte at which whatever is not frequent may stand: none of whitespace, and of the marks `-` alone
+abbrev pub Rare : ℕ → Type 0
+Rare c = ((byte.Minus < c) × (c < byte.Other) → ⊥) × ((byte.Space ≤ c) × (c ≤ byte.LineEnd) → ⊥)

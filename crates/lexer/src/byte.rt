@@ -1,5 +1,6 @@
 // The classes of bytes by number, as specs/Bytes.antt has them, ordered so that each run of bytes is a range of them.
-// Numbers and no enum: runs are compared as ranges, and a mark of one byte has its kind for its class without a conversion.
+// Numbers and no enum: document 01 names a table of 256, which is one byte string as numbers and 256 names of an enum; and what is asked of a class is mostly
+// whether it is in a range, as the lines below have them.
 use crate::classes as class;
 
 // Names are UNDERSCORE to LETTER; numbers UNDERSCORE to BINARY_DIGIT, DIGIT or HEX_LETTER by their base.
@@ -20,13 +21,7 @@ pub(crate) const MINUS: u8 = 13;
 
 pub(crate) const COLON: u8 = class::COLON as u8;
 
-pub(crate) const SEMI: u8 = class::SEMI as u8;
-
-pub(crate) const COMMA: u8 = class::COMMA as u8;
-
 pub(crate) const EQ: u8 = class::EQ as u8;
-
-pub(crate) const LPAREN: u8 = class::LPAREN as u8;
 
 pub(crate) const OTHER: u8 = 28;
 
@@ -34,5 +29,3 @@ pub(crate) const OTHER: u8 = 28;
 pub(crate) const SPACE: u8 = 29;
 
 pub(crate) const LINE_END: u8 = 30;
-
-pub(crate) const NOT_ASCII: u8 = 31;

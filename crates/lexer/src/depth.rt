@@ -1,7 +1,6 @@
 // Brackets open and `match` tokens in a row, counted while lexing: refusal 7 is found in the same pass as the tokens.
 ghost use Rattle.std.specs.Prelude.{◌≡◌, ◌+◌, ◌-◌, ◌≤◌, MatchOption};
 ghost use Rattle.lexer.specs.Limits.{most_open, depth_after, row_after};
-ghost use Rattle.lexer.specs.Nesting.{Passes, Counted, known, nest_after, outermost};
 
 use crate::classes as class;
 
@@ -12,13 +11,15 @@ const MOST_IN_ROW: usize = 8;
 
 // Brackets open and `match` tokens in a row, where no limit is passed.
 #[derive(Clone, Copy)]
-struct Counts {
+pub(crate) struct Counts {
     depth: usize,
     row: usize,
     ghost few: { depth ≤ most_open },
 }
 
 impl Counts {
+    ghost use Rattle.lexer.specs.Nesting.{Passes, Counted};
+
     // Behind a bracket that opens; none where that passes the limit.
     fn opened(self) -> Option<Counts>
         ensures { MatchOption result (Passes (self.depth + 1) 0) (λ c. Counted (self.depth + 1) 0 c.depth c.row) }
@@ -78,54 +79,55 @@ impl Counts {
     }
 }
 
-// What is known behind some tokens: the counts, as long as no limit is passed, and where one was passed.
+// What is known behind some tokens: the counts, or, once a limit is passed, where it was. It is no `Result`: a limit that is passed is no error that is handed
+// up at once, since the loop goes on with it to look for a refusal of the bytes.
 #[derive(Clone, Copy)]
-pub(crate) struct Nest {
-    counts: Counts,
-    pub(crate) passed: Option<usize>,
+pub(crate) enum Nest {
+    Within(Counts),
+    Past(usize),
 }
 
 impl Nest {
+    ghost use Rattle.std.specs.Prelude.{ℕ};
+    ghost use Rattle.lexer.specs.Nesting.{Uncounted, known, nest_after, outermost};
+
     // Before all tokens.
     pub(crate) fn outside() -> Self
-        ensures { known result.counts.depth result.counts.row result.passed ≡ outermost }
+        ensures { known result ≡ outermost }
     {
-        Nest {
-            counts: Counts { depth: 0, row: 0 },
-            passed: None,
-        }
+        Nest::Within(Counts { depth: 0, row: 0 })
     }
 
-    // Behind a token that only ends a row.
+    // Behind a token that only ends a row. Once a limit is passed, the place alone is handed on: where `self` was, the lexing loop kept the row beside it,
+    // and names took 2 percent more instructions.
     fn ended(self) -> Nest
-        ensures { (result.counts.depth ≡ self.counts.depth) × (result.counts.row ≡ 0) × (result.passed ≡ self.passed) }
+        ensures { (k : ℕ) → (i : ℕ) → Uncounted k → known result ≡ nest_after (known self) k i }
     {
-        Nest {
-            counts: self.counts.ended(),
-            ..self
+        match self {
+            Nest::Within(counts) => Nest::Within(counts.ended()),
+            Nest::Past(place) => Nest::Past(place),
         }
     }
 
     // Behind a bracket or `match`. Once a limit is passed, nothing is counted any longer: the first token that did is the refused one.
     fn counted(self, kind: u32, start: usize) -> Nest
-        ensures { known result.counts.depth result.counts.row result.passed ≡ nest_after (known self.counts.depth self.counts.row self.passed) kind start }
+        ensures { known result ≡ nest_after (known self) kind start }
     {
-        if self.passed.is_some() {
+        let Nest::Within(counts) = self else {
             return self;
-        }
-        match self.counts.after(kind) {
-            Some(counts) => Nest { counts, ..self },
-            None => Nest {
-                passed: Some(start),
-                ..self
-            },
+        };
+        match counts.after(kind) {
+            Some(counts) => Nest::Within(counts),
+            None => Nest::Past(start),
         }
     }
 
-    // Behind one token more. Names and numbers, the most frequent, have kinds behind those of brackets, so one test sets them apart.
+    // Behind one token more. Names and numbers, the most frequent, have kinds behind those of brackets, so one test sets them apart. With one `match` over
+    // the brackets' range and `match` in place of the three tests, names took 4 percent more instructions, digits 4.5; with that of `Counts::after` alone,
+    // names 15.
     #[inline(always)]
     pub(crate) fn after(self, kind: u32, start: usize) -> Nest
-        ensures { known result.counts.depth result.counts.row result.passed ≡ nest_after (known self.counts.depth self.counts.row self.passed) kind start }
+        ensures { known result ≡ nest_after (known self) kind start }
     {
         if kind > class::RANGLE {
             return self.ended();

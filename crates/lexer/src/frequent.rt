@@ -1,13 +1,16 @@
 // What most of a draft is made of: names, keywords, numbers, marks and whitespace. Nothing is called here that is not a part of the lexing loop, so the
 // compiler knows in each of its ways what was found there. And all is inlined: with a call among them the scanner was put into memory, and names took 46
 // percent more instructions.
-ghost use Rattle.std.specs.Prelude.{true, cond, eqb, ◌≡◌, ◌+◌, ◌<◌, length, get_or};
+// So names, numbers and the choice among lexemes stand in scan.rt too. One choice for all of it, inlined, with a name before `:` or `!` out of line, took 28
+// percent more instructions in names, 20 in digits and 5 in marks.
+// A run is looked for behind its first byte, whose class says that it is of the run: from that byte on, names took 12 percent more and digits 15.
+ghost use Rattle.std.specs.Prelude.{true, cond, eqb, None, ◌≡◌, ◌+◌, ◌<◌, length, get_or};
 ghost use Rattle.lexer.specs.Chars.{among, decimal_digits, name_starts};
-ghost use Rattle.lexer.specs.Bytes.{byte_class, in_classes};
+ghost use Rattle.lexer.specs.Bytes.{in_classes};
 ghost use Rattle.lexer.specs.Bytes as byte;
-ghost use Rattle.lexer.specs.Places.{IfAny};
+ghost use Rattle.lexer.specs.Places.{IfAny, Rare};
 
-use crate::scan::Scanner;
+use crate::scan::{Name, Scanner};
 use crate::{Step, byte, classes as class};
 use text::peek;
 
@@ -18,19 +21,20 @@ impl Scanner<'_> {
         requires { (among name_starts (get_or self.draft.now self.at 0) ≡ true) × (in_classes byte.Underscore byte.Letter (get_or self.draft.now self.at 0) ≡ true) }
         ensures { IfAny self.entry.draft.now self.entry.at result }
     {
-        let e = self
+        let end = self
             .classes
-            .rest_end(self.draft, self.at, byte::UNDERSCORE, byte::LETTER);
-        let b = peek(self.draft, e);
+            .run_end(self.draft, self.at + 1, byte::UNDERSCORE, byte::LETTER);
+        let b = peek(self.draft, end);
         if b == b'!' {
             return None;
         }
         if b == b':' {
-            if peek(self.draft, e + 1) == b':' {
+            if peek(self.draft, end + 1) == b':' {
                 return None;
             }
         }
-        Some(self.word(e))
+        let name = Name { scanner: self, end };
+        Some(name.word())
     }
 
     // A number that does not begin with 0.
@@ -44,7 +48,7 @@ impl Scanner<'_> {
         }
         let e = self
             .classes
-            .rest_end(self.draft, self.at, byte::UNDERSCORE, byte::DIGIT);
+            .run_end(self.draft, self.at + 1, byte::UNDERSCORE, byte::DIGIT);
         Some(Step::Token {
             kind: class::DEC_LITERAL,
             end: e,
@@ -68,66 +72,44 @@ impl Scanner<'_> {
         }
     }
 
-    // A mark other than `->`; c is the class of the byte here.
+    // A mark other than `->`.
     #[inline(always)]
-    fn plain_mark(self, c: u8) -> Option<Step>
-        requires { (c ≡ byte_class (get_or self.draft.now self.at 0)) × (byte.Letter < c) × (c < byte.Space) }
-        ensures { IfAny self.entry.draft.now self.entry.at result }
+    fn plain_mark(self) -> Option<Step>
+        requires { (byte.Letter < self.class) × (self.class < byte.Space) }
+        ensures found { IfAny self.entry.draft.now self.entry.at result }
+        ensures rest { result ≡ None → Rare self.entry.class }
     {
-        if c >= byte::LPAREN {
-            if c == byte::OTHER {
-                return None;
-            }
-            return Some(Step::Token {
-                kind: u32::from(c),
+        match self.class {
+            byte::COLON => Some(self.one_or_two(class::COLON, b':', class::DOUBLE_COLON)),
+            byte::EQ => Some(self.one_or_two(class::EQ, b'>', class::FAT_ARROW)),
+            byte::SLASH | byte::MINUS | byte::OTHER => None,
+            _ => Some(Step::Token {
+                kind: u32::from(self.class),
                 end: self.at + 1,
-            });
+            }),
         }
-        if c == byte::COMMA {
-            return Some(Step::Token {
-                kind: class::COMMA,
-                end: self.at + 1,
-            });
-        }
-        if c == byte::SEMI {
-            return Some(Step::Token {
-                kind: class::SEMI,
-                end: self.at + 1,
-            });
-        }
-        if c == byte::COLON {
-            return Some(self.one_or_two(class::COLON, b':', class::DOUBLE_COLON));
-        }
-        if c == byte::EQ {
-            return Some(self.one_or_two(class::EQ, b'>', class::FAT_ARROW));
-        }
-        None
     }
 
     // What stands here, if it is one of these.
     #[inline(always)]
     pub(crate) fn lexeme(self) -> Option<Step>
-        ensures { IfAny self.entry.draft.now self.entry.at result }
+        ensures found { IfAny self.entry.draft.now self.entry.at result }
+        ensures rest { result ≡ None → Rare self.entry.class }
     {
-        let c = self.classes.of(self.draft[self.at]);
-        if c <= byte::LETTER {
-            if c > byte::DIGIT {
-                return self.plain_name();
+        match self.class {
+            byte::UNDERSCORE..=byte::LETTER => {
+                if matches!(self.class, byte::BINARY_DIGIT..=byte::DIGIT) {
+                    return self.plain_number();
+                }
+                self.plain_name()
             }
-            if c == byte::UNDERSCORE {
-                return self.plain_name();
-            }
-            return self.plain_number();
+            byte::SLASH..=byte::OTHER => self.plain_mark(),
+            byte::SPACE..=byte::LINE_END => Some(Step::Trivia {
+                end: self
+                    .classes
+                    .run_end(self.draft, self.at + 1, byte::SPACE, byte::LINE_END),
+            }),
+            _ => None,
         }
-        if c < byte::SPACE {
-            return self.plain_mark(c);
-        }
-        if c > byte::LINE_END {
-            return None;
-        }
-        let e = self
-            .classes
-            .rest_end(self.draft, self.at, byte::SPACE, byte::LINE_END);
-        Some(Step::Trivia { end: e })
     }
 }

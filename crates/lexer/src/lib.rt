@@ -11,7 +11,8 @@ ghost use Rattle.lexer.specs.Texts.{OneToken};
 ghost use Rattle.lexer.specs.Lexemes.{lexemes};
 ghost use Rattle.lexer.specs.Limits.{draft_limits, meant, lexed_of, buffer_of, tokens_of, token_words};
 
-use text::refusal::Refused;
+use text::TOKEN_WORDS;
+use text::refusal::{Refusal, Refused};
 use words::Table;
 
 mod buffer;
@@ -30,7 +31,7 @@ pub const DRAFT_BYTES: usize = 16384;
 
 pub const DRAFT_TOKENS: usize = 2048;
 
-// What stands at a place of a draft.
+// What stands at a place of a draft. Document 01: each step answers by an enum, instead of `Result`.
 // A kind is a number, as the buffer has it: `PUB + k`, `JET + k` and the class of a byte are kinds as they stand.
 #[derive(Clone, Copy, PartialEq, Eq, Debug)]
 pub enum Step {
@@ -49,7 +50,9 @@ pub fn lex(draft: &[u8], out: &mut [u32]) -> Result<usize, Refused>
     ensures result_value { meant result ≡ lexed_of draft_limits draft.now (length out.old) }
     ensures out_after { out.new ≡ buffer_of draft_limits draft.now (length out.old) }
 {
-    limits::lex_within(draft, out, DRAFT_BYTES, DRAFT_TOKENS)
+    let lexed = lex_front(draft, out);
+    text::clear_from(out, lexed.map_or(0, |n| TOKEN_WORDS * n));
+    lexed
 }
 
 // As `lex`, for a caller that needs no zeros: the words behind the tokens stay; on a refusal the words may be anything.
@@ -57,7 +60,14 @@ pub fn lex_front(draft: &[u8], out: &mut [u32]) -> Result<usize, Refused>
     ensures result_value { meant result ≡ lexed_of draft_limits draft.now (length out.old) }
     ensures held { Held (meant result) (token_words (tokens_of (lexemes draft.now))) out.old out.new }
 {
-    limits::lex_front_within(draft, out, DRAFT_BYTES, DRAFT_TOKENS)
+    if draft.len() > DRAFT_BYTES {
+        return Err(Refused {
+            refusal: Refusal::TooLong,
+            place: DRAFT_BYTES,
+        });
+    }
+    let room = DRAFT_TOKENS.min(out.len() / TOKEN_WORDS);
+    limits::fill(draft, out, room)
 }
 
 // Whether a token of this kind may be a word that the rules single out.
@@ -69,6 +79,7 @@ fn may_be_word(kind: u32) -> bool
 
 // The class of a token that may be a word. Few tokens of such kinds are, so the kind is looked at behind the look-up. Out of line, so that others pay nothing.
 #[inline(never)]
+#[tactic(auto, using(crate::proofs::TokenClass::few_words))]
 fn word_class(draft: &[u8], kind: u32, start: usize, end: usize) -> u32
     ensures { result ≡ class_of kind (part_of draft.now start end) }
 {
@@ -76,28 +87,22 @@ fn word_class(draft: &[u8], kind: u32, start: usize, end: usize) -> u32
         return kind;
     };
     if may_be_word(kind) {
-        return classes::WORDS + k as u32;
+        return classes::WORDS + u32::from(k);
     }
     kind
 }
 
-// The class of a token: its kind, or that of the word or macro that it is. Marks, keywords and numbers have smaller kinds than words.
+// The class of a token for the rules: its kind, or the class of the name, macro or word that it is. Marks, keywords and numbers have smaller kinds than
+// words. Kind, start and end may be any numbers: they are words of a lent buffer, so a struct of them could keep no fact, and would only be put together
+// here and taken apart at once.
 #[inline(always)]
-fn class_of(draft: &[u8], kind: u32, start: usize, end: usize) -> u32
-    ensures { result ≡ class_of kind (part_of draft.now start end) }
+#[tactic(auto, using(crate::proofs::TokenClass::small_kind))]
+pub fn class(draft: &[u8], kind: u32, start: usize, end: usize) -> u32
+    ensures answer { result ≡ class_of kind (part_of draft.now start end) }
+    ensures law { OneToken kind (part_of draft.now start end) → ClassLaw kind (part_of draft.now start end) result }
 {
     if kind < classes::BOOL {
         return kind;
     }
     word_class(draft, kind, start, end)
-}
-
-// The class of a token for the rules; of a token, it says which name, macro or word it is. Kind, start and end may be any numbers: they are words of
-// a lent buffer, so a struct of them could keep no fact, and would only be put together here and taken apart at once.
-#[inline(always)]
-pub fn class(draft: &[u8], kind: u32, start: usize, end: usize) -> u32
-    ensures answer { result ≡ class_of kind (part_of draft.now start end) }
-    ensures law { OneToken kind (part_of draft.now start end) → ClassLaw kind (part_of draft.now start end) result }
-{
-    class_of(draft, kind, start, end)
 }

@@ -6,134 +6,171 @@ ghost use Rattle.lexer.specs.Chars.{among, decimal_digits, name_starts};
 ghost use Rattle.lexer.specs.Lexemes.{macro, qualified};
 ghost use Rattle.lexer.specs.Bytes.{byte_class};
 ghost use Rattle.lexer.specs.Bytes as byte;
-ghost use Rattle.lexer.specs.Step.{numbers, numbers_at, lexeme_at, step_of};
-ghost use Rattle.lexer.specs.Places.{Named, Based, keyword_at, decimal_at};
+ghost use Rattle.lexer.specs.Step.{numbers, numbers_at, lexeme_at, step_of, refused_step};
+ghost use Rattle.lexer.specs.Places.{Named, Based, Rare, keyword_at, decimal_at};
 
 use crate::chars::Classes;
-use crate::{Step, byte, classes as class, trivia};
+use crate::{Step, byte, classes as class};
 use text::peek;
 use text::refusal::{Refusal, Refused};
 use words::Table;
 
-// A place within a draft, with the classes of bytes; its methods say what stands there. It is a value, since the lexing loop moves on from place to place.
+// A place within a draft, with the classes of bytes and that of the byte here; its methods say what stands there. It is a value, since the lexing loop moves
+// on from place to place. Their clauses name the draft and the place, as the laws about them do: a definition of a `Scanner` would hide both.
 #[derive(Clone, Copy)]
 pub(crate) struct Scanner<'a> {
     pub(crate) classes: &'a Classes,
     pub(crate) draft: &'a [u8],
     pub(crate) at: usize,
+    pub(crate) class: u8,
     ghost within: { at < length draft.now },
+    ghost classed: { class ≡ byte_class (get_or draft.now at 0) },
 }
 
+#[tactic(auto, using(crate::proofs::ByteClasses::starts_name, crate::proofs::ByteClasses::starts_not))]
 fn starts_name(classes: &Classes, b: u8) -> bool
     ensures { result ≡ among name_starts b }
 {
-    let c = classes.of(b);
-    if c == byte::UNDERSCORE {
-        return true;
-    }
-    if c < byte::HEX_LETTER {
-        return false;
-    }
-    c <= byte::LETTER
+    matches!(
+        classes.of(b),
+        byte::UNDERSCORE | byte::HEX_LETTER..=byte::LETTER
+    )
 }
 
-impl Scanner<'_> {
+// A name of a draft, and where it ends.
+#[derive(Clone, Copy)]
+pub(crate) struct Name<'a> {
+    pub(crate) scanner: Scanner<'a>,
+    pub(crate) end: usize,
+    ghost named: { Named scanner.draft.now scanner.at end },
+}
+
+impl Name<'_> {
     // Keyword number k. Their kinds are PUB to SIMC in the order of the words; the last is refused, and the two words behind it are the booleans.
-    fn keyword(self, k: usize, e: usize) -> Step
+    #[tactic(auto, using(crate::proofs::Names::keyword_count))]
+    fn keyword(self, k: u8) -> Step
         requires { k < length KEYWORDS }
-        ensures { result ≡ keyword_at k self.entry.at e }
+        ensures { result ≡ keyword_at k self.entry.scanner.at self.entry.end }
     {
-        let kind = class::PUB + k as u32;
+        let kind = class::PUB + u32::from(k);
         if kind == class::SIMC {
-            return Step::Refused(Refused {
-                refusal: Refusal::Simc,
-                place: self.at,
-            });
+            return self.scanner.refused(Refusal::Simc);
         }
         if kind > class::SIMC {
             return Step::Token {
                 kind: class::BOOL,
-                end: e,
+                end: self.end,
             };
         }
-        Step::Token { kind, end: e }
+        Step::Token {
+            kind,
+            end: self.end,
+        }
     }
 
-    // The name here up to e, where it is neither qualified nor a macro.
-    // `e` is a parameter of four with what is known of it: a name as a struct would be put together for each call and taken apart in it.
-    pub(crate) fn word(self, e: usize) -> Step
-        requires { Named self.draft.now self.at e × (qualified (drop self.at self.draft.now) ≡ none) × (macro (drop self.at self.draft.now) ≡ none) }
-        ensures { result ≡ lexeme_at self.entry.draft.now self.entry.at }
+    // The name, where it is neither qualified nor a macro.
+    pub(crate) fn word(self) -> Step
+        requires { (qualified (drop self.scanner.at self.scanner.draft.now) ≡ none) × (macro (drop self.scanner.at self.scanner.draft.now) ≡ none) }
+        ensures { result ≡ lexeme_at self.entry.scanner.draft.now self.entry.scanner.at }
     {
-        match words::which(Table::Keywords, &self.draft[self.at..e]) {
-            Some(k) => self.keyword(k, e),
+        match words::which(
+            Table::Keywords,
+            &self.scanner.draft[self.scanner.at..self.end],
+        ) {
+            Some(k) => self.keyword(k),
             None => Step::Token {
                 kind: class::IDENT,
-                end: e,
+                end: self.end,
             },
         }
     }
 
-    // The name here up to e, behind which `!` stands.
-    fn macro_word(self, e: usize) -> Step
-        requires { Named self.draft.now self.at e × (get_or self.draft.now e 0 ≡ 33) }
-        ensures { result ≡ lexeme_at self.entry.draft.now self.entry.at }
+    // The name, behind which `!` stands.
+    fn macro_word(self) -> Step
+        requires { get_or self.scanner.draft.now self.end 0 ≡ 33 }
+        ensures { result ≡ lexeme_at self.entry.scanner.draft.now self.entry.scanner.at }
     {
-        match words::word(Table::Macros, self.draft, self.at, e + 1) {
+        match words::word(
+            Table::Macros,
+            self.scanner.draft,
+            self.scanner.at,
+            self.end + 1,
+        ) {
             Some(_) => Step::Token {
                 kind: class::MACRO,
-                end: e + 1,
+                end: self.end + 1,
             },
-            None => self.word(e),
+            None => self.word(),
         }
     }
 
-    // The name here up to e, behind which `::` and a name stand.
-    fn module_word(self, e: usize) -> Step
-        requires { Named self.draft.now self.at e × (get_or self.draft.now e 0 ≡ 58) × (get_or self.draft.now (e + 1) 0 ≡ 58) × (among name_starts (get_or self.draft.now (e + 2) 0) ≡ true) }
-        ensures { result ≡ lexeme_at self.entry.draft.now self.entry.at }
+    // The name, behind which `::` and a name stand.
+    fn module_word(self) -> Step
+        requires { (get_or self.scanner.draft.now self.end 0 ≡ 58) × (get_or self.scanner.draft.now (self.end + 1) 0 ≡ 58) × (among name_starts (get_or self.scanner.draft.now (self.end + 2) 0) ≡ true) }
+        ensures { result ≡ lexeme_at self.entry.scanner.draft.now self.entry.scanner.at }
     {
-        match words::word(Table::ModuleReserved, self.draft, self.at, e) {
+        match words::word(
+            Table::ModuleReserved,
+            self.scanner.draft,
+            self.scanner.at,
+            self.end,
+        ) {
             Some(k) => Step::Token {
-                kind: class::JET + k as u32,
-                end: self
-                    .classes
-                    .run_end(self.draft, e + 2, byte::UNDERSCORE, byte::LETTER),
+                kind: class::JET + u32::from(k),
+                end: self.scanner.classes.run_end(
+                    self.scanner.draft,
+                    self.end + 2,
+                    byte::UNDERSCORE,
+                    byte::LETTER,
+                ),
             },
-            None => self.word(e),
+            None => self.word(),
         }
     }
 
-    // The name here up to e, behind which `:` stands.
-    fn colon_word(self, e: usize) -> Step
-        requires { Named self.draft.now self.at e × (get_or self.draft.now e 0 ≡ 58) }
-        ensures { result ≡ lexeme_at self.entry.draft.now self.entry.at }
+    // The name, behind which `:` stands.
+    fn colon_word(self) -> Step
+        requires { get_or self.scanner.draft.now self.end 0 ≡ 58 }
+        ensures { result ≡ lexeme_at self.entry.scanner.draft.now self.entry.scanner.at }
     {
-        if peek(self.draft, e + 1) != b':' {
-            return self.word(e);
+        if peek(self.scanner.draft, self.end + 1) != b':' {
+            return self.word();
         }
-        if starts_name(self.classes, peek(self.draft, e + 2)) {
-            return self.module_word(e);
+        if starts_name(self.scanner.classes, peek(self.scanner.draft, self.end + 2)) {
+            return self.module_word();
         }
-        self.word(e)
+        self.word()
+    }
+}
+
+impl Scanner<'_> {
+    pub(crate) fn refused(self, refusal: Refusal) -> Step
+        ensures { result ≡ refused_step refusal self.entry.at }
+    {
+        Step::Refused(Refused {
+            refusal,
+            place: self.at,
+        })
     }
 
     // What stands at the start of a name.
+    #[tactic(auto, using(crate::proofs::Names::named))]
     fn name(self) -> Step
         requires { among name_starts (get_or self.draft.now self.at 0) ≡ true }
         ensures { result ≡ lexeme_at self.entry.draft.now self.entry.at }
     {
-        let e = self
+        let end = self
             .classes
             .run_end(self.draft, self.at, byte::UNDERSCORE, byte::LETTER);
-        let b = peek(self.draft, e);
+        let name = Name { scanner: self, end };
+        let b = peek(self.draft, end);
         if b == b':' {
-            return self.colon_word(e);
+            return name.colon_word();
         }
         if b == b'!' {
-            return self.macro_word(e);
+            return name.macro_word();
         }
-        self.word(e)
+        name.word()
     }
 
     fn decimal(self) -> Step
@@ -153,11 +190,7 @@ impl Scanner<'_> {
         requires { Based self.draft.now self.at kind most }
         ensures { result ≡ lexeme_at self.entry.draft.now self.entry.at }
     {
-        let c = self.classes.of(peek(self.draft, self.at + 2));
-        if c == byte::UNDERSCORE {
-            return self.decimal();
-        }
-        if c > most {
+        if !(byte::BINARY_DIGIT..=most).contains(&self.classes.of(peek(self.draft, self.at + 2))) {
             return self.decimal();
         }
         Step::Token {
@@ -187,107 +220,61 @@ impl Scanner<'_> {
         self.decimal()
     }
 
-    // What stands at a mark, or at a byte that starts no lexeme; c is its class.
-    // It is a parameter of the four methods that ask it and no field, since the others do without.
-    fn mark(self, c: u8) -> Step
-        requires { (c ≡ byte_class (get_or self.draft.now self.at 0)) × (byte.Minus ≤ c) × (c ≤ byte.Other) }
+    // What stands at a `-`.
+    fn arrow(self) -> Step
+        requires { self.class ≡ byte.Minus }
         ensures { result ≡ lexeme_at self.entry.draft.now self.entry.at }
     {
-        if c == byte::COLON {
-            return self.one_or_two(class::COLON, b':', class::DOUBLE_COLON);
-        }
-        if c == byte::EQ {
-            return self.one_or_two(class::EQ, b'>', class::FAT_ARROW);
-        }
-        if c == byte::MINUS {
-            if peek(self.draft, self.at + 1) == b'>' {
-                return Step::Token {
-                    kind: class::ARROW,
-                    end: self.at + 2,
-                };
-            }
-            return Step::Refused(Refused {
-                refusal: Refusal::NoLexeme,
-                place: self.at,
-            });
-        }
-        if c == byte::OTHER {
-            return Step::Refused(Refused {
-                refusal: Refusal::NoLexeme,
-                place: self.at,
-            });
+        if peek(self.draft, self.at + 1) != b'>' {
+            return self.refused(Refusal::NoLexeme);
         }
         Step::Token {
-            kind: u32::from(c),
-            end: self.at + 1,
+            kind: class::ARROW,
+            end: self.at + 2,
         }
     }
 
-    // Whitespace, or a byte over 127; c is the class of the byte here.
-    fn blank(self, c: u8) -> Step
-        requires { (c ≡ byte_class (get_or self.draft.now self.at 0)) × (byte.Space ≤ c) }
-        ensures { result ≡ lexeme_at self.entry.draft.now self.entry.at }
-    {
-        if c > byte::LINE_END {
-            return Step::Refused(Refused {
-                refusal: Refusal::NotAscii,
-                place: self.at,
-            });
-        }
-        let e = self
-            .classes
-            .run_end(self.draft, self.at, byte::SPACE, byte::LINE_END);
-        Step::Trivia { end: e }
-    }
-
-    // What stands at a letter, a digit or `_`; c is its class.
-    fn name_or_number(self, c: u8) -> Step
-        requires { (c ≡ byte_class (get_or self.draft.now self.at 0)) × (c ≤ byte.Letter) }
-        ensures { result ≡ lexeme_at self.entry.draft.now self.entry.at }
-    {
-        if c == byte::UNDERSCORE {
-            return self.name();
-        }
-        if c < byte::HEX_LETTER {
-            return self.number();
-        }
-        self.name()
-    }
-
-    // Whatever stands here.
+    // What stands here, where it is none of what is frequent.
     #[inline(never)]
     fn whatever(self) -> Step
+        requires { Rare self.class }
         ensures { result ≡ lexeme_at self.entry.draft.now self.entry.at }
     {
-        let c = self.classes.of(self.draft[self.at]);
-        if c <= byte::LETTER {
-            return self.name_or_number(c);
+        match self.class {
+            byte::BINARY_DIGIT..=byte::DIGIT => self.number(),
+            byte::UNDERSCORE..=byte::LETTER => self.name(),
+            byte::SLASH => self.slash(),
+            byte::MINUS => self.arrow(),
+            byte::OTHER => self.refused(Refusal::NoLexeme),
+            _ => self.refused(Refusal::NotAscii),
         }
-        if c == byte::SLASH {
-            return trivia::slash(self.draft, self.at);
-        }
-        if c >= byte::SPACE {
-            return self.blank(c);
-        }
-        self.mark(c)
     }
 
-    // The same, called from a function of its own: the place for the answer is made ready only where it is wanted.
+    // The same, called from a function of its own: the place for the answer is made ready only where it is wanted. Without it names took 23 percent more
+    // instructions.
     fn rare(self) -> Step
+        requires { Rare self.class }
         ensures { result ≡ lexeme_at self.entry.draft.now self.entry.at }
     {
         self.whatever()
     }
 }
 
-// What stands at a place of the draft.
+// What stands at a place of the draft. Two loops call it: where the compiler was free to make it a call, names took 61 percent more instructions.
+#[inline(always)]
 pub(crate) fn step_with(classes: &Classes, draft: &[u8], at: usize) -> Step
     ensures { result ≡ step_of draft.now at }
 {
     if at >= draft.len() {
         return Step::Nothing;
     }
-    let scanner = Scanner { classes, draft, at };
+    let class = classes.of(draft[at]);
+    let scanner = Scanner {
+        classes,
+        draft,
+        at,
+        class,
+    };
     let Some(found) = scanner.lexeme() else {
         return scanner.rare();
     };
@@ -295,6 +282,7 @@ pub(crate) fn step_with(classes: &Classes, draft: &[u8], at: usize) -> Step
 }
 
 // The lexing step: what stands at a place of the draft.
+#[tactic(auto, using(crate::proofs::StepNumbers::step_numbers))]
 pub fn step(draft: &[u8], at: usize) -> Step
     ensures answer { result ≡ step_of draft.now at }
     ensures numbers { numbers result ≡ numbers_at draft.now at }

@@ -2,9 +2,10 @@
 ghost use Rattle.std.specs.Prelude.{◌≡◌, ◌+◌, ◌≤◌, ◌<◌, length, get_or, drop};
 ghost use Rattle.lexer.specs.Lexemes.{closing};
 ghost use Rattle.lexer.specs.Step.{lexeme_at};
-ghost use Rattle.lexer.specs.Trivia.{plain_beside, edge_of, broken_of};
+ghost use Rattle.lexer.specs.Trivia.{CommentAt, WalkEnds, plain_beside, edge_of, broken_of};
 
 use crate::Step;
+use crate::scan::Scanner;
 use text::peek;
 use text::refusal::{Refusal, Refused};
 
@@ -17,7 +18,8 @@ pub(crate) enum Edge {
 }
 
 // Whether a byte in a comment is a sequence of its own and none of the two that mean something there: CR and LF in a line comment, `/` and `*` in a block.
-// Almost every byte is past both, and each loop asks this first.
+// Almost every byte is past both, and each loop asks this first: by `&&` of the three comparisons a block comment of one letter took 31 percent more
+// instructions, a line comment 21 and stars 9; only Greek letters took 13 less.
 fn plain<const LARGER: u8, const SMALLER: u8>(b: u8) -> bool
     requires { (SMALLER < LARGER) × (LARGER ≤ 127) }
     ensures { result ≡ plain_beside LARGER SMALLER b }
@@ -31,153 +33,145 @@ fn plain<const LARGER: u8, const SMALLER: u8>(b: u8) -> bool
     b != SMALLER
 }
 
-// The line comment at i: it runs to before CR, LF or the end. The loops over comments step by sequences and marks of one to four bytes, so they count the
-// place themselves. Inlined, this one's refusal was made ready at every sequence.
-// That a `/` stands at i is a clause here and at its like: a struct would hold s, i and that alone.
-#[inline(never)]
-fn line(s: &[u8], i: usize) -> Step
-    requires { (i + 1 < length s.now) × (get_or s.now i 0 ≡ 47) × (get_or s.now (i + 1) 0 ≡ 47) }
-    ensures { result ≡ lexeme_at s.now i }
-{
-    let mut j = i + 2;
-    while j < s.len() {
-        let b = s[j];
-        if plain::<b'\r', b'\n'>(b) {
-            j += 1;
-            continue;
-        }
-        if b <= utf8::LAST_ASCII {
-            return Step::Trivia { end: j };
-        }
-        let Some(n) = utf8::sequence(s, j) else {
-            return Step::Refused(Refused {
-                refusal: Refusal::NotUtf8,
-                place: j,
-            });
-        };
-        j += n;
-    }
-    Step::Trivia { end: j }
-}
-
-// What the two bytes at j do.
+// What the two bytes at j do. The second is read behind a first that may begin a mark: a `match` over both reads two at each byte, and a comment of stars
+// took 26 percent more instructions.
 fn edge_at(s: &[u8], j: usize) -> Edge
     requires { j + 1 < length s.now }
     ensures { result ≡ edge_of (get_or s.now j 0) (get_or s.now (j + 1) 0) }
 {
-    let b = s[j];
-    if b == b'/' {
-        if s[j + 1] == b'*' {
-            return Edge::Opens;
-        }
-        return Edge::Neither;
+    match s[j] {
+        b'/' if s[j + 1] == b'*' => Edge::Opens,
+        b'*' if s[j + 1] == b'/' => Edge::Closes,
+        _ => Edge::Neither,
     }
-    if b != b'*' {
-        return Edge::Neither;
-    }
-    if s[j + 1] == b'/' {
-        return Edge::Closes;
-    }
-    Edge::Neither
 }
 
-// The block comment at i with a bad sequence at k, where so many comments are open within it: refused there if it is closed, else at its opening. The
-// last byte alone closes nothing. Inlined, its refusal was made ready at every byte: a comment of stars took 9 percent more instructions.
-// It walks as `block` does, but by single bytes: behind a bad sequence there are none to step by, and one walk would ask at each byte which it is.
+// How a walk over a block comment ends: behind what closes it, unclosed, or at a bad sequence with so many comments open within it.
+#[derive(Drop)]
+pub(crate) enum Walked {
+    Closed { end: usize },
+    Unclosed,
+    Bad { place: usize, depth: usize },
+}
+
+// For `SEQUENCES`: a walk that looks for bad sequences, and one behind the first of them.
+const BY_SEQUENCES: bool = true;
+
+const BY_BYTES: bool = false;
+
+// A walk over a block comment from a place on, with so many comments open within it, by sequences or by single bytes. The last byte of the draft alone closes
+// nothing, so the loop leaves it out and always has two bytes. Here `sequence`, inlined too, would look again at what is known of the byte: Greek letters
+// took 9 percent more instructions, Polish text 5. So `utf8::wide` is public, though it asks for a byte over 127.
+fn walk<const SEQUENCES: bool>(s: &[u8], from: usize, inner: usize) -> Walked
+    requires { (0 < length s.now) × (from ≤ length s.now) × (inner ≤ from) }
+    ensures { WalkEnds SEQUENCES s.now from inner result }
+{
+    let last = s.len() - 1;
+    let mut j = from;
+    let mut depth = inner;
+    while j < last {
+        if SEQUENCES {
+            let b = s[j];
+            if plain::<b'/', b'*'>(b) {
+                j += 1;
+                continue;
+            }
+            if b > utf8::LAST_ASCII {
+                let Some(n) = utf8::wide(s, j, b) else {
+                    return Walked::Bad { place: j, depth };
+                };
+                j += n;
+                continue;
+            }
+        }
+        match edge_at(s, j) {
+            Edge::Opens => {
+                depth += 1;
+                j += 2;
+            }
+            Edge::Closes => {
+                if depth == 0 {
+                    return Walked::Closed { end: j + 2 };
+                }
+                depth -= 1;
+                j += 2;
+            }
+            Edge::Neither => {
+                j += 1;
+            }
+        }
+    }
+    Walked::Unclosed
+}
+
+// The block comment at i with a bad sequence at k, where so many comments are open within it: refused there if it is closed, else at its opening.
+// Inlined, its refusal was made ready at every byte: a comment of stars took 9 percent more instructions.
 #[inline(never)]
 fn broken(s: &[u8], i: usize, k: usize, inner: usize) -> Step
     requires { (k < length s.now) × (inner ≤ k) }
     ensures { result ≡ broken_of (closing (drop k s.now) inner 0) i k }
 {
-    let last = s.len() - 1;
-    let mut j = k;
-    let mut depth = inner;
-    while j < last {
-        match edge_at(s, j) {
-            Edge::Opens => {
-                depth += 1;
-                j += 2;
-            }
-            Edge::Closes => {
-                if depth == 0 {
-                    return Step::Refused(Refused {
-                        refusal: Refusal::NotUtf8,
-                        place: k,
-                    });
-                }
-                depth -= 1;
-                j += 2;
-            }
-            Edge::Neither => {
-                j += 1;
-            }
-        }
-    }
-    Step::Refused(Refused {
-        refusal: Refusal::Unclosed,
-        place: i,
-    })
+    let (refusal, place) = match walk::<BY_BYTES>(s, k, inner) {
+        Walked::Closed { .. } => (Refusal::NotUtf8, k),
+        _ => (Refusal::Unclosed, i),
+    };
+    Step::Refused(Refused { refusal, place })
 }
 
-// The block comment at i. The last byte of the draft alone closes nothing, so the loop leaves it out and always has two bytes. Here `sequence` would look
-// again at what is known of the byte: Greek letters took 9 percent more instructions.
-fn block(s: &[u8], i: usize) -> Step
-    requires { (i + 1 < length s.now) × (get_or s.now i 0 ≡ 47) × (get_or s.now (i + 1) 0 ≡ 42) }
-    ensures { result ≡ lexeme_at s.now i }
-{
-    let last = s.len() - 1;
-    let mut j = i + 2;
-    let mut depth: usize = 0;
-    while j < last {
-        let b = s[j];
-        if plain::<b'/', b'*'>(b) {
-            j += 1;
-            continue;
-        }
-        if b > utf8::LAST_ASCII {
-            let Some(n) = utf8::wide(s, j, b) else {
-                return broken(s, i, j, depth);
+impl Scanner<'_> {
+    // The line comment here: it runs to before CR, LF or the end. The loops over comments step by sequences and marks of one to four bytes, so they count the
+    // place themselves. Inlined, this one's refusal was made ready at every sequence.
+    #[inline(never)]
+    fn line(self) -> Step
+        requires { CommentAt self.draft.now self.at 47 }
+        ensures { result ≡ lexeme_at self.entry.draft.now self.entry.at }
+    {
+        let s = self.draft;
+        let mut j = self.at + 2;
+        while j < s.len() {
+            let b = s[j];
+            if plain::<b'\r', b'\n'>(b) {
+                j += 1;
+                continue;
+            }
+            if b <= utf8::LAST_ASCII {
+                return Step::Trivia { end: j };
+            }
+            let Some(n) = utf8::sequence(s, j) else {
+                return Step::Refused(Refused {
+                    refusal: Refusal::NotUtf8,
+                    place: j,
+                });
             };
             j += n;
-            continue;
         }
-        match edge_at(s, j) {
-            Edge::Opens => {
-                depth += 1;
-                j += 2;
-            }
-            Edge::Closes => {
-                if depth == 0 {
-                    return Step::Trivia { end: j + 2 };
-                }
-                depth -= 1;
-                j += 2;
-            }
-            Edge::Neither => {
-                j += 1;
-            }
-        }
+        Step::Trivia { end: j }
     }
-    Step::Refused(Refused {
-        refusal: Refusal::Unclosed,
-        place: i,
-    })
-}
 
-// What stands at a `/`.
-pub(crate) fn slash(s: &[u8], i: usize) -> Step
-    requires { (i < length s.now) × (get_or s.now i 0 ≡ 47) }
-    ensures { result ≡ lexeme_at s.now i }
-{
-    let b = peek(s, i + 1);
-    if b == b'/' {
-        return line(s, i);
+    // The block comment here.
+    fn block(self) -> Step
+        requires { CommentAt self.draft.now self.at 42 }
+        ensures { result ≡ lexeme_at self.entry.draft.now self.entry.at }
+    {
+        match walk::<BY_SEQUENCES>(self.draft, self.at + 2, 0) {
+            Walked::Closed { end } => Step::Trivia { end },
+            Walked::Unclosed => self.refused(Refusal::Unclosed),
+            Walked::Bad { place, depth } => broken(self.draft, self.at, place, depth),
+        }
     }
-    if b == b'*' {
-        return block(s, i);
+
+    // What stands at a `/`.
+    pub(crate) fn slash(self) -> Step
+        requires { get_or self.draft.now self.at 0 ≡ 47 }
+        ensures { result ≡ lexeme_at self.entry.draft.now self.entry.at }
+    {
+        let b = peek(self.draft, self.at + 1);
+        if b == b'/' {
+            return self.line();
+        }
+        if b == b'*' {
+            return self.block();
+        }
+        self.refused(Refusal::NoLexeme)
     }
-    Step::Refused(Refused {
-        refusal: Refusal::NoLexeme,
-        place: i,
-    })
 }

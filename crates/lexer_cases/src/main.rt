@@ -2,7 +2,7 @@
 #![tactic(auto)]
 
 use anyhow::Result;
-use cases::{is_zero, zeros};
+use cases::{UNWRITTEN, front, is_zero, zeros};
 use drafts::Case;
 use std::alloc::Global;
 use std::io;
@@ -14,16 +14,11 @@ mod drafts;
 // The tokens are shown where there are no more.
 const MOST_SHOWN: usize = 24;
 
-// What a word holds before, so that one that is not written shows.
-const UNWRITTEN: u32 = 7;
-
 // A token as kind:start-end, with its class behind the kind if the rules tell it apart.
 fn write_token(
     out: &mut impl Write,
     draft: &[u8],
-    kind: u32,
-    start: u32,
-    end: u32,
+    [kind, start, end]: [u32; TOKEN_WORDS],
 ) -> io::Result<()> {
     write!(out, " {kind}")?;
     let class = lexer::class(draft, kind, start as usize, end as usize);
@@ -33,34 +28,29 @@ fn write_token(
     write!(out, ":{start}-{end}")
 }
 
-fn write_tokens(out: &mut impl Write, draft: &[u8], words: &[u32]) -> io::Result<()> {
-    let (tokens, _) = words.as_chunks::<TOKEN_WORDS>();
-    for [kind, start, end] in tokens {
-        write_token(out, draft, *kind, *start, *end)?;
+// The tokens if they are few, and whether the words behind them are 0; a number that the buffer cannot hold is wrong at once.
+fn write_tokens(out: &mut impl Write, draft: &[u8], words: &[u32], count: usize) -> io::Result<()> {
+    let Some((tokens, behind)) = front::<TOKEN_WORDS>(words, count) else {
+        return writeln!(out, " {}", zeros(false));
+    };
+    if count <= MOST_SHOWN {
+        for token in tokens {
+            write_token(out, draft, *token)?;
+        }
     }
-    Ok(())
+    writeln!(out, " {}", zeros(is_zero(behind)))
 }
 
-// The answer, the tokens if they are few, as far as the buffer has them, and whether the words behind them are 0.
-fn write_case(out: &mut impl Write, alloc: Global, case: &Case) -> Result<()> {
-    let mut words = vec![in alloc; UNWRITTEN; case.words]?;
+// The answer, and what is found of it.
+fn write_case(out: &mut impl Write, alloc: Global, case: &Case) -> io::Result<()> {
+    let mut words = vec![in alloc; UNWRITTEN.into(); case.words]?;
     match lexer::lex(&case.draft, &mut words) {
         Ok(count) => {
             write!(out, ": tokens {count}")?;
-            let end = count.saturating_mul(TOKEN_WORDS).min(words.len());
-            let (tokens, behind) = words.split_at(end);
-            if count <= MOST_SHOWN {
-                write_tokens(out, &case.draft, tokens)?;
-            }
-            writeln!(out, " {}", zeros(is_zero(behind)))?;
+            write_tokens(out, &case.draft, &words, count)
         }
-        Err(refused) => {
-            let all = zeros(is_zero(&words));
-            let refusal = refused.refusal;
-            writeln!(out, ": refused {refusal} at {} {all}", refused.place)?;
-        }
+        Err(refused) => writeln!(out, ": refused {refused} {}", zeros(is_zero(&words))),
     }
-    Ok(())
 }
 
 fn main(rt: HostRuntime) -> Result<()> {

@@ -12,10 +12,7 @@ const TIMES: u32 = 1000;
 fn write_answer(out: &mut impl Write, answer: Result<usize, Refused>) -> io::Result<()> {
     match answer {
         Ok(count) => writeln!(out, "{count} tokens"),
-        Err(refused) => {
-            let number = u32::from(refused.refusal);
-            writeln!(out, "{number} at {}", refused.place)
-        }
+        Err(refused) => writeln!(out, "{refused}"),
     }
 }
 

@@ -12,26 +12,32 @@ use Rattle.std.proofs.Math.Nat.{div-one, div-div-eq-div-mul}
 use Rattle.std.proofs.lemmas.List.{replicate_more}
 use Rattle.text.specs.Ascii.{ascii, ascii_from}
 use Rattle.text.proofs.Sets.{sets-append, sets-sets}
-use Rattle.text.proofs.Table.{table_at}
+use Rattle.text.proofs.Table.{at, is_true}
+use Rattle.text.specs.Same.{same}
+use Rattle.text.proofs.SameLaws.{same_true}
 use Rattle.lines.specs.Hex.{upper_hex, hex, power}
 use Rattle.lines.proofs.Hex.{hex-length, last_digits, power-more}
 use Rattle.lines.specs.declared.pairs.TheConstants.{PAIRS}
 
--- The table's rule, computed over all of its entries: two to a number, its two digits.
-pairs-held : (k : ℕ) → k < 2 * power 2 → get_or PAIRS k 0 ≡ get_or (hex 2 (k / 2)) (k % 2) 0
-unfolding hex upper_hex ascii ascii_from
-pairs-held = table_at (λ k. get_or (hex 2 (k / 2)) (k % 2) 0) PAIRS (2 * power 2) refl tt
+-- The rows of the table are the digits of their numbers, computed over all of them.
+rows-held : (k : ℕ) → k < power 2 → get_or PAIRS k [] ≡ hex 2 k
+unfolding hex upper_hex ascii ascii_from same
+rows-held k h = same_true (get_or PAIRS k []) (hex 2 k) (is_true (same (get_or PAIRS k []) (hex 2 k)) (at (λ i row. same row (hex 2 i)) PAIRS [] tt k (omega (arith, h))))
 
-module _ (v : ℕ) where
-  -- The entries of a number's last two digits, written one behind the other.
-  pub pair-written : (l : List ℕ) (at : ℕ) → set (set l at (get_or PAIRS (2 * (v % power 2)) 0)) (at + 1) (get_or PAIRS (2 * (v % power 2) + 1) 0) ≡ sets l at (hex 2 v)
-  unfolding hex
-  pair-written l at =
-      let b = v % power 2 in
-      let digit = λ (k q r : ℕ) (h : k < 2 * power 2) (eq : k / 2 ≡ q) (er : k % 2 ≡ r). pairs-held k h ∙ (λ i. get_or (hex 2 (eq i)) (er i) 0) in
-      let high : get_or PAIRS (2 * b) 0 ≡ get_or (hex 2 b) 0 0 = digit (2 * b) b 0 (omega arith) (omega arith) (omega arith) in
-      let low : get_or PAIRS (2 * b + 1) 0 ≡ get_or (hex 2 b) 1 0 = digit (2 * b + 1) b 1 (omega arith) (omega arith) (omega arith) in
-      (λ i. set (set l at (high i)) (add-one at i) (low i)) ∙ ap (sets l at) (last_digits 2 v)
+-- A run of bytes in the place of as many.
+pub written : (at k : ℕ) (o : List ℕ) {ys vs : List ℕ} → ys ≡ vs → k ≡ length vs → at + k ≤ length o → put_mid at k o ys ≡ sets o at vs
+written at k o {ys} {vs} e n h =
+    ap (put_mid at k o) e
+    ∙ ap (λ (m : List ℕ). take at o ++ (vs ++ m)) (drop-drop k at o ∙ ap (λ (j : ℕ). drop (at + j) o) n)
+    ∙ sym (append_assoc (take at o) vs (drop (at + length vs) o))
+    ∙ sym (sets-eq vs o at (omega arith))
+
+-- The two bytes of a number's row are its last two digits.
+pub pair-written : (v : ℕ) (o : List ℕ) (at : ℕ) → let row = get_or PAIRS (v % power 2) [] in set (set o at (get_or row 0 0)) (at + 1) (get_or row 1 0) ≡ sets o at (hex 2 v)
+unfolding hex
+pair-written v o at =
+    let b = v % power 2 in
+    (λ i. set (set o at (get_or (rows-held b (omega arith) i) 0 0)) (add-one at i) (get_or (rows-held b (omega arith) i) 1 0)) ∙ ap (sets o at) (last_digits 2 v)
 
 -- The digits of a number are the two above the last n, and those.
 two-above : (n v : ℕ) → hex (suc (suc n)) v ≡ hex 2 (v / power n) ++ hex n v
@@ -86,12 +92,7 @@ zeros (suc n) = ap (λ (l : List ℕ). l ++ (48 ∷ [])) (zeros n) ∙ replicate
 
 pub zeros-written : (n : ℕ) (o : List ℕ) (at : ℕ) {v k : ℕ} {ys : List ℕ} → v ≡ 0 → k ≡ n → at + n ≤ length o → ys ≡ replicate (length (mid_of at k o)) 48
     → put_mid at k o ys ≡ sets o at (hex n v)
-zeros-written n o at {v} {k} {ys} z e h y =
+zeros-written n o at {v} {k} z e h y =
     let d = length-drop at o in
     let m : length (mid_of at k o) ≡ n = length-take-le k (drop at o) (omega arith) ∙ e in
-    let f : ys ≡ hex n v = y ∙ ap (λ (j : ℕ). replicate j 48) m ∙ sym (zeros n) ∙ ap (hex n) (sym z) in
-    let w : length (hex n v) ≡ k = hex-length n v ∙ sym e in
-    ap (λ (l : List ℕ). put_mid at k o l) f
-    ∙ ap (λ (l : List ℕ). take at o ++ (hex n v ++ l)) (drop-drop k at o ∙ ap (λ (j : ℕ). drop (at + j) o) (sym w))
-    ∙ sym (append_assoc (take at o) (hex n v) (drop (at + length (hex n v)) o))
-    ∙ sym (sets-eq (hex n v) o at (omega (arith, h, w, e)))
+    written at k o (y ∙ ap (λ (j : ℕ). replicate j 48) m ∙ sym (zeros n) ∙ ap (hex n) (sym z)) (e ∙ sym (hex-length n v)) (omega arith)

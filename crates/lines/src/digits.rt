@@ -9,20 +9,19 @@ use crate::pairs::{PAIR, PAIR_VALUES, PAIRS};
 // How many numbers a pair of digits tells apart.
 const BASE: u32 = PAIR_VALUES as u32;
 
-// Writes the last two digits of v.
+// Writes the last two digits of v. Two stores, since `copy_from_slice` of a row is a call for two bytes: a line took 126 instructions so, and 55 by stores.
 #[inline(always)]
 fn pair(out: &mut [u8], at: usize, v: u32)
     requires { at + 2 ≤ length out.old }
     ensures { out.new ≡ sets out.old at (hex 2 v) }
 {
-    let k = PAIR * (v % BASE) as usize;
-    let (high, low) = (PAIRS[k], PAIRS[k + 1]);
+    let [high, low] = PAIRS[(v % BASE) as usize];
     out[at] = high;
     out[at + 1] = low;
 }
 
 // Writes the last N digits of v, an even number of them, from the last pair to the first. Most halves of a 64-bit number are 0, and zeros are one store.
-// The last pair is worked out first, so each place counts from the end. By a table, since by single digits a line took 172 instructions, and takes 53.
+// The last pair is worked out first, so each place counts from the end. By a table, since by single digits a line took 172 instructions, and takes 55.
 #[inline(always)]
 pub(crate) fn digits<const N: usize>(out: &mut [u8], at: usize, v: u32)
     requires even { 2 * (N / 2) ≡ N }

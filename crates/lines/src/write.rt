@@ -33,7 +33,7 @@ fn field<const N: usize>(out: &mut [u8], at: usize, v: u32, after: u8) -> usize
 
 // Writes the line of a record, and returns where it ends. Each field has a call of its own, so that its width is known where it is compiled; the
 // variables say where the fields begin.
-// By single digits and a loop over the widths a line took 172 instructions, and takes 53.
+// By single digits and a loop over the widths a line took 172 instructions, and takes 55.
 #[inline(always)]
 fn line(out: &mut [u8], at: usize, words: &[u32; RECORD_WORDS]) -> usize
     requires { at + line_bytes ≤ length out.old }

@@ -8,8 +8,8 @@ ghost use Rattle.listing.specs.Within.{Within};
 
 use lexer::DRAFT_BYTES;
 use reader::entry::LISTING_BYTES;
-use std::io;
 use std::io::{ErrorKind, Read, Write};
+use std::{fmt, io};
 
 // The system's text for an error, without the number that std puts behind it.
 fn without_number(text: &str) -> &str {
@@ -17,14 +17,38 @@ fn without_number(text: &str) -> &str {
         .map_or(text, |(before, _)| before)
 }
 
-// Writes a line to standard error: what failed, a colon and the system's text for the error.
-fn fail(rt: &HostRuntime, what: &str, error: io::Error) {
-    let Ok(text) = format!(in rt.alloc(); "{error}") else {
-        let _ = eprintln!(rt; "listing: {what}: ");
-        return;
+// The step that failed, with the error of its call.
+#[derive(Debug, Drop)]
+enum Failed {
+    Read(io::Error),
+    Write(io::Error),
+}
+
+impl fmt::Display for Failed {
+    fn fmt<W: fmt::Write>(&self, f: &mut fmt::Formatter<W>) -> fmt::Result {
+        f.write_str(match self {
+            Failed::Read(_) => "read",
+            Failed::Write(_) => "write",
+        })
+    }
+}
+
+impl Failed {
+    fn error(&self) -> &io::Error {
+        match self {
+            Failed::Read(error) | Failed::Write(error) => error,
+        }
+    }
+}
+
+// Writes a line to standard error: what failed, a colon and the system's text for the error, if there is memory for it.
+fn report(rt: &HostRuntime, failed: &Failed) {
+    let text = format!(in rt.alloc(); "{}", failed.error());
+    let said = match &text {
+        Ok(text) => without_number(text.as_str()),
+        Err(_) => "",
     };
-    let said = without_number(text.as_str());
-    let _ = eprintln!(rt; "listing: {what}: {said}");
+    let _ = eprintln!(rt; "listing: {failed}: {said}");
 }
 
 // Reads until the buffer is full or the input ends; the answer is how many bytes came in.
@@ -53,15 +77,13 @@ fn drain(input: &mut impl Read, buf: &mut [u8]) -> io::Result<()> {
 }
 
 // Reads the whole input, as far as the buffer keeps it.
-fn read_draft(rt: &HostRuntime, buf: &mut [u8]) -> io::Result<usize>
-    ensures { Within result (length buf.old) }
-{
+fn read_draft<'a>(rt: &HostRuntime, buf: &'a mut [u8]) -> io::Result<&'a [u8]> {
     let mut input = rt.stdin();
     let bytes = fill(&mut input, buf)?;
     if bytes == buf.len() {
         drain(&mut input, buf)?;
     }
-    Ok(bytes)
+    Ok(&buf[..bytes])
 }
 
 // Writes bytes, and stops at the first write that takes none or fails.
@@ -76,7 +98,7 @@ fn put(out: &mut impl Write, bytes: &[u8]) -> io::Result<()> {
     Ok(())
 }
 
-// Writes the lines of a draft. Its buffer, as that of `main`, has the size that is enough for every draft: memory that is asked for might not be there.
+// Writes the lines of a draft. Its buffer, as that of `run`, has the size that is enough for every draft: memory that is asked for might not be there.
 fn list(rt: &HostRuntime, draft: &[u8]) -> io::Result<()> {
     let mut lines = [0; LISTING_BYTES];
     let used = reader::entry::list_draft(draft, &mut lines);
@@ -84,14 +106,14 @@ fn list(rt: &HostRuntime, draft: &[u8]) -> io::Result<()> {
 }
 
 // One byte more than a draft may have is kept: more need not be, since the length alone refuses it.
+fn run(rt: &HostRuntime) -> Result<(), Failed> {
+    let mut buf = [0; DRAFT_BYTES + 1];
+    let draft = read_draft(rt, &mut buf).map_err(Failed::Read)?;
+    list(rt, draft).map_err(Failed::Write)
+}
+
 fn main(rt: HostRuntime) {
-    let mut draft = [0; DRAFT_BYTES + 1];
-    match read_draft(&rt, &mut draft) {
-        Ok(bytes) => {
-            if let Err(error) = list(&rt, &draft[..bytes]) {
-                fail(&rt, "write", error);
-            }
-        }
-        Err(error) => fail(&rt, "read", error),
+    if let Err(failed) = run(&rt) {
+        report(&rt, &failed);
     }
 }

@@ -5,6 +5,7 @@ use Rattle.std.proofs.Common.{true≢false, length-take-le, drop_of_length-le, s
 use borrow.Author.Tests.{eq-eqb, lt-ltb, le-ltb}
 use native.Mathlib.Decide.{dec_lt}
 use Rattle.std.specs.Iterator.{AlwaysYields}
+use Rattle.std.proofs.lemmas.Iterator.{YieldsList}
 use Rattle.std.specs.Slice.Iter.{chunks_steps, chunks_rest, chunks_size}
 use Rattle.std.specs.List.{position_or_len}
 use Rattle.text.proofs.Table.{is_true, is_false}
@@ -63,6 +64,12 @@ chunks-yield (suc f) s n h = go (eqb (length (chunks_rest s)) 0) refl (chunks-yi
           let small = rest-less (chunks_size s) f (chunks_rest s) x.now (chunks_rest t) n p.1.2 h p.1.0 p.1.1 in
           (q.0, subst (AlwaysYields chunks_steps (λ y. y.now) t) (λ i. chunks_of (p.0 i) f (q.1 i)) (r t (omega (arith, p.0)) small)),
     )
+
+-- The chunks of a text are what the iterator of the library yields.
+pub chunks-listed : (step : ℕ) (text : List ℕ) (s : _) → 0 < step → chunks_size {T = ℕ} s ≡ step → chunks_rest s ≡ text
+    → YieldsList chunks_steps (λ y. y.now) s (chunks_of step (length text) text)
+chunks-listed step text s n e r =
+    record { runs = subst (AlwaysYields chunks_steps (λ y. y.now) s) (λ i. chunks_of (e i) (length text) (r i)) (chunks-yield (length text) s (omega arith) (omega (arith, ap length r))) }
 
 -- A chunk is bad that is too short, or is no line of the form.
 abbrev pub is_bad : List ℕ → ℕ → List ℕ → Bool

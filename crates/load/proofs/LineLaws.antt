@@ -82,6 +82,11 @@ module _ (at n : ℕ) (text : List ℕ) (h : at + n ≤ length text) where
   pub digits-part : list_all is_digit bytes_at ≡ are_digits n (drop at text)
   digits-part = ap (λ (m : ℕ). list_all is_digit (take m (drop at text))) as-long ∙ digits-front n (drop at text) (omega (arith, length-drop at text))
 
+-- Of a text that goes on behind p something is left there.
+module _ (text : List ℕ) (p : ℕ) (h : p < length text) where
+  pub some_left : 0 < length (drop p text)
+  some_left = omega (arith, length-drop p text)
+
 -- What the loop of `in_form` keeps: what is left of the line, from p on, decides.
 pub record Forming (text : List ℕ) (ws : List ℕ) (p k : ℕ) : Type 0 where
   pub within : k ≤ length ws

@@ -1,11 +1,10 @@
 -- The answer to a listing, test by test, and the words of the buffer.
 -- Assumes nothing.
 use Rattle.std.specs.Prelude.{Bool, Result, Ok, Err, Some, None, true, false, ◌&&◌, cond, List, ◌++◌, map, ◌≡◌, refl, ℕ, zero, suc, ◌-◌, ◌*◌, ◌/◌, ◌<◌, ◌≤◌, ltb, length, replicate, take, drop}
+use Rattle.std.specs.Result.{result_unwrap_or}
 use Rattle.std.proofs.Common.{sym, ap, ◌∙◌, subst, arith, take_at}
 use borrow.Author.Tests.{lt-ltb, le-ltb, ltb-false}
-use borrow.Rule.Slice.PartMut.{put_mid, mid_of}
-use Rattle.text.specs.Answers.{Answer, accepted, refused, values}
-use Rattle.text.proofs.ClearLaws.{cleared}
+use Rattle.text.specs.Answers.{Answer, accepted, refused}
 use Rattle.text.specs.Refusals as refusal
 use Rattle.text.specs.Widths.{rec_wide}
 use Rattle.own.specs.Tree.{Rec}
@@ -17,7 +16,7 @@ use Rattle.lines.specs.Form.{wide}
 use Rattle.load.specs.Form.{Form, older, widths_of, form_of}
 use Rattle.load.specs.FunctionTest.{is_whole}
 use Rattle.load.specs.Load.{ways_right, is_right, load_as, load_of, records_of, contents, words_of}
-use Rattle.load.specs.Meant.{meant, returned, not_loaded}
+use Rattle.load.specs.Meant.{meant, not_loaded}
 use Rattle.load.proofs.Laws.{promised}
 use Rattle.load.specs.Promised.{Loads}
 use Rattle.load.specs.declared.NotLoaded.{NotLoaded}
@@ -74,13 +73,9 @@ module _ (f : Form) (text : List ℕ) (room : ℕ) where
       pub load-records : n ≤ room / rec_wide → accepted 0 n ≡ load_as f text room
       load-records h = ap (accepted 0) long ∙ left yes (le-ltb room (rec_wide * length (lines_read (widths_of f) text)) (omega (arith, long, h)))
 
--- What is promised of the answer and the words.
-abbrev pub Handed : List ℕ → ℕ → Result ℕ NotLoaded → List ℕ → Type 0
-Handed text room x w = (meant x ≡ load_of text room) × ((returned x ≡ values (load_of text room)) × ((w ≡ words_of text room) × Loads text room (meant x) w))
-
-all-four : (text : List ℕ) (room : ℕ) (x : Result ℕ NotLoaded) {w : List ℕ} → meant x ≡ load_of text room → w ≡ words_of text room → Handed text room x w
-all-four text room x {w} e f =
-    (e, (ap values e, (f, subst (λ (a : Answer). Loads text room a w) (sym e) (subst (Loads text room (load_of text room)) (sym f) (promised text room)))))
+-- What is promised of the answer and the words, of those that are handed over.
+pub handed : (text : List ℕ) (room : ℕ) {a : Answer} {w : List ℕ} → a ≡ load_of text room → w ≡ words_of text room → Loads text room a w
+handed text room {w = w} e f = subst (λ (a : Answer). Loads text room a w) (sym e) (subst (Loads text room (load_of text room)) (sym f) (promised text room))
 
 -- The answer in the form of the listing.
 pub as-formed : (text : List ℕ) (room : ℕ) {f : Form} → f ≡ form_of text → {a : Answer} → a ≡ load_as f text room → a ≡ load_of text room
@@ -91,10 +86,6 @@ zeroed : (r : NotLoaded) (rs : List Rec) (room : ℕ) → replicate room 0 ≡ c
 zeroed (BadLine l) rs room = refl
 zeroed NotWhole rs room = refl
 zeroed NoRoom rs room = refl
-
-pub handed-refused : (text : List ℕ) (room : ℕ) {x : Result ℕ NotLoaded} {r : NotLoaded} {w : List ℕ} → meant x ≡ load_of text room → x ≡ Err r → w ≡ replicate room 0 → Handed text room x w
-unfolding words_of
-handed-refused text room {x = x} {r} e i z = all-four text room x e (z ∙ zeroed r (records_of text) room ∙ ap (λ (a : Answer). contents a (records_of text) room) (ap meant (sym i) ∙ e))
 
 -- as many records as there are lines, which fit
 loaded-is : (text : List ℕ) (room n : ℕ) → accepted 0 n ≡ load_of text room → (n ≡ length text / wide (widths_of (form_of text))) × (rec_wide * n ≤ room)
@@ -118,35 +109,38 @@ loaded-is text room n e = go (ltb 0 bad) (is_right (form_of text) vs) (ltb room 
         let h = ltb-false room (rec_wide * length vs) q in
         (k ∙ lines-long (widths_of (form_of text)) text, omega arith)
 
--- the lines that are read are those of the listing
-pub lines-held : (f : Form) (text : List ℕ) (room n : ℕ) → f ≡ form_of text → accepted 0 n ≡ load_of text room → n ≤ length (lines_read (widths_of f) text)
-lines-held f text room n e q =
+-- As many records as are handed over have their lines in the listing: those that are loaded, or none on a refusal.
+pub lines-held : (f : Form) (text : List ℕ) (room : ℕ) (x : Result ℕ NotLoaded) → f ≡ form_of text → meant x ≡ load_of text room
+    → result_unwrap_or x 0 ≤ length (lines_read (widths_of f) text)
+lines-held f text room (Ok n) e q =
     let k = (loaded-is text room n q).0 in
     let w = lines-long (widths_of f) text ∙ ap (λ (g : Form). length text / wide (widths_of g)) e in
     omega (arith, k, w)
+lines-held f text room (Err r) e q = omega arith
 
--- The words of the records fit.
-pub loaded-fits : (text : List ℕ) (room : ℕ) {n : ℕ} → accepted 0 n ≡ load_of text room → rec_wide * n ≤ room
-loaded-fits text room {n} e = (loaded-is text room n e).1
+-- Their words fit.
+pub loaded-fits : (text : List ℕ) (room : ℕ) (x : Result ℕ NotLoaded) → meant x ≡ load_of text room → rec_wide * result_unwrap_or x 0 ≤ room
+loaded-fits text room (Ok n) e = (loaded-is text room n e).1
+loaded-fits text room (Err r) e = omega arith
 
-pub still-fits : {a m n : ℕ} → m ≡ n → a ≤ n → a ≤ m
-still-fits e h = omega arith
-
--- the words of the records, each with its way up, and zeros behind them
-pub handed-records : (f : Form) (text o l u : List ℕ) (n : ℕ) {ys : List ℕ} → f ≡ form_of text → accepted 0 n ≡ load_of text (length o)
-    → recs n l ≡ map rec_of (rows_from (widths_of f) n text) → length l ≡ length o → u ≡ upward n l → length u ≡ length o
-    → ys ≡ replicate (length (mid_of (rec_wide * n) (length u - rec_wide * n) u)) 0 → Handed text (length o) (Ok n) (put_mid (rec_wide * n) (length u - rec_wide * n) u ys)
-unfolding words_of lines_read
-handed-records f text o l u n {ys} e a are ll up lu z =
-    let (k, fit) = loaded-is text (length o) n a in
-    let rs = records_of text in
-    let held : recs n l ≡ rs = are ∙ (λ i. map rec_of (rows_from (ap widths_of e i) (k i) text)) in
-    let many : length rs ≡ n = ap length (sym held) ∙ recs-length n l in
-    let words : u ≡ up_words rs ++ drop (rec_wide * n) l = up ∙ upward-held n l (omega (arith, ll, fit)) ∙ ap (λ (x : List Rec). up_words x ++ drop (rec_wide * n) l) held in
-    let long : length (up_words rs) ≡ rec_wide * n = up-words-long rs ∙ ap (λ (m : ℕ). rec_wide * m) many in
-    let rest : length u - rec_wide * n ≡ length o - rec_wide * length rs = omega (arith, lu, many) in
-    all-four text (length o) (Ok n) a
-    (cleared (rec_wide * n) u ys (omega (arith, lu, fit)) z
-    ∙ (λ i. take (rec_wide * n) (words i) ++ replicate (rest i) 0)
-    ∙ ap (λ (y : List ℕ). y ++ replicate (length o - rec_wide * length rs) 0) (take_at (up_words rs) (drop (rec_wide * n) l) (rec_wide * n) long)
-    ∙ ap (λ (b : Answer). contents b rs (length o)) a)
+-- The words when all behind those of n records is cleared: those of the records, each with its way up, or zeros alone on a refusal.
+module _ (text o l : List ℕ) {t w : List ℕ} (f : Form) (g : f ≡ form_of text) (ll : length l ≡ length o) (lt : length t ≡ length o) where
+  pub words-handed : (x : Result ℕ NotLoaded) {n : ℕ} → meant x ≡ load_of text (length o) → n ≡ result_unwrap_or x 0 → recs n l ≡ map rec_of (rows_from (widths_of f) n text)
+      → t ≡ upward n l → w ≡ take (rec_wide * n) t ++ replicate (length t - rec_wide * n) 0 → w ≡ words_of text (length o)
+  unfolding words_of lines_read
+  words-handed (Err r) {n} a z are up c =
+      let none : rec_wide * n ≡ 0 = omega (arith, z) in
+      let all : length t - rec_wide * n ≡ length o = omega (arith, z, lt) in
+      c ∙ (λ i. take (none i) t ++ replicate (all i) 0) ∙ zeroed r (records_of text) (length o) ∙ ap (λ (b : Answer). contents b (records_of text) (length o)) a
+  words-handed (Ok m) {n} a e are up c =
+      let (k, fit) = loaded-is text (length o) m a in
+      let rs = records_of text in
+      let held : recs n l ≡ rs = are ∙ (λ i. map rec_of (rows_from (ap widths_of g i) ((e ∙ k) i) text)) in
+      let many : length rs ≡ n = ap length (sym held) ∙ recs-length n l in
+      let words : t ≡ up_words rs ++ drop (rec_wide * n) l = up ∙ upward-held n l (omega (arith, ll, fit, e)) ∙ ap (λ (y : List Rec). up_words y ++ drop (rec_wide * n) l) held in
+      let long : length (up_words rs) ≡ rec_wide * n = up-words-long rs ∙ ap (λ (j : ℕ). rec_wide * j) many in
+      let rest : length t - rec_wide * n ≡ length o - rec_wide * length rs = omega (arith, lt, many) in
+      c
+      ∙ (λ i. take (rec_wide * n) (words i) ++ replicate (rest i) 0)
+      ∙ ap (λ (y : List ℕ). y ++ replicate (length o - rec_wide * length rs) 0) (take_at (up_words rs) (drop (rec_wide * n) l) (rec_wide * n) long)
+      ∙ ap (λ (b : Answer). contents b rs (length o)) a

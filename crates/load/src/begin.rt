@@ -3,17 +3,14 @@ ghost use Rattle.std.specs.Prelude.{◌≡◌, ◌<◌};
 ghost use Rattle.text.specs.Lists.{has};
 ghost use Rattle.load.specs.Children.Begin as spec;
 ghost use Rattle.load.specs.Children.Table as table;
-ghost use Rattle.load.specs.Checks.Heads.{asked_number, HeadOf};
+ghost use Rattle.load.specs.Checks.Heads.{asked_number, HeadOf, AllHeads};
 
-use crate::cue;
 use crate::record::Record;
-use crate::table::{BEGINS, HEADS};
+use crate::table::HEADS;
 
 // What a kind asks of low and high.
 #[derive(Clone, Copy)]
 pub(crate) enum Asked {
-    // There is no such kind.
-    Nothing,
     // One of its lows, and high 0.
     Low,
     // One of its lows, and high the parameters.
@@ -30,15 +27,14 @@ pub(crate) enum Asked {
     Bits,
 }
 
-// What a kind asks, where the states of its lows stand among those that children begin in, and how many lows are looked up there.
+// What a kind asks of low and high, and the states that the children of such a record begin in, by low.
 #[derive(Clone, Copy)]
 pub(crate) struct Head {
     pub(crate) asked: Asked,
-    pub(crate) first: u8,
-    pub(crate) lows: u8,
+    pub(crate) begins: &'static [u8],
 }
 
-// The state that nothing leads out of.
+// The state that nothing leads out of. A state of the table like any other, so what follows has no case for it: it leads nowhere and no record ends in it.
 const DEAD: usize = 0;
 
 // The unsigned type with the most bits has so many.
@@ -48,11 +44,11 @@ const MOST_BITS: u32 = 256;
 fn is_bits(low: u32) -> bool
     ensures { result ≡ has spec.bits low }
 {
-    low == 1 || (low <= MOST_BITS && num::is_bound(Some(u64::from(low))))
+    low <= MOST_BITS && low.is_power_of_two()
 }
 
 // How many children a record has of the sorts that its low and high may count.
-#[derive(Clone, Copy)]
+#[derive(Clone, Copy, Default)]
 pub(crate) struct Counts {
     pub(crate) names: usize,
     pub(crate) parameters: usize,
@@ -73,43 +69,43 @@ impl Asked {
 
     // What is asked besides, before the children are seen.
     #[tactic(auto, unfolding(crate::specs::Children::Begin::besides, num::specs::Bound::bound_ok))]
-    fn besides(self, low: u32, high: u32) -> bool
-        ensures { result ≡ spec.besides (asked_number self) low high }
+    fn besides(self, r: Record) -> bool
+        ensures { result ≡ spec.besides (asked_number self) r.low r.high }
     {
         match self {
-            Asked::Low | Asked::Names => high == 0,
-            Asked::Bounded => num::is_bound(Some(cue::number(low, high))),
-            Asked::Bits => is_bits(low) && high == 0,
+            Asked::Low | Asked::Names => r.high == 0,
+            Asked::Bounded => num::is_bound(Some(r.number())),
+            Asked::Bits => is_bits(r.low) && r.high == 0,
             _ => true,
         }
     }
 
     // Whether the numbers of children are what low and high say.
     #[tactic(auto, unfolding(crate::specs::Children::Begin::agrees))]
-    fn agrees(self, low: u32, high: u32, counts: Counts) -> bool
-        ensures { result ≡ spec.agrees (asked_number self) low high counts.names counts.parameters counts.patterns }
+    fn agrees(self, r: Record, counts: Counts) -> bool
+        ensures { result ≡ spec.agrees (asked_number self) r.low r.high counts.names counts.parameters counts.patterns }
     {
         match self {
-            Asked::Parameters => high as usize == counts.parameters,
-            Asked::Names => low as usize == counts.names,
-            Asked::Pairs => low as usize == counts.names && high as usize == counts.patterns,
+            Asked::Parameters => r.high as usize == counts.parameters,
+            Asked::Names => r.low as usize == counts.names,
+            Asked::Pairs => r.low as usize == counts.names && r.high as usize == counts.patterns,
             _ => true,
         }
     }
 }
 
-// The row of a kind; where there is no such kind, one that asks nothing and has no lows. A kind is a number, as it stands in its line.
-fn head_of(kind: u32) -> Head
+// The rows of all kinds. They have a function, since specs/ cannot name a static that holds slices.
+fn heads() -> &'static [Option<Head>]
+    ensures { AllHeads result.now }
+{
+    &HEADS
+}
+
+// The row of a kind, if there is such a kind. A kind is a number, as it stands in its line.
+fn head_of(kind: u32) -> Option<Head>
     ensures { HeadOf kind result }
 {
-    match HEADS.get(kind as usize) {
-        Some(head) => *head,
-        None => Head {
-            asked: Asked::Nothing,
-            first: 0,
-            lows: 0,
-        },
-    }
+    *heads().get(kind as usize)?
 }
 
 // The state that the children of a record begin in; the dead one if no form has its low and high.
@@ -117,20 +113,18 @@ pub(crate) fn start(r: Record) -> usize
     ensures is { result ≡ spec.start r.kind r.low r.high }
     ensures below { result < table.state_count }
 {
-    let head = head_of(r.kind);
-    let i = head.asked.which(r.low);
-    if i >= usize::from(head.lows) {
+    let Some(head) = head_of(r.kind) else {
         return DEAD;
+    };
+    match head.begins.get(head.asked.which(r.low)) {
+        Some(&state) if head.asked.besides(r) => usize::from(state),
+        _ => DEAD,
     }
-    if head.asked.besides(r.low, r.high) {
-        return usize::from(BEGINS[usize::from(head.first) + i]);
-    }
-    DEAD
 }
 
 // Whether the numbers of children are what the kind, low and high of their record say.
 pub(crate) fn agreed(r: Record, counts: Counts) -> bool
     ensures { result ≡ spec.agrees (spec.asked_of r.kind) r.low r.high counts.names counts.parameters counts.patterns }
 {
-    head_of(r.kind).asked.agrees(r.low, r.high, counts)
+    head_of(r.kind).is_none_or(|head| head.asked.agrees(r, counts))
 }

@@ -1,14 +1,14 @@
 // The cue of a child: children that no rule tells apart have the same. Crate `kinds` says which category a kind is of.
 ghost use Rattle.std.specs.Prelude.{◌≡◌, ◌<◌};
-ghost use Rattle.kinds.specs.Shape.{number};
 ghost use Rattle.load.specs.Children.Cue as spec;
 
 use crate::record::Record;
-use kinds::part;
+use kinds::part::Part;
 use own::arm::MatchPattern;
 
-// A cue is a column of the table, and those of the arms are worked out from their lows, so it is a number. A kind that is no child's; one of each category, in
-// their order; an arm of a low that no rule names is ARM, the number 0 is ZERO.
+// A cue is a number, since it is an index into the next states. An enum of cues would be 21 cases here, 21 rows in specs/ that give their numbers and a match
+// of the six arms, for 15 constants and one sum that stand once each.
+// A kind that is no child's; one of each category, in their order; an arm of a low that no rule names is ARM, the number 0 is ZERO.
 const OTHER: usize = 0;
 
 pub(crate) const NAME: usize = 1;
@@ -38,6 +38,8 @@ const TYPE_ITEM: usize = 12;
 // The arms that rules name have the cues behind this one, by their low; then a number that is a bound, and any other number but 0.
 const ARMS: usize = TYPE_ITEM;
 
+const FIRST_ARM: u32 = MatchPattern::Left as u32;
+
 const LAST_ARM: u32 = MatchPattern::True as u32;
 
 const BOUND: usize = 19;
@@ -47,23 +49,12 @@ const SIZE: usize = 20;
 // How many there are.
 pub(crate) const CUES: usize = 21;
 
-// How many bits a half of a number has.
-const HALF_BITS: u64 = 32;
-
-// The 64-bit number that low and high hold together.
-#[tactic(auto, unfolding(kinds::specs::Shape::number))]
-pub(crate) fn number(low: u32, high: u32) -> u64
-    ensures { result ≡ number low high }
-{
-    u64::from(low) + (u64::from(high) << HALF_BITS)
-}
-
 // The cue of a built-in arm.
 #[tactic(auto, unfolding(crate::specs::Children::Cue::arm_cue))]
 fn arm_cue(low: u32) -> usize
     ensures { result ≡ spec.arm_cue low }
 {
-    if (1..=LAST_ARM).contains(&low) {
+    if (FIRST_ARM..=LAST_ARM).contains(&low) {
         ARMS + low as usize
     } else {
         ARM
@@ -90,18 +81,18 @@ pub(crate) fn cue(child: Record) -> usize
     ensures { result ≡ spec.cue child.kind child.low child.high }
 {
     match kinds::category(child.kind) {
-        part::NAME => NAME,
-        part::PARAMETER => PARAMETER,
-        part::TYPE => TYPE,
-        part::PATTERN => PATTERN,
-        part::LET_STATEMENT => LET,
-        part::BLOCK => BLOCK,
-        part::SINGLE => SINGLE,
-        part::BUILTIN_ARM => arm_cue(child.low),
-        part::ENUM_ARM => ENUM_ARM,
-        part::NUMBER => number_cue(number(child.low, child.high)),
-        part::FUNCTION_ITEM => FUNCTION,
-        part::TYPE_ITEM => TYPE_ITEM,
-        _ => OTHER,
+        None => OTHER,
+        Some(Part::Name) => NAME,
+        Some(Part::Parameter) => PARAMETER,
+        Some(Part::Type) => TYPE,
+        Some(Part::Pattern) => PATTERN,
+        Some(Part::Let) => LET,
+        Some(Part::Block) => BLOCK,
+        Some(Part::Single) => SINGLE,
+        Some(Part::BuiltinArm) => arm_cue(child.low),
+        Some(Part::EnumArm) => ENUM_ARM,
+        Some(Part::Number) => number_cue(child.number()),
+        Some(Part::Function) => FUNCTION,
+        Some(Part::TypeItem) => TYPE_ITEM,
     }
 }

@@ -97,12 +97,9 @@ pub fn load(text: &[u8], tree: &mut [u32]) -> Result<usize, NotLoaded>
         text,
     };
     let loaded = answer(&listing, tree.len());
-    let Ok(n) = loaded else {
-        tree.fill(0);
-        return loaded;
-    };
+    let n = loaded.unwrap_or(0);
     listing.write(n, tree);
     up::way_up(tree, n);
-    tree[RECORD_WORDS * n..].fill(0);
+    text::clear_from(tree, RECORD_WORDS * n);
     loaded
 }

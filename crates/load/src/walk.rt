@@ -12,7 +12,7 @@ ghost use Rattle.load.specs.Checks.Small.{Small, Below};
 
 use crate::begin::Counts;
 use crate::record::{Listing, Record};
-use crate::table::STEPS;
+use crate::table::STATES;
 use crate::{begin, cue};
 
 // What has been found so far: how many records are left beneath the parent, the automaton's state, and how many children there are of the sorts that are
@@ -25,23 +25,30 @@ pub(crate) struct Seen {
     pub(crate) counts: Counts,
 }
 
-// The entry of a state: by cue the state after a child, and behind the cues 1 where a record may end.
-fn entry(state: usize, cue: usize) -> usize
+// A state of the automaton: by cue the state after a child, and whether a record may end in it. A state is told by its place in the table, as the bytes of
+// `next` have it: an enum of them would be so many cases without names.
+#[derive(Clone, Copy)]
+pub(crate) struct State {
+    pub(crate) next: [u8; cue::CUES],
+    pub(crate) ends: bool,
+}
+
+// The state after a child of this cue.
+fn next(state: usize, cue: usize) -> usize
     requires state_lt_state_count { state < table.state_count }
-    requires cue_le_cues { cue ≤ cues }
+    requires cue_lt_cues { cue < cues }
     ensures is { result ≡ entry state cue }
     ensures below { result < table.state_count }
 {
-    usize::from(STEPS[state][cue])
+    usize::from(STATES[state].next[cue])
 }
 
 // Whether a record may end in this state.
-#[tactic(auto, unfolding(crate::specs::Children::Run::ended))]
 pub(crate) fn ends(state: usize) -> bool
     requires state_lt_state_count { state < table.state_count }
     ensures { result ≡ run.ended state }
 {
-    entry(state, cue::CUES) == 1
+    STATES[state].ends
 }
 
 // Whether a child stands among the records that are left, inside the place of its parent.
@@ -65,7 +72,7 @@ fn past(seen: Seen, child: Record) -> Seen
     let its = cue::cue(child);
     Seen {
         left: seen.left - child.size as usize,
-        state: entry(seen.state, its),
+        state: next(seen.state, its),
         counts: Counts {
             names: seen.counts.names + usize::from(its == cue::NAME),
             parameters: seen.counts.parameters + usize::from(its == cue::PARAMETER),
@@ -75,7 +82,8 @@ fn past(seen: Seen, child: Record) -> Seen
 }
 
 // What is seen of all children of the record at line j; nothing, if one of them does not sit. The line of the next child is known when the one before it has
-// been read, so no range and no iterator of the library has their lines.
+// been read, so no range and no iterator of the library has their lines. An iterator of its own would have the ghost members `next_gives` and `remaining`, and
+// answer a `Result` for a child that does not sit, which would be taken apart here again.
 pub(crate) fn walk(listing: &Listing, j: usize, parent: Record) -> Option<Seen>
     requires parent_value { as_rec parent ≡ get_or (its_records listing.now) j blank }
     requires size_nonzero { 0 < parent.size }
@@ -87,11 +95,7 @@ pub(crate) fn walk(listing: &Listing, j: usize, parent: Record) -> Option<Seen>
     let mut seen = Seen {
         left: parent.size as usize - 1,
         state: begin::start(parent),
-        counts: Counts {
-            names: 0,
-            parameters: 0,
-            patterns: 0,
-        },
+        counts: Counts::default(),
     };
     while 0 < seen.left {
         let child = listing.record(i);

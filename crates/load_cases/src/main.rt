@@ -3,7 +3,7 @@
 // records written again are the listing, or where its lines are of 36 bytes those lines with a way up behind each, and the records, a line each.
 #![tactic(auto)]
 
-use cases::{Cases, is_zero, zeros};
+use cases::{Cases, UNWRITTEN, front, is_zero, zeros};
 use lines::{LINE_BYTES, SIX_BYTES};
 use std::alloc::Global;
 use std::io;
@@ -13,9 +13,6 @@ use text::refusal::Refused;
 
 // The words of the longest buffer that a case may ask.
 const MOST_WORDS: usize = 16384;
-
-// What a word holds before, so that one that is not written shows.
-const UNWRITTEN: u32 = 7;
 
 // Whether lines of 36 bytes are those of 41 without the way up and the space before it.
 fn is_wider(listing: &[u8], lines: &[u8]) -> bool {
@@ -40,11 +37,11 @@ fn likeness(listing: &[u8], lines: &[u8]) -> &'static str {
     }
 }
 
-// The lines of records, given by their words.
-fn list(alloc: Global, records: &[u32]) -> io::Result<Vec<u8>> {
-    let count = records.len() / RECORD_WORDS;
+// The lines of records.
+fn list(alloc: Global, records: &[[u32; RECORD_WORDS]]) -> io::Result<Vec<u8>> {
+    let count = records.len();
     let mut lines = vec![in alloc; 0; count.saturating_mul(LINE_BYTES)]?;
-    let used = lines::list(records, count, &mut lines);
+    let used = lines::list(records.as_flattened(), count, &mut lines);
     lines.truncate(used);
     Ok(lines)
 }
@@ -57,13 +54,12 @@ fn write_records(
     tree: &[u32],
     count: usize,
 ) -> io::Result<()> {
-    let Some((records, behind)) = tree.split_at_checked(count.saturating_mul(RECORD_WORDS)) else {
+    let Some((records, behind)) = front::<RECORD_WORDS>(tree, count) else {
         return writeln!(out, " NOT ZERO NOT THE SAME");
     };
     let lines = list(alloc, records)?;
     let all = zeros(is_zero(behind));
     writeln!(out, " {all} {}", likeness(listing, &lines))?;
-    let (records, _) = records.as_chunks::<RECORD_WORDS>();
     for [kind, start, end, low, high, size, up] in records {
         writeln!(out, "{kind} {start} {end} {low} {high} {size} {up}")?;
     }
@@ -72,17 +68,16 @@ fn write_records(
 
 // The answer, and what is found of it.
 fn write_case(out: &mut impl Write, alloc: Global, listing: &[u8], words: usize) -> io::Result<()> {
-    let mut tree = vec![in alloc; UNWRITTEN; words]?;
+    let mut tree = vec![in alloc; UNWRITTEN.into(); words]?;
     match load::load(listing, &mut tree) {
         Ok(count) => {
             write!(out, "records {count}")?;
             write_records(out, alloc, listing, &tree, count)
         }
         Err(not_loaded) => {
-            let refused = Refused::from(not_loaded);
-            let refusal = refused.refusal;
-            let all = zeros(is_zero(&tree));
-            writeln!(out, "refused {refusal} {} {all}", refused.place)
+            // The two numbers alone, where a `Refused` is shown with a word between.
+            let Refused { refusal, place } = not_loaded.into();
+            writeln!(out, "refused {refusal} {place} {}", zeros(is_zero(&tree)))
         }
     }
 }

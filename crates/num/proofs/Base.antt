@@ -1,12 +1,17 @@
 -- Which tokens have a base before their digits: what the library's look at a prefix says of the definition.
 -- Assumes nothing.
 use lib.Pointwise.{pointwise}
-use Rattle.std.specs.Prelude.{true, false, Option, None, Some, MatchOption, ◌≡◌, refl, ℕ, ◌+◌, List, [], ◌∷◌, eqb, length, take, drop, unwrap_or}
+use Rattle.std.specs.Prelude.{true, false, Option, None, Some, MatchOption, ◌≡◌, refl, ℕ, ◌+◌, ◌-◌, List, [], ◌∷◌, eqb, length, take, drop, unwrap_or}
+use Rattle.std.proofs.Common.{arith, length-drop, take_all}
 use Rattle.std.specs.Borrow.{Bor}
 use Rattle.std.specs.Option.{option_or}
 use Rattle.text.specs.Ascii.{ascii, ascii_from}
 use Rattle.text.specs.Same.{same}
 use Rattle.num.specs.Digits.{based, after_base}
+
+-- The part of a token from 2 to its end is what is left behind its first two bytes.
+pub rest : (p : List ℕ) → take (length p - 2) (drop 2 p) ≡ drop 2 p
+rest p = take_all (length p - 2) (drop 2 p) (omega (arith, length-drop 2 p))
 
 alike : (xs ys : List ℕ) → pointwise eqb xs ys ≡ same xs ys
 unfolding same

@@ -15,7 +15,8 @@ fn digit(b: u8) -> u8
 }
 
 // One more digit after those of v, None where 64 bits don't hold it, by shifts and differences: eight times v, twice v and the digit are taken, one after the
-// other, from the room that 64 bits have. The plain sum of the shifts the optimiser turns into a multiply.
+// other, from the room that 64 bits have. The crate must not multiply, by `checked_mul` either: on cores of 32 bits that is a call (docs/requests/04.md). The
+// plain sum of the shifts the optimiser turns into a multiply.
 fn push_digit(v: u64, d: u8) -> Option<u64>
     ensures { result ≡ fitted (v * 10 + d) }
 {
@@ -43,6 +44,7 @@ fn run_number(run: &[u8]) -> Option<u64>
 }
 
 // The number of the decimal run from start to end, None if it is over the largest u64.
+// Start and end may be any numbers, as those of `text::part`, so a struct of them could keep no fact.
 pub fn number(draft: &[u8], start: usize, end: usize) -> Option<u64>
     ensures { result ≡ number_of (part_of draft.now start end) }
 {
@@ -82,6 +84,7 @@ fn after_base(token: &[u8]) -> &[u8]
 }
 
 // The digit text of the token from start to end into out, with zeros after it, and how many digits were written; all zeros and None if it does not fit.
+// Start and end may be any numbers here too, as above.
 pub fn digits(draft: &[u8], start: usize, end: usize, out: &mut [u8]) -> Option<usize>
     ensures answer { result ≡ answer_of (digits_of (part_of draft.now start end)) (length out.old) }
     ensures buffer { out.new ≡ buffer_of (digits_of (part_of draft.now start end)) (length out.old) }

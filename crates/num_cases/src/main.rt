@@ -1,17 +1,63 @@
 // Runs the functions of `num` on chosen runs and writes a line for each; tools/num_cases.py writes what is expected.
 #![tactic(auto)]
 
+ghost use Rattle.std.specs.Prelude.{suc, ◌-◌, length};
+ghost use Rattle.std.specs.Iterator.{at_most};
+
 use std::io;
 use std::io::{BufWriter, Write};
 
-// What is asked of each run of a list.
+// A part of a list between two spaces, by its start and its end: `num` takes these, and `split` does not give them.
 #[derive(Clone, Copy)]
-enum Job {
-    Number,
-    Digits,
-    Bound,
-    Size,
-    Length,
+struct Run<'a> {
+    list: &'a [u8],
+    start: usize,
+    end: usize,
+}
+
+impl<'a> Run<'a> {
+    fn text(self) -> &'a [u8] {
+        text::part(self.list, self.start, self.end)
+    }
+
+    fn number(self) -> Option<u64> {
+        num::number(self.list, self.start, self.end)
+    }
+}
+
+// The runs of a list, one behind the other; `start` is where the next begins, and none is left where it is beyond the list's end.
+#[derive(Drop)]
+struct Runs<'a> {
+    list: &'a [u8],
+    start: usize,
+}
+
+impl<'a> Iterator for Runs<'a> {
+    type Item = Run<'a>;
+
+    ghost remaining = { λ runs. at_most (suc (length runs.list.now) - runs.start) };
+
+    fn next(&mut self) -> Option<Run<'a>> {
+        let rest = self.list.get(self.start..)?;
+        let length = rest
+            .iter()
+            .position(|byte| *byte == b' ')
+            .unwrap_or(rest.len());
+        let start = self.start;
+        let end = start + length;
+        self.start = end + 1;
+        Some(Run {
+            list: self.list,
+            start,
+            end,
+        })
+    }
+}
+
+impl<'a> Runs<'a> {
+    fn of(list: &'a [u8]) -> Runs<'a> {
+        Runs { list, start: 0 }
+    }
 }
 
 fn write_value(out: &mut impl Write, value: Option<u64>) -> io::Result<()> {
@@ -19,11 +65,6 @@ fn write_value(out: &mut impl Write, value: Option<u64>) -> io::Result<()> {
         Some(number) => writeln!(out, " -> {number}"),
         None => writeln!(out, " -> too large"),
     }
-}
-
-// What `is_bound`, `is_size` or `is_length` answers, which is a `bool`.
-fn write_good(out: &mut impl Write, good: bool) -> io::Result<()> {
-    writeln!(out, " -> {}", if good { "good" } else { "bad" })
 }
 
 // How many digits were written, and the buffer, a dot for each 0.
@@ -39,72 +80,40 @@ fn write_digits(out: &mut impl Write, answer: Option<usize>, digits: &[u8]) -> i
     writeln!(out, "]")
 }
 
+fn write_named(out: &mut impl Write, name: &str, run: Run<'_>) -> io::Result<()> {
+    write!(out, "{name} ")?;
+    out.write_all(run.text())
+}
+
 // The digit text of a run, into buffers that are too short, just long enough and longer, and hold something else before. What is lent is the front of an array,
 // as everywhere here: no buffer grows.
-fn write_digits_by_room(
-    out: &mut impl Write,
-    draft: &[u8],
-    start: usize,
-    end: usize,
-) -> io::Result<()> {
+fn write_digits_by_room(out: &mut impl Write, run: Run<'_>) -> io::Result<()> {
     for room in 0..10 {
         let mut space = [b'#'; 10];
         let digits = &mut space[..room];
-        write!(out, "digits ")?;
-        out.write_all(text::part(draft, start, end))?;
+        write_named(out, "digits", run)?;
         write!(out, " into {room}")?;
-        let answer = num::digits(draft, start, end, digits);
+        let answer = num::digits(run.list, run.start, run.end, digits);
         write_digits(out, answer, digits)?;
     }
     Ok(())
 }
 
-fn write_named(out: &mut impl Write, name: &str, run: &[u8]) -> io::Result<()> {
-    write!(out, "{name} ")?;
-    out.write_all(run)
-}
-
-// One run of a list, from start to end: its number, its digit text, or whether it is a good bound, size or length.
-fn write_run(
+// Whether the number of each run is a good bound, size or length, by `num`'s test for it.
+fn write_good<F: Fn(Option<u64>) -> bool + Drop>(
     out: &mut impl Write,
-    job: Job,
+    name: &str,
     list: &[u8],
-    start: usize,
-    end: usize,
-) -> io::Result<()> {
-    let value = num::number(list, start, end);
-    let run = text::part(list, start, end);
-    match job {
-        Job::Number => {
-            write_named(out, "number", run)?;
-            write_value(out, value)
-        }
-        Job::Digits => write_digits_by_room(out, list, start, end),
-        Job::Bound => {
-            write_named(out, "bound", run)?;
-            write_good(out, num::is_bound(value))
-        }
-        Job::Size => {
-            write_named(out, "size", run)?;
-            write_good(out, num::is_size(value))
-        }
-        Job::Length => {
-            write_named(out, "length", run)?;
-            write_good(out, num::is_length(value))
-        }
+    is_good: F,
+) -> io::Result<()>
+    requires { F.IsAlwaysCallable is_good }
+{
+    for run in Runs::of(list) {
+        write_named(out, name, run)?;
+        let said = if is_good(run.number()) { "good" } else { "bad" };
+        writeln!(out, " -> {said}")?;
     }
-}
-
-// Each run of a list, with a space between two. `num` takes the start and the end of a run, which `split` does not give.
-fn write_runs(out: &mut impl Write, job: Job, list: &[u8]) -> io::Result<()> {
-    let mut start = 0;
-    for (place, byte) in list.iter().enumerate() {
-        if *byte == b' ' {
-            write_run(out, job, list, start, place)?;
-            start = place + 1;
-        }
-    }
-    write_run(out, job, list, start, list.len())
+    Ok(())
 }
 
 // The numbers of parts in range and out of range.
@@ -169,45 +178,39 @@ fn write_numbers(out: &mut impl Write) -> io::Result<()> {
         b"20000000000000000000 23058430092136939519 23058430092136939520 92233720368547758080",
     ];
     for list in lists {
-        write_runs(out, Job::Number, list)?;
+        for run in Runs::of(list) {
+            write_named(out, "number", run)?;
+            write_value(out, run.number())?;
+        }
     }
     write_long_runs(out)
 }
 
 fn write_digit_texts(out: &mut impl Write) -> io::Result<()> {
-    write_runs(
-        out,
-        Job::Digits,
-        b"1000 1_000_ 0_0_7 5 5_  0xAB_cd 0x0_ 0x89_AB_CD_EF 0b1__0_1 0b0 00b 0_x1 0 1x2",
-    )
+    let list = b"1000 1_000_ 0_0_7 5 5_  0xAB_cd 0x0_ 0x89_AB_CD_EF 0b1__0_1 0b0 00b 0_x1 0 1x2";
+    for run in Runs::of(list) {
+        write_digits_by_room(out, run)?;
+    }
+    Ok(())
 }
 
 // Which numbers are good bounds, sizes and lengths.
 fn write_good_numbers(out: &mut impl Write) -> io::Result<()> {
-    let lists: [(Job, &[u8]); 5] = [
-        (
-            Job::Bound,
-            b"0 1 2 3 4 5 6 1_024_ 1_025 9223372036854775807 9223372036854775808",
-        ),
-        (
-            Job::Bound,
-            b"9223372036854775809 18446744073709551615 18446744073709551616 36893488147419103232",
-        ),
-        (
-            Job::Size,
-            b"0 0_0 1 2 18446744073709551615 18446744073709551616",
-        ),
-        (
-            Job::Length,
-            b"0 0_0 1 18446744073709551615 0018_446_744_073_709_551_615_ 18446744073709551616",
-        ),
-        (
-            Job::Length,
-            b"0018_446_744_073_709_551_616_ 18446744073709551620 100000000000000000000",
-        ),
+    let bounds: [&[u8]; 2] = [
+        b"0 1 2 3 4 5 6 1_024_ 1_025 9223372036854775807 9223372036854775808",
+        b"9223372036854775809 18446744073709551615 18446744073709551616 36893488147419103232",
     ];
-    for (job, list) in lists {
-        write_runs(out, job, list)?;
+    let sizes = b"0 0_0 1 2 18446744073709551615 18446744073709551616";
+    let lengths: [&[u8]; 2] = [
+        b"0 0_0 1 18446744073709551615 0018_446_744_073_709_551_615_ 18446744073709551616",
+        b"0018_446_744_073_709_551_616_ 18446744073709551620 100000000000000000000",
+    ];
+    for list in bounds {
+        write_good(out, "bound", list, num::is_bound)?;
+    }
+    write_good(out, "size", sizes, num::is_size)?;
+    for list in lengths {
+        write_good(out, "length", list, num::is_length)?;
     }
     Ok(())
 }

@@ -4,7 +4,11 @@ pub mod Elements
 pub mod CallRows
 pub mod CallForms
 pub mod CallLaws
+pub mod CallEnd
 pub mod NameRules
 pub mod ArmsLoop
 pub mod MatchForm
+pub mod LetForm
+pub mod AngleForms
+pub mod BracketForms
 pub mod ArmForms

@@ -1,2 +1,3 @@
 -- The function and its parameters.
 pub mod Forms
+pub mod Steps

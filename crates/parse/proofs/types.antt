@@ -1,2 +1,3 @@
 -- Types.
 pub mod Forms
+pub mod Steps

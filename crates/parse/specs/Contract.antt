@@ -1,7 +1,7 @@
 -- What the functions of the parser require and ensure: they are proved against the relations `Reads` and `Sticks` over grammar's table,
 -- and against the records and refusals that grammar gives to what was read.
 -- Assumes nothing: these are definitions.
-use Rattle.std.specs.Prelude.{◌≡◌, ℕ, suc, ◌+◌, ◌*◌, ◌/◌, ◌%◌, ◌<◌, ◌≤◌, Bool, true, false, not, cond, T, List, [], ◌∷◌, ◌++◌, length, drop, ◌==◌, ◌≢◌, nat_lt, slice_index, slice_index_or}
+use Rattle.std.specs.Prelude.{◌≡◌, ℕ, suc, ◌+◌, ◌*◌, ◌/◌, ◌%◌, ◌<◌, ◌≤◌, Bool, true, false, not, cond, T, List, [], ◌∷◌, ◌++◌, length, map, get_or, drop, ◌==◌, ◌≢◌, nat_lt, slice_index, slice_index_or}
 use Rattle.std.specs.Prelude as std
 use Rattle.std.specs.Prelude.{Some, None}
 use Rattle.std.proofs.Math.Option.{Option, none, some}
@@ -16,26 +16,27 @@ use Rattle.own.specs.Tree as own
 use Rattle.own.specs.Tree.{Tok, Items, Each, concat, classes_of}
 use Rattle.own.specs.Flat.{blank_tok}
 use Rattle.own.specs.Law.{Sort, word, child, sorts}
-use Rattle.text.specs.Widths.{rec_wide, tok_wide}
+use Rattle.text.specs.Widths.{rec_wide}
 use Rattle.text.specs.Refusals.{refusal_number}
 use Rattle.text.specs.declared.refusal.Refusal.{Refusal}
 use Rattle.text.specs.declared.refusal.Refusal.TheVariants as refusal
 use Rattle.text.specs.Lists.{has}
-use Rattle.own.specs.Words.{rec_then, toks, sizes, word_groups}
+use Rattle.own.specs.Words.{rec_then, sizes, word_groups}
 use Rattle.own.specs.Kinds as kind
 use Rattle.kinds.specs.Shape.{half_range}
 use Rattle.kinds.specs.Fields.{counted, halves}
 use Rattle.kinds.specs.Families as family
-use Rattle.kinds.specs.Class.{class_of}
 use Rattle.kinds.specs.Rules.{wrappers}
 use Rattle.own.specs.Numbers.{kind_number}
 use Rattle.own.specs.declared.kind.Kind.{Kind}
 use Rattle.lexer.specs.Classes as t
+use Rattle.lexer.specs.Lexemes.{Token}
 use Rattle.grammar.specs.Shapes.Shapes.{shapes}
 use Rattle.grammar.specs.Shapes.Tables.{means, table}
 use Rattle.grammar.specs.Shapes.TablesIndex.{n-arm, n-head, n-identifier, n-function_name, n-alias_name}
 use Rattle.grammar.specs.Records.Records.{low_half, high_half, sees, name_count, wrapper_head, arranged, text_of, record_items}
 use Rattle.grammar.specs.Records.Faults.{Fault, earlier, earliest, faults}
+use Rattle.grammar.specs.Answers.Answer.{toks_of}
 use Rattle.parse.specs.declared.State.{State}
 use Rattle.parse.specs.declared.fault.Fault as code
 use Rattle.parse.specs.declared.token.Lexeme.{Lexeme}
@@ -61,13 +62,21 @@ pub record Text : Type 0 where
   pub draft : List ℕ
   pub ts : List Tok
 
--- How many tokens the words of a source hold,
+-- How many tokens a source has,
 abbrev pub count_of : Source → ℕ
-count_of s = length s.tokens.now / tok_wide
+count_of s = length s.tokens.now
+
+-- the token that three words say,
+abbrev pub row_token : List ℕ → Token
+row_token v = record { kind = get_or v 0 0; start = get_or v 1 0; end = get_or v 2 0 }
+
+-- those of a source,
+abbrev pub source_tokens : Source → List Token
+source_tokens s = map row_token s.tokens.now
 
 -- and the draft with those.
 unfoldable pub text : Source → Text
-text s = record { draft = s.draft.now; ts = toks (class_of s.draft.now) (count_of s) s.tokens.now }
+text s = record { draft = s.draft.now; ts = toks_of s.draft.now (source_tokens s) }
 
 abbrev pub classes : Text → List ℕ
 classes x = classes_of x.ts

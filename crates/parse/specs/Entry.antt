@@ -19,7 +19,7 @@ use Rattle.theory.specs.Grammar.{nt}
 use Rattle.grammar.specs.Shapes.TablesIndex.{n-function}
 use Rattle.grammar.specs.Shapes.WellShaped.{shape_of}
 use Rattle.grammar.specs.Answers.Answer.{toks_of, start_of, Reading, shaped, fitted, content, records_in}
-use Rattle.parse.specs.Contract.{Text, count_of, kept, Stands, as_items, Parsed, Node, u32_count}
+use Rattle.parse.specs.Contract.{Text, count_of, source_tokens, kept, Stands, as_items, Parsed, Node, u32_count}
 use Rattle.parse.specs.Infos.{FunctionKind, FileRead}
 use Rattle.parse.specs.declared.ReadAs.{ReadAs}
 use Rattle.parse.specs.declared.ReadAs.TheVariants.{Function, File}
@@ -93,7 +93,7 @@ unless_kept (Some f) r = Err (as_refused f)
 
 -- Where a token starts, or the length at the end.
 abbrev pub place_in : Source → ℕ → ℕ
-place_in s at = start_of s.draft.now (tokens_in (count_of s) s.tokens.now) at
+place_in s at = start_of s.draft.now (source_tokens s) at
 
 -- What the last state says: a token left over is refusal 8; then those of the shapes, then 15.
 unfoldable pub ended : Source → ℕ → State → Result ℕ Refused

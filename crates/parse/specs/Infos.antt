@@ -1,7 +1,7 @@
 -- What the functions of the cycle and of arms' heads say besides: of the records of what was read (J, before tokens became records; L, as
 -- laid), of the m tokens that belong to no record yet, and of their two numbers a and b.
 -- Assumes nothing: these are definitions.
-use Rattle.std.specs.Prelude.{◌≡◌, ℕ, ◌+◌, ◌≤◌, true, false, cond, ◌||◌, ◌⊎◌, List, [], ◌∷◌, ◌++◌, length, take, drop, ◌==◌, ◌≢◌, nat_lt, Option, Some, None}
+use Rattle.std.specs.Prelude.{◌≡◌, ℕ, ◌+◌, ◌-◌, ◌≤◌, true, false, cond, ◌||◌, ◌⊎◌, List, [], ◌∷◌, ◌++◌, length, take, drop, ◌==◌, ◌≢◌, nat_lt, Option, Some, None}
 use Rattle.theory.specs.Grammar.{nt}
 use Rattle.theory.specs.Machine.{choose}
 use Rattle.own.specs.Tree as own
@@ -13,13 +13,13 @@ use Rattle.own.specs.Kinds as kind
 use Rattle.kinds.specs.Fields.{counted}
 use Rattle.kinds.specs.Families as family
 use Rattle.lexer.specs.Classes as t
-use Rattle.grammar.specs.Records.Records.{head, sees, name_count, lone, unended, arm_head, arranged}
+use Rattle.grammar.specs.Records.Records.{head, sees, name_count, lone, unended, arm_head, arranged, call_head}
 use Rattle.grammar.specs.Shapes.Tables.{table}
-use Rattle.grammar.specs.Shapes.TablesIndex.{n-single, n-function, n-type_item, n-file}
+use Rattle.grammar.specs.Shapes.TablesIndex.{n-single, n-arguments, n-function, n-type_item, n-file}
 use Rattle.text.specs.declared.refusal.Refusal.{Refusal}
 use Rattle.text.specs.declared.refusal.Refusal.TheVariants as refusal
 use Rattle.text.specs.Widths.{rec_wide}
-use Rattle.parse.specs.Contract.{Text, as_items, Parsed, Put, Moved, Only, Turned, countable, reserved, head_sort}
+use Rattle.parse.specs.Contract.{Text, as_items, Parsed, Put, Moved, Eaten, Only, Turned, countable, reserved, head_sort}
 use Rattle.parse.specs.Choice as choice
 use Rattle.parse.specs.declared.State.{State}
 use Rattle.parse.specs.declared.expr.c.GenericCall.{GenericCall}
@@ -52,6 +52,17 @@ pub record Args (J L : Items) (m a b : ℕ) : Type 0 where
   pub lone_is : lone W ≡ (a == 1)
   pub own : 1 ≤ m
 
+-- What is read of a call whose record begins at st, from its arguments on: those, and then that record; or the parser is stuck.
+pub data CallEnds (x : Text) (st a : State) (l l' : List ℕ) : Step → Type 0 where
+  call_ends : {z : State} {l₁ : List ℕ} {u v : ℕ} → Parsed x (nt n-arguments ∷ []) as_items Args a l l₁ (Next z u v)
+      → Put l₁ st.out kind.Call st.start z.end (call_head st.class).low 0 (z.out - st.out) l' → CallEnds x st a l l' (Next z 0 0)
+  call_stuck : {l₁ : List ℕ} {p : ℕ} → Parsed x (nt n-arguments ∷ []) as_items Args a l l₁ (Refused p) → CallEnds x st a l l' (Refused p)
+
+-- The same with the `>` of `::<..>` before the arguments.
+pub data AngleEnds (x : Text) (st a : State) (l l' : List ℕ) : Step → Type 0 where
+  angle_ends : {b : State} {u v : ℕ} {s : Step} → Eaten x a t.RAngle (Next b u v) → CallEnds x st b l l' s → AngleEnds x st a l l' s
+  angle_stuck : {p : ℕ} → Eaten x a t.RAngle (Refused p) → AngleEnds x st a l l' (Refused p)
+
 -- What follows the first `::` of an enum construction: a names.
 pub record Path (J L : Items) (m a b : ℕ) : Type 0 where
   pub roles : (n : ℕ) → arranged kind.EnumConstruction n J ≡ L
@@ -80,6 +91,11 @@ alternative call.ForWhile = choice.ForWhile
 -- and a name of this class that begins such a call.
 abbrev pub Generic : ℕ → GenericCall → Type 0
 Generic c g = choose table n-single c ≡ alternative g
+
+-- A name of this class that no argument list may follow right away: one that begins no call, or such a call.
+abbrev pub Uncalled : ℕ → Option GenericCall → Type 0
+Uncalled c None = choose table n-single c ≡ choice.Bare
+Uncalled c (Some g) = Generic c g
 
 -- A name of the class c and `::`, with a token of the class b behind them, begin an enum construction.
 pub data Leads (c b : ℕ) : Type 0 where

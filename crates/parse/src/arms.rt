@@ -5,6 +5,7 @@ ghost use Rattle.own.specs.Numbers.{kind_number};
 ghost use Rattle.parse.specs.Orders as orders;
 ghost use Rattle.parse.specs.Infos.{arm_kind, arm_low, arm_high, ArmKind, pair_arm, after_arm, order_kind, order_fault, Arranged};
 
+use crate::heads::NO_NAMES;
 use crate::tree::{self, Head};
 use own::arm::MatchPattern;
 use own::kind::Kind;
@@ -12,7 +13,7 @@ use text::refusal::Refusal;
 
 // The order of arms, as specs/Orders.antt has it: a number, since it is one of the two that a step has, and all steps are of one type (lib.rt says why).
 // None yet, or one built-in arm, by its low; enum arms;
-const NO_ARM: u32 = 0;
+pub(crate) const NO_ARM: u32 = 0;
 
 const ENUMS: u32 = 7;
 
@@ -41,12 +42,13 @@ const FALSE: u32 = MatchPattern::False as u32;
 
 const TRUE: u32 = MatchPattern::True as u32;
 
-// The record of an arm: a built-in one where there is no name, otherwise an enum arm.
+// The record of an arm: a built-in one where there is no name, otherwise an enum arm. The two numbers are those of its head's step (lib.rt says why there
+// are two of them for all steps).
 #[tactic(auto, unfolding(crate::specs::Infos::arm_kind, crate::specs::Infos::arm_low, crate::specs::Infos::arm_high))]
 pub(crate) fn head(number: u32, other: u32) -> Head
     ensures { (kind_number result.kind ≡ arm_kind number) × (result.low ≡ arm_low number other) × (result.high ≡ arm_high number other) }
 {
-    if number == 0 {
+    if number == NO_NAMES {
         return Head {
             kind: Kind::BuiltinArm,
             low: other,
@@ -67,12 +69,8 @@ fn pair(a: u32, b: u32) -> u32
     ensures { result ≡ pair_arm a b }
 {
     match (a, b) {
-        (LEFT, RIGHT) => PAIRED,
-        (NONE, SOME) => PAIRED,
-        (FALSE, TRUE) => PAIRED,
-        (RIGHT, LEFT) => TURNED,
-        (SOME, NONE) => TURNED,
-        (TRUE, FALSE) => TURNED,
+        (LEFT, RIGHT) | (NONE, SOME) | (FALSE, TRUE) => PAIRED,
+        (RIGHT, LEFT) | (SOME, NONE) | (TRUE, FALSE) => TURNED,
         _ => UNPAIRED,
     }
 }
@@ -87,27 +85,19 @@ pub(crate) fn after(order: u32, kind: u32, low: u32) -> u32
     if kind == u32::from(Kind::EnumArm) {
         return with_enum(order);
     }
-    if order == NO_ARM {
-        return low;
+    match order {
+        NO_ARM => low,
+        ENUMS | MIXED => MIXED,
+        PAIRED.. => MORE,
+        _ => pair(order, low),
     }
-    if order == ENUMS {
-        return MIXED;
-    }
-    if order == MIXED {
-        return MIXED;
-    }
-    if ENUMS < order {
-        return MORE;
-    }
-    pair(order, low)
 }
 
 fn with_enum(order: u32) -> u32
     ensures { result ≡ (if nat_eq order 0 || order == orders.Enums then orders.Enums else orders.Mixed) }
 {
     match order {
-        NO_ARM => ENUMS,
-        ENUMS => ENUMS,
+        NO_ARM | ENUMS => ENUMS,
         _ => MIXED,
     }
 }
@@ -125,13 +115,13 @@ pub(crate) fn kind(order: u32) -> Kind
     ensures { kind_number result ≡ order_kind order }
 {
     match order {
-        ENUMS => Kind::EnumMatch,
-        MIXED => Kind::EnumMatch,
+        ENUMS | MIXED => Kind::EnumMatch,
         _ => Kind::Match,
     }
 }
 
-// The refusal of a match with these arms, if there is one.
+// The refusal of a match with these arms, if there is one. Three arms answer `None`: as one (`ENUMS | PAIRED | TURNED`, or a range, or put first) they were
+// tried, and cost matches 0.5 percent.
 #[tactic(auto, unfolding(crate::specs::Infos::order_fault))]
 pub(crate) fn fault(order: u32) -> Option<Refusal>
     ensures { result ≡ order_fault order }

@@ -6,16 +6,18 @@ ghost use Rattle.grammar.specs.Shapes.Tables.{table};
 ghost use Rattle.grammar.specs.Shapes.TablesIndex.{n-type, n-pattern, n-single, n-alias_name};
 ghost use Rattle.parse.specs.Contract.{entry_in, name_sort, head_sort};
 
+use lexer::classes as class;
+
 // Written by tools/choice.py, to the second mark.
 // The classes are the numbers below this one.
-const CLASSES: u32 = 97;
+const CLASSES: u32 = class::LAST + 1;
 
 // Those from this one on are the names of types, which all lead to the same alternative; a table has an entry for each of the others.
-const TYPE_NAMES: u32 = 63;
+const TYPE_NAMES: u32 = class::BOOL_TYPE;
 
 // The alternatives of the classes below those, and what all names of types lead to.
 struct Choices {
-    of: [u8; 63],
+    of: [u8; TYPE_NAMES as usize],
     named: u32,
 }
 
@@ -153,6 +155,7 @@ impl Choices {
     }
 }
 
+// Six functions, since each states its own row of grammar's table: a method of `Choices` knows its bytes alone (`entry_in`).
 pub(crate) fn types(class: u32) -> u32
     ensures { result ≡ choose table n-type class }
 {

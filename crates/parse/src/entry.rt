@@ -1,5 +1,6 @@
 // From the first token to the answer: the parser's refusals in their order.
-ghost use Rattle.std.specs.Prelude.{◌≡◌, ◌*◌, ◌≤◌, false, length, take};
+ghost use Rattle.std.specs.Prelude.{◌≡◌, ◌*◌, ◌≤◌, false, length};
+ghost use Rattle.std.specs.Simd.{first_chunks};
 ghost use Rattle.text.specs.Widths.{tok_wide};
 ghost use Rattle.parse.specs.Contract.{text, Ready};
 ghost use Rattle.parse.specs.Entry.{entry_of, too_many, too_long, WholeRead, Starts, place_in, ended, judged};
@@ -17,15 +18,17 @@ pub(crate) fn too_many(most: usize, count: usize, words: usize) -> bool
     most < count || words / TOKEN_WORDS < count
 }
 
-// The draft with the words of so many tokens.
+// The draft with so many tokens: their rows are made here once, since a look at a token that made them would divide each time.
+// Refusal 6 speaks of the number and of the buffer's words (`too_many`), so both are asked for.
 pub(crate) fn source<'a>(draft: &'a [u8], tokens: &'a [u32], count: usize) -> Source<'a>
     requires { tok_wide * count ≤ length tokens.now }
     ensures draft { result.draft.now ≡ draft.now }
-    ensures tokens { result.tokens.now ≡ take (tok_wide * count) tokens.now }
+    ensures tokens { result.tokens.now ≡ first_chunks tok_wide count tokens.now }
 {
+    let (rows, _) = tokens.as_chunks::<TOKEN_WORDS>();
     Source {
         draft,
-        tokens: &tokens[..TOKEN_WORDS * count],
+        tokens: &rows[..count],
     }
 }
 
@@ -101,7 +104,7 @@ pub(crate) fn too_long(what: ReadAs, bytes: usize) -> bool
     what == ReadAs::File && u32::try_from(bytes).is_err()
 }
 
-// Reads a whole draft: a file, or one function.
+// Reads a whole draft: a file, or one function. `ReadAs` is part of what `parse` promises (`entry_of`), and the refusals differ by it.
 pub(crate) fn whole(source: &Source, tree: &mut [u32], st: State, what: ReadAs) -> Step
     requires ready { Ready (text source.now) st }
     requires draft_value { too_long (entry_of what) (length source.now.draft.now) ≡ false }

@@ -20,27 +20,29 @@ use c::GenericCall;
 use lexer::classes as class;
 use own::kind::Kind;
 
-// The kind of what brackets enclose. `lone` is a number of a step, as lib.rt says why: 1 is one expression without a comma, and 0 no expression yet.
+// What a list of expressions is, as a number, since it is one of the two that a step has (lib.rt says why): none, one without a comma, or any other.
+const EMPTY: u32 = 0;
+
+const LONE: u32 = 1;
+
+const LISTED: u32 = 2;
+
+// The kind of what brackets enclose.
 fn kind(brackets: Brackets, lone: u32) -> Kind
     ensures { kind_number result ≡ single_kind brackets lone }
 {
-    match brackets {
-        Brackets::Round => {
-            if lone == 1 {
-                Kind::Parenthesised
-            } else {
-                Kind::Tuple
-            }
-        }
-        Brackets::Square => Kind::Array,
+    match (brackets, lone) {
+        (Brackets::Round, LONE) => Kind::Parenthesised,
+        (Brackets::Round, _) => Kind::Tuple,
+        (Brackets::Square, _) => Kind::Array,
     }
 }
 
-// The same number at the end of a list without a comma behind the last item: 1 if that is the only one.
+// The same number at the end of a list without a comma behind the last item.
 fn first(lone: u32) -> u32
     ensures { result ≡ (if nat_eq lone 0 then 1 else 2) }
 {
-    if lone == 0 { 1 } else { 2 }
+    if lone == EMPTY { LONE } else { LISTED }
 }
 
 // A boolean, a number, a witness or a parameter.
@@ -90,7 +92,10 @@ pub(crate) fn block(source: &Source, tree: &mut [u32], st: State) -> Step
     Step::Next(z, 0, 0)
 }
 
-// What stands between the braces of a block, and 1 if its last element is an expression without `;`. `split_block_body`, `Statement::parser`.
+// A block's low where its last element is an expression without `;`, a word of its record.
+const LAST_EXPRESSION: u32 = 1;
+
+// What stands between the braces of a block, and its low. `split_block_body`, `Statement::parser`.
 #[cycle(expression)]
 #[inline(always)]
 fn elems(source: &Source, tree: &mut [u32], st: State) -> Step
@@ -115,7 +120,7 @@ fn elems(source: &Source, tree: &mut [u32], st: State) -> Step
                 return inner;
             };
             if d.class != class::SEMI {
-                return Step::Next(d, 1, 0);
+                return Step::Next(d, LAST_EXPRESSION, 0);
             }
             here = source.advance(d);
         }
@@ -173,16 +178,16 @@ pub(crate) fn single(source: &Source, tree: &mut [u32], st: State) -> Step
         choice::SIMPLE_CALL => c::simple(source, tree, st),
         choice::CAST_CALL => c::cast(source, tree, st),
         choice::NAMED => return c::named(source, tree, st),
-        choice::BARE => c::bare(source, tree, st),
-        choice::TYPED => c::generic(source, tree, st, GenericCall::Typed),
-        choice::FOLDING => c::generic(source, tree, st, GenericCall::Folding),
-        choice::FOR_WHILE => c::generic(source, tree, st, GenericCall::ForWhile),
+        choice::BARE => c::generic(source, tree, st, None),
+        choice::TYPED => c::generic(source, tree, st, Some(GenericCall::Typed)),
+        choice::FOLDING => c::generic(source, tree, st, Some(GenericCall::Folding)),
+        choice::FOR_WHILE => c::generic(source, tree, st, Some(GenericCall::ForWhile)),
         _ => return Step::Refused(st.at),
     };
     step
 }
 
-// `(e)`, a tuple `(e, …)` or an array `[e, …]`.
+// `(e)`, a tuple `(e, …)` or an array `[e, …]`: no one reader with those of types and patterns, as `types::tuple` says.
 #[cycle(expression)]
 #[inline(never)]
 fn bracketed(source: &Source, tree: &mut [u32], st: State, brackets: Brackets) -> Step
@@ -203,7 +208,7 @@ fn bracketed(source: &Source, tree: &mut [u32], st: State, brackets: Brackets) -
     Step::Next(z, 0, 0)
 }
 
-// `list![e, …]`: a word before the brackets, and another rule of the table, than `bracketed` has.
+// `list![e, …]`. In `bracketed` it would be a third bracket, and a branch before the list for the bracket behind its word.
 #[cycle(expression)]
 #[inline(never)]
 fn list(source: &Source, tree: &mut [u32], st: State) -> Step
@@ -228,7 +233,7 @@ fn list(source: &Source, tree: &mut [u32], st: State) -> Step
     Step::Next(z, 0, 0)
 }
 
-// Expressions with commas between them, up to what closes them, and 1 if it is one without a comma: a loop of its own, as `types::types` says.
+// Expressions with commas between them, up to what closes them, and whether it is one without a comma: a loop of its own, as `types::types` says.
 #[cycle(expression)]
 #[inline(always)]
 pub(crate) fn exprs(source: &Source, tree: &mut [u32], st: State) -> Step
@@ -236,7 +241,7 @@ pub(crate) fn exprs(source: &Source, tree: &mut [u32], st: State) -> Step
     ensures { Parses n-list-expression Lone (text source.now) st tree.old tree.new result }
 {
     let mut here = st;
-    let mut lone = 0;
+    let mut lone = EMPTY;
     while !token::closes(here.class) {
         let inner = expr(source, tree, here);
         let Step::Next(a, _, _) = inner else {
@@ -246,7 +251,7 @@ pub(crate) fn exprs(source: &Source, tree: &mut [u32], st: State) -> Step
             return Step::Next(a, first(lone), 0);
         }
         here = source.advance(a);
-        lone = 2;
+        lone = LISTED;
     }
     Step::Next(here, lone, 0)
 }
@@ -291,7 +296,7 @@ fn arms(source: &Source, tree: &mut [u32], st: State) -> Step
     ensures { Parses n-many-arm (Arms st) (text source.now) st tree.old tree.new result }
 {
     let mut here = st;
-    let mut order = 0;
+    let mut order = arms::NO_ARM;
     let mut mid = st.out;
     while here.class != class::RBRACE {
         let inner = arm(source, tree, here);

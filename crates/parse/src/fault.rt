@@ -6,7 +6,8 @@ ghost use Rattle.parse.specs.Entry.{as_refused};
 use crate::State;
 use text::refusal::{Refusal, Refused};
 
-// A refusal, and the byte where it stands.
+// A refusal, and the byte where it stands, as a word: with `Refused`, whose place is a `usize`, in the state the case `matches` of bench/reader took 5 percent
+// more instructions, `statements` 2.
 #[derive(Clone, Copy, PartialEq, Eq, Debug)]
 pub(crate) struct Fault {
     pub(crate) refusal: Refusal,

@@ -1,5 +1,5 @@
-// Heads of arms: `MatchPattern::parser` and `enum_arm_head_parser` of src/parse/grammar/matching.rs. A step has two numbers: 0 and which of
-// the six built-in heads it is; or, of an enum path, how many names and how many pairs it has.
+// Heads of arms: `MatchPattern::parser` and `enum_arm_head_parser` of src/parse/grammar/matching.rs. What a head is stands in the two numbers that all steps
+// have, as lib.rt says why: no names and which of the six built-in heads it is; or, of an enum path, how many names and how many pairs it has.
 ghost use Rattle.std.specs.Prelude.{◌≡◌, if◌then◌else◌, nat_eq};
 ghost use Rattle.lexer.specs.Classes as t;
 ghost use Rattle.grammar.specs.Shapes.TablesIndex.{n-head, n-head_path, n-pair, n-head_path-optional-LParen, n-tail-pair};
@@ -15,6 +15,9 @@ use lexer::classes as class;
 use own::arm::MatchPattern;
 use own::kind::Kind;
 
+// So many names a built-in head has.
+pub(crate) const NO_NAMES: u32 = 0;
+
 // The head of an arm.
 pub(crate) fn head(source: &Source, tree: &mut [u32], st: State) -> Step
     requires { Ready (text source.now) st }
@@ -23,11 +26,11 @@ pub(crate) fn head(source: &Source, tree: &mut [u32], st: State) -> Step
     match choice::heads(st.class) {
         choice::FALSE_HEAD => {
             let a = source.advance(st);
-            Step::Next(a, 0, u32::from(MatchPattern::False))
+            Step::Next(a, NO_NAMES, u32::from(MatchPattern::False))
         }
         choice::TRUE_HEAD => {
             let b = source.advance(st);
-            Step::Next(b, 0, u32::from(MatchPattern::True))
+            Step::Next(b, NO_NAMES, u32::from(MatchPattern::True))
         }
         choice::NONE_HEAD => none(source, tree, st),
         choice::WRAPPED_HEAD => wrapped(source, tree, st),
@@ -47,7 +50,7 @@ fn none(source: &Source, tree: &mut [u32], st: State) -> Step
 {
     let a = source.advance(st);
     if a.class != class::DOUBLE_COLON {
-        return Step::Next(a, 0, u32::from(MatchPattern::None));
+        return Step::Next(a, NO_NAMES, u32::from(MatchPattern::None));
     }
     enum_path(source, tree, st, a)
 }
@@ -83,7 +86,7 @@ fn wrapped(source: &Source, tree: &mut [u32], st: State) -> Step
     let Step::Next(z, _, _) = paren else {
         return paren;
     };
-    Step::Next(z, 0, u32::from(wrapper(st.class)))
+    Step::Next(z, NO_NAMES, u32::from(wrapper(st.class)))
 }
 
 // An enum path: `st` is at its first name, and `a` behind that.
@@ -166,7 +169,7 @@ fn pairs(source: &Source, tree: &mut [u32], st: State) -> Step
 }
 
 // What follows the first pair, up to the parenthesis; and how many pairs there are with it.
-// A loop of its own, as `types::types` says.
+// One pair at least is there, and this begins behind it: no list of those that types.rt speaks of, so a loop of its own.
 fn more(source: &Source, tree: &mut [u32], st: State) -> Step
     requires { Ready (text source.now) st }
     ensures { Parses n-tail-pair MorePairs (text source.now) st tree.old tree.new result }

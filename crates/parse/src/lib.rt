@@ -61,7 +61,7 @@ pub enum ReadAs {
 
 // Writes the records of a draft and says how many: one with so many tokens, `RECORD_WORDS` words each, and zeros behind them; on a refusal every word
 // is 0. The first record of a file is that of the whole file. The last word of each record, its way up, is 0 too: crate `up` fills it.
-// The buffer may be longer than its tokens, so their number stands beside it.
+// Refusal 6 speaks of the number and of the buffer's words (`too_many`), so both are asked for.
 pub fn parse(
     draft: &[u8],
     tokens: &[u32],
@@ -73,13 +73,9 @@ pub fn parse(
     ensures tree { tree.new ≡ tree_of (entry_of what) draft_limits.tokens draft.now tokens.now count (length tree.old) }
 {
     let answer = parse_front(draft, tokens, count, tree, what);
-    let Ok(records) = answer else {
-        tree.fill(0);
-        return answer;
-    };
-    let used = RECORD_WORDS * records;
+    let used = RECORD_WORDS * answer.unwrap_or(0);
     text::clear_from(tree, used);
-    Ok(records)
+    answer
 }
 
 // As `parse`, for a caller that needs no zeros: the words behind the records stay; on a refusal the words may be anything.

@@ -1,7 +1,6 @@
 // Names: those that are records of their own, and what names say of types, patterns and calls.
 ghost use Rattle.std.specs.Prelude.{◌≡◌, [], ◌∷◌, if◌then◌else◌, nat_eq};
 ghost use Rattle.text.specs.Part.{part_of};
-ghost use Rattle.num.specs.Value.{number_of};
 ghost use Rattle.theory.specs.Grammar.{tok, nt};
 ghost use Rattle.lexer.specs.Classes as t;
 ghost use Rattle.own.specs.Numbers.{kind_number, call_number};
@@ -17,7 +16,7 @@ use own::call::CallName;
 use own::kind::Kind;
 use text::refusal::Refusal;
 
-// The names that are records of their own.
+// The names that are records of their own. It tells `name` which nonterminal is read (`name_nt`), and so which classes a table allows.
 #[derive(Clone, Copy, PartialEq, Eq, Debug)]
 pub(crate) enum NameSort {
     Identifier,
@@ -50,7 +49,7 @@ pub(crate) fn name(source: &Source, tree: &mut [u32], st: State, sort: NameSort)
 }
 
 // Names joined by `::`, each a record, and how many.
-// A loop of its own, as `types::types` says.
+// They are joined by `::`, and no token closes them: no list of those that types.rt speaks of, so a loop of its own.
 pub(crate) fn names(source: &Source, tree: &mut [u32], st: State) -> Step
     requires { Ready (text source.now) st }
     ensures { Parsed (text source.now) (nt n-identifier ∷ nt n-path-many-DoubleColon ∷ []) as_items Names st tree.old tree.new result }
@@ -78,30 +77,22 @@ pub(crate) fn names(source: &Source, tree: &mut [u32], st: State) -> Step
 pub(crate) fn type_name(class: u32) -> Head
     ensures { head (kind_number result.kind) result.low result.high ≡ type_name_head class }
 {
-    if class < class::BOOL_TYPE {
-        return Head::plain(Kind::Alias);
+    match class {
+        class::BOOL_TYPE => Head::plain(Kind::BoolType),
+        class::U1..=class::U256 => Head::with_low(Kind::Unsigned, 1 << (class - class::U1)),
+        class::CTX8..=class::LAST => Head::with_low(Kind::Builtin, class - class::CTX8),
+        _ => Head::plain(Kind::Alias),
     }
-    if class == class::BOOL_TYPE {
-        return Head::plain(Kind::BoolType);
-    }
-    if class < class::CTX8 {
-        return Head::with_low(Kind::Unsigned, 1 << (class - class::U1));
-    }
-    if class <= class::LAST {
-        return Head::with_low(Kind::Builtin, class - class::CTX8);
-    }
-    Head::plain(Kind::Alias)
 }
 
 // What a name is as a pattern: an identifier, or `_`.
-pub(crate) fn pattern_name(draft: &[u8], st: State) -> Kind
-    ensures { plain (kind_number result) ≡ pattern_name_head (part_of draft.now st.start st.stop) st.class }
+pub(crate) fn pattern_name(source: &Source, st: State) -> Kind
+    ensures { plain (kind_number result) ≡ pattern_name_head (part_of source.now.draft.now st.start st.stop) st.class }
 {
     if st.class != class::IDENT {
         return Kind::IdentifierPattern;
     }
-    let t = text::part(draft, st.start as usize, st.stop as usize);
-    if t == b"_".as_slice() {
+    if source.part(st) == b"_".as_slice() {
         return Kind::IgnorePattern;
     }
     Kind::IdentifierPattern
@@ -114,8 +105,7 @@ pub(crate) fn literal(class: u32) -> Head
     ensures { head (kind_number result.kind) result.low result.high ≡ literal_head class }
 {
     let kind = match class {
-        class::FALSE => Kind::Boolean,
-        class::TRUE => Kind::Boolean,
+        class::FALSE | class::TRUE => Kind::Boolean,
         class::DEC_LITERAL => Kind::Decimal,
         class::HEX_LITERAL => Kind::Hexadecimal,
         class::BIN_LITERAL => Kind::Binary,
@@ -177,20 +167,10 @@ pub(crate) fn wrapper(class: u32) -> Option<Kind>
 pub(crate) fn callee(tree: &mut [u32], st: State, a: State) -> State
     ensures { Called st a tree.old tree.new result }
 {
-    if st.class == class::JET {
-        return tree::name(tree, st, a);
-    }
-    if choice::names(st.class) == choice::FUNCTION_NAME {
+    if st.class == class::JET || choice::names(st.class) == choice::FUNCTION_NAME {
         return tree::name(tree, st, a);
     }
     a
-}
-
-// The number at the state's token.
-pub(crate) fn number(draft: &[u8], st: State) -> Option<u64>
-    ensures { result ≡ number_of (part_of draft.now st.start st.stop) }
-{
-    num::number(draft, st.start as usize, st.stop as usize)
 }
 
 // A decimal, as a record that holds its number.
@@ -202,7 +182,7 @@ pub(crate) fn decimal(source: &Source, tree: &mut [u32], st: State) -> Step
         return Step::Refused(st.at);
     }
     let a = source.advance(st);
-    let b = tree::decimal(tree, st, a, number(source.draft, st));
+    let b = tree::decimal(tree, st, a, source.number(st));
     Step::Next(b, 0, 0)
 }
 

@@ -36,7 +36,7 @@ fn named(source: &Source, tree: &mut [u32], st: State) -> Step
     ensures { Parses n-pattern (Node PatternKind) (text source.now) st tree.old tree.new result }
 {
     let a = source.advance(tree::reserve(st));
-    let kind = names::pattern_name(source.draft, st);
+    let kind = names::pattern_name(source, st);
     tree::close(tree, st, a, Head::plain(kind));
     Step::Next(a, 0, 0)
 }
@@ -51,7 +51,7 @@ fn kind(brackets: Brackets) -> Kind
     }
 }
 
-// `(p, …)` and `[p, …]`
+// `(p, …)` and `[p, …]`: no one reader with those of types and expressions, as `types::tuple` says.
 #[cycle(pattern)]
 #[inline(never)]
 fn bracketed(source: &Source, tree: &mut [u32], st: State, brackets: Brackets) -> Step

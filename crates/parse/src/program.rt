@@ -38,7 +38,8 @@ fn parameter(source: &Source, tree: &mut [u32], st: State) -> Step
     Step::Next(c, 0, 0)
 }
 
-// Parameters with commas between them, up to what closes them, and how many: a loop of its own, as `types::types` says.
+// Parameters with commas between them, up to what closes them, and how many. The lists of types, patterns and expressions go as this one but stand in cycles,
+// where types.rt says why each is a loop of its own: a list over any item would have this caller alone.
 fn parameters(source: &Source, tree: &mut [u32], st: State) -> Step
     requires { Ready (text source.now) st }
     ensures { Parses n-list-parameter Parameters (text source.now) st tree.old tree.new result }

@@ -1,6 +1,8 @@
 // The tokens of a draft, one by one. All is inlined where it is called, so that a state stays in registers, but for the look-up of words.
 ghost use Rattle.std.specs.Prelude.{◌≡◌, ◌||◌, ◌==◌};
 ghost use Rattle.lexer.specs.Classes as t;
+ghost use Rattle.text.specs.Part.{part_of};
+ghost use Rattle.num.specs.Value.{number_of};
 ghost use Rattle.parse.specs.Contract.{text, count_of, tok_at, Gives, next, Moved, Eaten, closing_class};
 
 use crate::{State, Step};
@@ -19,13 +21,13 @@ pub(crate) struct Lexeme {
     pub(crate) stop: u32,
 }
 
-// What is read: a draft and the words of its tokens. It goes to each function beside the tree and the state. A struct that lends the tree too was tried
+// What is read: a draft and its tokens, three words each. It goes to each function beside the tree and the state. A struct that lends the tree too was tried
 // on `program::parameters`: a method by `&mut self` has to promise besides that the source stays, each answer behind a call to carry that over, and the
 // borrow checker does not cover one that reads the source by its field in a loop.
 #[derive(Clone, Copy)]
 pub(crate) struct Source<'a> {
     pub(crate) draft: &'a [u8],
-    pub(crate) tokens: &'a [u32],
+    pub(crate) tokens: &'a [[u32; TOKEN_WORDS]],
 }
 
 impl Source<'_> {
@@ -34,7 +36,7 @@ impl Source<'_> {
     pub(crate) fn count(&self) -> usize
         ensures { result ≡ count_of self.now }
     {
-        self.tokens.len() / TOKEN_WORDS
+        self.tokens.len()
     }
 
     // The token of this number: its class, start and end; `END` with zeros past the last one.
@@ -43,18 +45,15 @@ impl Source<'_> {
     pub(crate) fn token(&self, at: usize) -> Lexeme
         ensures { Gives result (tok_at (text self.now) at) }
     {
-        if at < self.count() {
-            let kind = self.tokens[TOKEN_WORDS * at];
-            let start = self.tokens[TOKEN_WORDS * at + 1];
-            let stop = self.tokens[TOKEN_WORDS * at + 2];
-            let class = lexer::class(self.draft, kind, start as usize, stop as usize);
-            return Lexeme { class, start, stop };
-        }
-        Lexeme {
-            class: END,
-            start: 0,
-            stop: 0,
-        }
+        let Some(&[kind, start, stop]) = self.tokens.get(at) else {
+            return Lexeme {
+                class: END,
+                start: 0,
+                stop: 0,
+            };
+        };
+        let class = lexer::class(self.draft, kind, start as usize, stop as usize);
+        Lexeme { class, start, stop }
     }
 
     // The state at the next token; past the last one its number stays.
@@ -84,6 +83,20 @@ impl Source<'_> {
         }
         let next = self.advance(st);
         Step::Next(next, 0, 0)
+    }
+
+    // The bytes of the state's token,
+    pub(crate) fn part(&self, st: State) -> &[u8]
+        ensures { result.now ≡ part_of self.now.draft.now st.start st.stop }
+    {
+        text::part(self.draft, st.start as usize, st.stop as usize)
+    }
+
+    // and the number that they are, if they are one.
+    pub(crate) fn number(&self, st: State) -> Option<u64>
+        ensures { result ≡ number_of (part_of self.now.draft.now st.start st.stop) }
+    {
+        num::number(self.draft, st.start as usize, st.stop as usize)
     }
 }
 

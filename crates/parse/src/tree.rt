@@ -11,9 +11,6 @@ use own::call::CallName;
 use own::kind::Kind;
 use text::RECORD_WORDS;
 
-// How many numbers one of the two halves of a number may be.
-const HALF_RANGE: u64 = 4294967296;
-
 // The state with a record more.
 #[tactic(auto, unfolding(crate::specs::Contract::reserved))]
 pub(crate) fn reserve(st: State) -> State
@@ -23,21 +20,6 @@ pub(crate) fn reserve(st: State) -> State
         out: st.out.wrapping_add(1),
         ..st
     }
-}
-
-// The two halves of a number.
-#[tactic(auto, unfolding(grammar::specs::Records::Records::low_half))]
-fn low(n: u64) -> u32
-    ensures { result ≡ low_half n }
-{
-    (n % HALF_RANGE) as u32
-}
-
-#[tactic(auto, unfolding(grammar::specs::Records::Records::high_half))]
-fn high(n: u64) -> u32
-    ensures { result ≡ high_half n }
-{
-    (n / HALF_RANGE) as u32
 }
 
 // What a record says of itself beside its place and its size: its kind, and the two numbers that go with the kind.
@@ -70,14 +52,15 @@ impl Head {
         Head::with_low(Kind::Call, u32::from(name))
     }
 
-    // Of a kind and the two halves of a number.
+    // Of a kind and the two halves of a number. Each half fits a word by the mask or the shift: `u32::try_from` would have an answer that cannot be.
+    #[tactic(auto, unfolding(grammar::specs::Records::Records::low_half, grammar::specs::Records::Records::high_half))]
     fn of_number(kind: Kind, n: u64) -> Head
         ensures { result ≡ record { kind = kind; low = low_half n; high = high_half n } }
     {
         Head {
             kind,
-            low: low(n),
-            high: high(n),
+            low: (n & u64::from(u32::MAX)) as u32,
+            high: (n >> u32::BITS) as u32,
         }
     }
 }
@@ -88,17 +71,21 @@ fn put(tree: &mut [u32], here: u32, head: Head, start: u32, end: u32, size: u32)
 {
     let base = RECORD_WORDS * here as usize;
     if base + RECORD_WORDS <= tree.len() {
-        tree[base] = u32::from(head.kind);
-        tree[base + 1] = start;
-        tree[base + 2] = end;
-        tree[base + 3] = head.low;
-        tree[base + 4] = head.high;
-        tree[base + 5] = size;
-        tree[base + 6] = 0;
+        let words = [
+            u32::from(head.kind),
+            start,
+            end,
+            head.low,
+            head.high,
+            size,
+            0,
+        ];
+        tree[base..base + RECORD_WORDS].copy_from_slice(&words);
     }
 }
 
-// Writes the record that was reserved at the first state, over all that was read up to the second.
+// Writes the record that was reserved at the first state, over all that was read up to the second. This and the functions below take the buffer and two states:
+// a struct of the states would be made at each call and taken apart here at once, as lib.rt says of a cursor.
 pub(crate) fn close(tree: &mut [u32], from: State, to: State, head: Head)
     ensures { Put tree.old from.out (kind_number head.kind) from.start to.end head.low head.high (to.out - from.out) tree.new }
 {

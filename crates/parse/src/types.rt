@@ -135,13 +135,14 @@ fn list(source: &Source, tree: &mut [u32], st: State) -> Step
     let Step::Next(f, _, _) = angle else {
         return angle;
     };
-    let v = names::number(source.draft, d);
+    let v = source.number(d);
     tree::close_number(tree, st, f, Kind::ListType, v);
     let g = fault::judged(st, f, fault::placed(fault::bound(v), d.start));
     Step::Next(g, 0, 0)
 }
 
-// `(A, …)`: the one list in brackets here, since `[A; n]` is none, so there is nothing to choose by `Brackets`.
+// `(A, …)`: the one list in brackets here, since `[A; n]` is none, so there is nothing to choose by `Brackets`. One reader of brackets for types, patterns
+// and expressions would be handed what reads an item: the loop that `types` below speaks of.
 #[cycle(types)]
 #[inline(never)]
 fn tuple(source: &Source, tree: &mut [u32], st: State) -> Step
@@ -187,13 +188,13 @@ fn array(source: &Source, tree: &mut [u32], st: State) -> Step
     let Step::Next(e, _, _) = bracket else {
         return bracket;
     };
-    let v = names::number(source.draft, c);
+    let v = source.number(c);
     tree::close_number(tree, st, e, Kind::ArrayType, v);
     let f = fault::judged(st, e, fault::placed(fault::array_length(v), c.start));
     Step::Next(f, 0, 0)
 }
 
-// Types with commas between them, up to what closes them. Patterns, expressions and parameters have loops of their own. One loop was tried in small: over
+// Types with commas between them, up to what closes them. Patterns and expressions have loops of their own. One loop was tried in small: over
 // a trait's method a cycle of calls gets no proof. Over a closure it does, but a closure there has to state both clauses of its item and to capture
 // the place from which it may be called, and no ghost argument can name its rule: each would be as long as its loop.
 #[cycle(types)]

@@ -8,7 +8,9 @@ use native.Mathlib.Omega.{arith}
 use borrow.Author.Tests.{le-ltb, lt-leb}
 use lib.Dec.{ltb}
 use lib.ListN.{length, replicate, take, drop}
-use Rattle.text.specs.Front.{front}
+use Rattle.std.specs.Prelude.{Result, Ok, Err}
+use Rattle.std.specs.Result.{result_unwrap_or}
+use Rattle.text.specs.Front.{front, Held}
 use Rattle.text.proofs.Front.{front-cleared}
 use Rattle.lexer.specs.Lexemes.{Token, lexemes}
 use Rattle.lexer.specs.Limits.{draft_limits, room, lexed_of, tokens_of, token_words}
@@ -18,6 +20,7 @@ use Rattle.text.specs.Widths.{tok_wide, rec_wide}
 use Rattle.text.specs.Answers.{Answer, accepted, refused}
 use Rattle.text.specs.Refusals.{refusal_number}
 use Rattle.text.specs.declared.refusal.Refusal.TheVariants as refusal
+use Rattle.text.specs.declared.refusal.Refused.{Refused}
 use Rattle.own.specs.Tree.{Rec, classes_of}
 use Rattle.own.specs.Words.{rec_words}
 use Rattle.own.proofs.WordLaws.{record-words-length}
@@ -30,6 +33,8 @@ use Rattle.grammar.proofs.Answers.OutcomeLaws.{lexed-within}
 use Rattle.grammar.proofs.Answers.Laws.{law-1, token-buffer-lexed, law-4-refused}
 use Rattle.parse.specs.Contract.{u32_count}
 use Rattle.parse.specs.Entry.{too_many, too_long, reading_of, answer_of}
+use Rattle.reader.specs.declared.Counts.{Counts}
+use Rattle.reader.specs.Read.{meant}
 
 -- An accepted draft has as many records as were read.
 abbrev records_of : Answer → ℕ
@@ -138,6 +143,51 @@ module _ (en : Entry) where
 
   pub refused-tree : (draft : List ℕ) (tw rw : ℕ) {c p : ℕ} → answer en draft_limits draft tw rw ≡ refused c p → replicate rw 0 ≡ tree_buffer en draft_limits draft tw rw
   refused-tree draft tw rw {c} {p} e = sym (law-4-refused en draft_limits draft tw rw c p e).1
+
+  -- Whatever is answered, of a refusal no word: the words fit, and cleared behind them both buffers are those that are handed over.
+  module _ (draft old : List ℕ) (rw : ℕ) (r : Result Counts Refused) (e : meant r ≡ answer en draft_limits draft (length old) rw) {k : Counts} (none : Counts) (k_is : k ≡ result_unwrap_or r none) (zero_is : none.tokens ≡ 0) where
+    tokens-told : {u : Result Counts Refused} → r ≡ u → answer en draft_limits draft (length old) rw ≡ meant u
+    tokens-told q = sym e ∙ ap meant q
+
+    pub its-tokens-fit : tok_wide * k.tokens ≤ length old
+    its-tokens-fit = go r refl k_is
+      where
+        go : (u : Result Counts Refused) → r ≡ u → k ≡ result_unwrap_or u none → tok_wide * k.tokens ≤ length old
+        go (Ok c) q f = let n = ap (λ c. c.tokens) f in omega (arith, n, tokens-fit draft old rw (tokens-told q))
+        go (Err x) q f = let n = ap (λ c. c.tokens) f in omega (arith, n, zero_is)
+
+    pub its-tokens : {out : List ℕ} → length out ≡ length old → Held (meant r) (token_words (tokens_of (lexemes draft))) old out
+        → take (tok_wide * k.tokens) out ++ replicate (length out - tok_wide * k.tokens) 0 ≡ token_buffer en draft_limits draft (length old) rw
+    its-tokens {out} long h = go r refl k_is
+      where
+        cleared : ℕ → List ℕ
+        cleared n = take (tok_wide * n) out ++ replicate (length out - tok_wide * n) 0
+
+        go : (u : Result Counts Refused) → r ≡ u → k ≡ result_unwrap_or u none → cleared k.tokens ≡ token_buffer en draft_limits draft (length old) rw
+        go (Ok c) q f = ap (λ c. cleared c.tokens) f ∙ accepted-tokens draft old rw (tokens-told q) (h.holds _ _ (ap meant q))
+        go (Err x) q f = ap (λ c. cleared c.tokens) f ∙ ap cleared zero_is ∙ ap (λ n. replicate n 0) (omega (arith, long)) ∙ refused-tokens draft (length old) rw (tokens-told q)
+
+  module _ (draft old : List ℕ) (tw : ℕ) (r : Result Counts Refused) (e : meant r ≡ answer en draft_limits draft tw (length old)) {k : Counts} (none : Counts) (k_is : k ≡ result_unwrap_or r none) (zero_is : none.records ≡ 0) where
+    records-told : {u : Result Counts Refused} → r ≡ u → answer en draft_limits draft tw (length old) ≡ meant u
+    records-told q = sym e ∙ ap meant q
+
+    pub its-records-fit : rec_wide * k.records ≤ length old
+    its-records-fit = go r refl k_is
+      where
+        go : (u : Result Counts Refused) → r ≡ u → k ≡ result_unwrap_or u none → rec_wide * k.records ≤ length old
+        go (Ok c) q f = let n = ap (λ c. c.records) f in omega (arith, n, records-room draft old tw (records-told q))
+        go (Err x) q f = let n = ap (λ c. c.records) f in omega (arith, n, zero_is)
+
+    pub its-tree : {out : List ℕ} → length out ≡ length old → Held (meant r) (up_words (records_read en draft_limits draft tw)) old out
+        → take (rec_wide * k.records) out ++ replicate (length out - rec_wide * k.records) 0 ≡ tree_buffer en draft_limits draft tw (length old)
+    its-tree {out} long h = go r refl k_is
+      where
+        cleared : ℕ → List ℕ
+        cleared n = take (rec_wide * n) out ++ replicate (length out - rec_wide * n) 0
+
+        go : (u : Result Counts Refused) → r ≡ u → k ≡ result_unwrap_or u none → cleared k.records ≡ tree_buffer en draft_limits draft tw (length old)
+        go (Ok c) q f = ap (λ c. cleared c.records) f ∙ accepted-tree draft old tw (records-told q) (h.holds _ _ (ap meant q))
+        go (Err x) q f = ap (λ c. cleared c.records) f ∙ ap cleared zero_is ∙ ap (λ n. replicate n 0) (omega (arith, long)) ∙ refused-tree draft tw (length old) (records-told q)
 
   -- What the lexer refuses is refused.
   pub lexer-refused : (draft : List ℕ) (tw rw : ℕ) {c p : ℕ} → lexed_of draft_limits draft tw ≡ refused c p → answer en draft_limits draft tw rw ≡ refused c p

@@ -104,13 +104,13 @@ unfolding room
 short-listing draft tw h k = same-tokens draft (length draft) (few-tokens draft) tw (tok_wide * draft_limits.tokens) (rec_wide * records_most) (omega arith) (omega arith)
 
 -- So it is where that buffer has room for as many tokens as the draft has bytes or as any may have, whichever are fewer.
-pub roomy_listing : (draft : List ℕ) (tw : ℕ) {n : ℕ} → n ≡ tw → (tok_wide * min (length draft) draft_limits.tokens ≤ tw) × (tw ≤ tok_wide * draft_limits.tokens)
-    → listing whole_file draft_limits draft n (rec_wide * records_most) ≡ listing_of draft
-roomy_listing draft tw {n} e h = go (cases_lt draft_limits.tokens (length draft))
+pub roomy_listing : (draft : List ℕ) (tw : ℕ) → tok_wide * min (length draft) draft_limits.tokens ≤ tw → tw ≤ tok_wide * draft_limits.tokens
+    → listing whole_file draft_limits draft tw (rec_wide * records_most) ≡ listing_of draft
+roomy_listing draft tw h k = go (cases_lt draft_limits.tokens (length draft))
   where
-    go : (draft_limits.tokens < length draft) ⊎ (length draft ≤ draft_limits.tokens) → listing whole_file draft_limits draft n (rec_wide * records_most) ≡ listing_of draft
-    go (inl l) = let q : n ≡ tok_wide * draft_limits.tokens = omega (arith, e, h, l) in ap (λ (m : ℕ). listing whole_file draft_limits draft m (rec_wide * records_most)) q
-    go (inr l) = short-listing draft n (omega (arith, e, h, l)) (omega (arith, e, h))
+    go : (draft_limits.tokens < length draft) ⊎ (length draft ≤ draft_limits.tokens) → listing whole_file draft_limits draft tw (rec_wide * records_most) ≡ listing_of draft
+    go (inl l) = let q : tw ≡ tok_wide * draft_limits.tokens = omega (arith, h, k, l) in ap (λ (m : ℕ). listing whole_file draft_limits draft m (rec_wide * records_most)) q
+    go (inr l) = short-listing draft tw (omega (arith, h, l)) k
 
 -- And by buffers for as many tokens as it has bytes, and the records of as many.
 pub short-buffers : (draft : List ℕ) (k : ℕ) → length draft ≤ k → k ≤ draft_limits.tokens

@@ -1,4 +1,5 @@
 pub mod Read
 pub mod Listed
+pub mod Arrays
 pub mod Fits
 pub mod Loading

@@ -18,6 +18,7 @@ use parse::ReadAs;
 use text::refusal::Refused;
 use text::{RECORD_WORDS, TOKEN_WORDS};
 
+mod arrays;
 pub mod entry;
 mod lexed;
 pub mod loading;
@@ -40,8 +41,8 @@ pub fn read(draft: &[u8], tokens: &mut [u32], tree: &mut [u32]) -> Result<Counts
     read_as(draft, tokens, tree, ReadAs::Function)
 }
 
-// Reads a file, functions and type items: the same, and the first record is that of the whole file.
-// Two functions, since both are promised by name.
+// Reads a file, functions and type items: the same, and the first record is that of the whole file. Two functions, since both names are published (README.md,
+// docs/REFUSALS.md), and what a public function promises stays; `read_as` does the work of both.
 pub fn read_file(draft: &[u8], tokens: &mut [u32], tree: &mut [u32]) -> Result<Counts, Refused>
     ensures answer { meant result ≡ answer whole_file draft_limits draft.now (length tokens.old) (length tree.old) }
     ensures values { returned result ≡ values (answer whole_file draft_limits draft.now (length tokens.old) (length tree.old)) }
@@ -65,14 +66,13 @@ fn read_as(
     ensures tree { tree.new ≡ tree_buffer (entry_of what) draft_limits draft.now (length tokens.old) (length tree.old) }
 {
     let reading = read_front(draft, tokens, tree, what);
-    let Ok(counts) = reading else {
-        tokens.fill(0);
-        tree.fill(0);
-        return reading;
-    };
+    let counts = reading.unwrap_or(Counts {
+        tokens: 0,
+        records: 0,
+    });
     text::clear_from(tokens, TOKEN_WORDS * counts.tokens);
     text::clear_from(tree, RECORD_WORDS * counts.records);
-    Ok(counts)
+    reading
 }
 
 // The same, where the words behind those of the tokens and of the records stay as they are.

@@ -10,6 +10,7 @@ ghost use Rattle.std.specs.Iterator.{at_most};
 
 use own::arm::MatchPattern;
 use own::kind::Kind;
+use parse::ReadAs;
 use text::{RECORD_WORDS, TOKEN_WORDS};
 
 // The words of a token and of a record.
@@ -34,7 +35,7 @@ impl Place {
     }
 }
 
-// A token by its words.
+// A token by its words. Its kind stays a number, as `lexer::class` takes it.
 #[derive(Clone, Copy, PartialEq, Eq, Debug)]
 struct Token {
     kind: u32,
@@ -54,8 +55,9 @@ impl From<&TokenWords> for Token {
     }
 }
 
-// A record by its words.
-// All seven words; the record of `load` is the six that a line of either form has, and stays in its crate.
+// A record by all its seven words; the record of `load` is the six that a line of either form has, and stays in its crate.
+// The kind stays a number, which a reader that is wrong may make any: `kinds::may_hold` and `may_own` take numbers and refuse those of no kind, so an
+// `Option<Kind>` would be turned back at each of their calls.
 #[derive(Clone, Copy, PartialEq, Eq, Debug)]
 struct Record {
     kind: u32,
@@ -109,7 +111,8 @@ impl<'a> Node<'a> {
     }
 }
 
-// Records that lie one behind the other, each with what is beneath it.
+// Records that lie one behind the other, each with what is beneath it. An iterator beside `Nodes`: one of both would be handed a flag for the one line in which
+// they differ.
 #[derive(Drop)]
 struct Children<'a>(&'a [RecordWords]);
 
@@ -255,8 +258,15 @@ impl<'a> Accepted<'a> {
             && self.counts_agree()
     }
 
+    pub(crate) fn is_owned_as(self, what: ReadAs) -> bool {
+        match what {
+            ReadAs::Function => self.is_function_owned(),
+            ReadAs::File => self.is_file_owned(),
+        }
+    }
+
     // Whether they hold of one tree: the first record's size is the number of records.
-    pub(crate) fn is_function_owned(self) -> bool {
+    fn is_function_owned(self) -> bool {
         let Some(first) = self.records.first().map(Record::from) else {
             return false;
         };
@@ -265,7 +275,7 @@ impl<'a> Accepted<'a> {
 
     // Whether they hold of a file: the first record, which is no other's kind, counts all records, owns no token and holds its items; the four checks hold of
     // all others.
-    pub(crate) fn is_file_owned(self) -> bool {
+    fn is_file_owned(self) -> bool {
         let Some((words, records)) = self.records.split_first() else {
             return false;
         };

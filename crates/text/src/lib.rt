@@ -20,6 +20,7 @@ pub fn part(draft: &[u8], start: usize, end: usize) -> &[u8]
 }
 
 // The byte at i, 0 past the end, as the definitions read a draft (`get_or`): callers compare it with marks, digits and letters, and none of these is 0.
+// As an `Option`, callers that take its class or test a range would unwrap it to 0 again.
 pub fn peek(s: &[u8], i: usize) -> u8
     ensures { result ≡ get_or s.now i 0 }
 {

@@ -1,5 +1,5 @@
 // The refusals: document 01, "What the reader hands over"; from 16 on those of the later requests. A refusal's number is what callers see.
-ghost use Rattle.std.specs.Prelude.{◌≡◌, Some};
+ghost use Rattle.std.specs.Prelude.{◌≡◌, ◌++◌, Some, codes};
 ghost use Rattle.std.specs.Fmt.{decimal};
 ghost use Rattle.text.specs.Refusals.{refusal_number};
 
@@ -73,4 +73,13 @@ impl fmt::Display for Refusal {
 pub struct Refused {
     pub refusal: Refusal,
     pub place: usize,
+}
+
+// As the papers write it: `8 at 20`.
+impl fmt::Display for Refused {
+    ghost output = { λ r. Some (decimal (refusal_number r.refusal) ++ (codes " at " ++ decimal r.place)) };
+
+    fn fmt<W: fmt::Write>(&self, f: &mut fmt::Formatter<W>) -> fmt::Result {
+        write!(f, "{} at {}", self.refusal, self.place)
+    }
 }

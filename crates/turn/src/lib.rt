@@ -13,7 +13,7 @@ const THREE: usize = 3 * RECORD_WORDS;
 const FOUR: usize = 4 * RECORD_WORDS;
 
 // Moves all but the last c elements to the end; the first c stay where they are. The distance is known where it is compiled for one to four records: that is
-// a `memmove`.
+// a `memmove`. With the last arm alone the case `matches` of bench/reader took 20 percent more instructions, more than plain Rust.
 fn up_records(a: &mut [u32], c: usize)
     requires { c ≤ length a.old }
     ensures { a.new ≡ take c a.old ++ take (length a.old - c) a.old }
@@ -41,7 +41,8 @@ fn first_aside(a: &mut [u32], spare: &mut [u32])
     a[n..].copy_from_slice(spare);
 }
 
-// Puts the last elements of a slice before the others, as many as the spare slice has. A function of its own, since the parts move the other way.
+// Puts the last elements of a slice before the others, as many as the spare slice has. One function of this and `first_aside` would take three ranges, of the
+// part set aside, of the part that moves and of where the first goes, and its clause would say where each stands.
 fn last_aside(a: &mut [u32], spare: &mut [u32])
     requires { length spare.old ≤ length a.old }
     ensures { a.new ≡ drop (length a.old - length spare.old) a.old ++ take (length a.old - length spare.old) a.old }
@@ -75,7 +76,7 @@ fn by_array<const N: usize>(a: &mut [u32], k: usize)
 }
 
 // Puts what follows the first k elements before them; a slice of k elements or fewer stays as it is. std's rotation clears 4 KiB each time, so it is for long
-// parts alone.
+// parts alone: with nothing else the case `matches` of bench/reader took 2.3 times the instructions and `escrow` 6 percent more, both more than plain Rust.
 pub fn rotate(a: &mut [u32], k: usize)
     ensures { a.new ≡ drop k a.old ++ take k a.old }
 {

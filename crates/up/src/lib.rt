@@ -15,6 +15,8 @@ const SIZE: usize = 5;
 pub const UP: usize = 6;
 
 // Records one after the other, of which each has a size and may have a way up: the words of a tree, or the lines of a listing.
+// `size` and `way` ask for a record that there is: with `get`, and 0 past the end, for the words of a tree alone, loading 1,167 lines took 862,923 instructions
+// in place of 850,111.
 pub trait Records {
     // How many there are, and what the place of each says.
     ghost count: { Self → ℕ };
@@ -98,6 +100,7 @@ pub fn way_up(tree: &mut [u32], records: usize)
     let mut p = 0;
     for i in 1..records {
         p = above(&Tree { words: tree }, p, i);
+        // It fits a word, as `above` promises: `u32::try_from` would have an answer that cannot be.
         tree[RECORD_WORDS * i + UP] = (i - p) as u32;
     }
 }

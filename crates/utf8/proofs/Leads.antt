@@ -1,12 +1,12 @@
 -- The sequence at a place by its first byte: the alternatives that are left behind each byte over 127, computed over all of them at once.
 -- Assumes nothing.
-use mathlib.Core.Bool.{Bool, true, false, cond, ◌&&◌, ◌||◌, and-false}
+use mathlib.Core.Bool.{Bool, true, false, cond, ◌&&◌}
 use mathlib.Core.List.{List, [], ◌∷◌}
 use mathlib.Core.Path.{◌≡◌, refl, sym, ◌∙◌, ap, ap₂}
 use Prim.Native.Nat.{ℕ, suc, ◌+◌, ◌-◌, ◌≤◌, ◌<◌}
 use native.Mathlib.Numerals.{add-one}
 use native.Mathlib.Omega.{arith}
-use borrow.Author.Tests.{le-leb, lt-leb, lt-ltb, le-ltb, eqb-true, ltb-true, ltb-false, leb-true, leb-false}
+use borrow.Author.Tests.{lt-leb, lt-ltb, le-ltb, eqb-true, leb-true, leb-false}
 use lib.Dec.{T, eqb, leb, ltb}
 use lib.ListN.{length, get_or, drop, replicate, length-replicate, get_or-eq_default, drop_of_length-le}
 use lib.Seq.{drop-cons}
@@ -16,7 +16,10 @@ use Rattle.text.proofs.Table.{at, is_true}
 use Rattle.text.specs.Ranges.{Range, bytes, of}
 use Rattle.text.proofs.Rest.{rest-cons}
 use Rattle.utf8.specs.Utf8.{utf8_char, tail, fits, sequence, char_length}
-use Rattle.utf8.specs.Second.{outside_of, least_second, most_second}
+use Rattle.std.specs.Prelude.{None}
+use Rattle.std.specs.Bool.{then_some}
+use Rattle.utf8.specs.Found.{if_any, char_found}
+use Rattle.utf8.specs.Second.{second, least_second}
 
 -- ---- equal lists by a test
 
@@ -76,9 +79,6 @@ first-apart ((g ∷ gs) ∷ others) e b r = go (of g b) (first-apart others e b 
     go false h = h
 
 -- the alternative behind each byte over 127
-abbrev second : ℕ → Range
-second b = bytes (least_second b) (most_second b)
-
 abbrev left_over : ℕ → List (List Range)
 left_over b =
     cond (ltb b 0xC2) []
@@ -104,21 +104,6 @@ left_at b h l =
 
 -- ---- one byte behind the other
 
--- a byte outside the range, or in it
-out_of : (least most c : ℕ) → outside_of least most c ≡ true → of (bytes least most) c ≡ false
-out_of least most c e = go (ltb c least) refl e
-  where
-    go : (t : Bool) → ltb c least ≡ t → (t || ltb most c) ≡ true → (leb least c && leb c most) ≡ false
-    go true p q = rw (lt-leb least c (ltb-true c least p)) refl
-    go false p q = rw (lt-leb c most (ltb-true most c q)) (and-false (leb least c))
-
-in-range : (least most c : ℕ) → outside_of least most c ≡ false → of (bytes least most) c ≡ true
-in-range least most c e = go (ltb c least) refl e
-  where
-    go : (t : Bool) → ltb c least ≡ t → (t || ltb most c) ≡ false → (leb least c && leb c most) ≡ true
-    go true p q = differ (sym q)
-    go false p q = rw (le-leb least c (ltb-false c least p), le-leb c most (ltb-false most c q)) refl
-
 -- past the end no range has a byte
 fits_next : (g : Range) (gs : List Range) (s : List ℕ) (i k : ℕ) → 1 ≤ g.least → i + 1 ≡ k → fits (g ∷ gs) (drop i s) ≡ (of g (get_or s i 0) && fits gs (drop k s))
 unfolding fits
@@ -139,9 +124,17 @@ second-some b = go (eqb b 0xE0) (eqb b 0xF0)
     go false true = omega arith
     go false false = omega arith
 
-cond_both : (t : Bool) → cond {A = ℕ} t 0 0 ≡ 0
-cond_both true = refl
-cond_both false = refl
+found_if : (t : Bool) (n : ℕ) → then_some t (suc n) ≡ if_any (cond (t && true) (suc n) 0)
+found_if true n = refl
+found_if false n = refl
+
+found_if₂ : (t u : Bool) (n : ℕ) → then_some (t && u) (suc n) ≡ if_any (cond (t && (u && true)) (suc n) 0)
+found_if₂ true u n = found_if u n
+found_if₂ false u n = refl
+
+found_if₃ : (t u v : Bool) (n : ℕ) → then_some (t && (u && v)) (suc n) ≡ if_any (cond (t && (u && (v && true))) (suc n) 0)
+found_if₃ true u v n = found_if₂ u v n
+found_if₃ false u v n = refl
 
 -- b is the byte at i, and over 127
 pub record Lead (s : List ℕ) (i b : ℕ) : Type 0 where
@@ -160,13 +153,34 @@ module _ (s : List ℕ) (i b : ℕ) (w : Lead s i b) where
       ap (λ l. char_length l) (rest-cons s i b w.within (sym w.first)) ∙ first-apart utf8_char refl b (drop (suc i) s)
       ∙ ap₂ (λ x n. tried x (drop n s)) (left_at b w.over w.byte) (sym (add-one i))
 
-  pub lead-under : b < 0xC2 → 0 ≡ char_length (drop i s)
+  under-length : b < 0xC2 → char_length (drop i s) ≡ 0
   unfolding tried
-  lead-under x = sym (base ∙ simp (lt-ltb b 0xC2 x))
+  under-length x = base ∙ simp (lt-ltb b 0xC2 x)
 
-  pub lead-over : 0xE0 ≤ b → 0xF4 < b → 0 ≡ char_length (drop i s)
+  pub under : b < 0xC2 → None ≡ char_found (drop i s)
+  under x = ap if_any (sym (under-length x))
+
+  over-length : 0xF4 < b → char_length (drop i s) ≡ 0
   unfolding tried
-  lead-over y x = sym (base ∙ simp (le-ltb b 0xC2 (omega arith), le-ltb b 0xE0 (omega arith), lt-ltb 0xF4 b x))
+  over-length x = base ∙ simp (le-ltb b 0xC2 (omega arith), le-ltb b 0xE0 (omega arith), lt-ltb 0xF4 b x)
+
+  pub over : 0xF4 < b → None ≡ char_found (drop i s)
+  over x = ap if_any (sym (over-length x))
+
+  -- a sequence that is cut off behind its first byte is none
+  cut-length : length s ≤ i + 1 → char_length (drop i s) ≡ 0
+  unfolding tried fits
+  cut-length h = base ∙ ap (tried (left_over b)) (drop_of_length-le s h) ∙ go (ltb b 0xC2) (ltb b 0xE0) (ltb 0xF4 b) (ltb b 0xF0)
+    where
+      go : (t u v w : Bool) → tried (cond t [] (cond u ((tail ∷ []) ∷ []) (cond v [] (cond w ((second b ∷ tail ∷ []) ∷ []) ((second b ∷ tail ∷ tail ∷ []) ∷ []))))) [] ≡ 0
+      go true u v w = refl
+      go false true v w = refl
+      go false false true w = refl
+      go false false false true = refl
+      go false false false false = refl
+
+  pub cut : length s ≤ i + 1 → None ≡ char_found (drop i s)
+  cut h = ap if_any (sym (cut-length h))
 
   -- the bytes behind the first, range by range
   one_more : (g : Range) → 1 ≤ g.least → fits (g ∷ []) (drop (i + 1) s) ≡ (of g (get_or s (i + 1) 0) && true)
@@ -188,47 +202,48 @@ module _ (s : List ℕ) (i b : ℕ) (w : Lead s i b) where
       ∙ ap (λ t. of tail (get_or s (i + 2) 0) && t) (fits_next tail [] s (i + 3) (i + 4) (omega arith) (omega arith)))
 
   -- two bytes
-  two : 0xC2 ≤ b → b < 0xE0 → char_length (drop i s) ≡ cond (of tail (get_or s (i + 1) 0) && true) 2 0
+  two-length : 0xC2 ≤ b → b < 0xE0 → char_length (drop i s) ≡ cond (of tail (get_or s (i + 1) 0) && true) 2 0
   unfolding tried
-  two x y = base ∙ simp (le-ltb b 0xC2 x, lt-ltb b 0xE0 y, one_more tail (omega arith))
+  two-length x y = base ∙ simp (le-ltb b 0xC2 x, lt-ltb b 0xE0 y, one_more tail (omega arith))
 
-  pub two-not : 0xC2 ≤ b → b < 0xE0 → outside_of 0x80 0xBF (get_or s (i + 1) 0) ≡ true → 0 ≡ char_length (drop i s)
-  two-not x y o = sym (two x y ∙ ap (λ t. cond (t && true) 2 0) (out_of 0x80 0xBF (get_or s (i + 1) 0) o))
+  pub two : 0xC2 ≤ b → b < 0xE0 → then_some (of tail (get_or s (i + 1) 0)) 2 ≡ char_found (drop i s)
+  two x y = found_if _ 1 ∙ ap if_any (sym (two-length x y))
 
-  pub two-yes : 0xC2 ≤ b → b < 0xE0 → outside_of 0x80 0xBF (get_or s (i + 1) 0) ≡ false → 2 ≡ char_length (drop i s)
-  two-yes x y o = sym (two x y ∙ ap (λ t. cond (t && true) 2 0) (in-range 0x80 0xBF (get_or s (i + 1) 0) o))
+  -- three
+  three-length : 0xE0 ≤ b → b < 0xF0 → char_length (drop i s) ≡ cond (of (second b) (get_or s (i + 1) 0) && (of tail (get_or s (i + 2) 0) && true)) 3 0
+  unfolding tried
+  three-length x y =
+      base ∙ simp (le-ltb b 0xC2 (omega arith), le-ltb b 0xE0 x, le-ltb 0xF4 b (omega arith), lt-ltb b 0xF0 y)
+      (ap (λ t. cond t 3 0) (two-more (second b) (second-some b)))
 
-  -- three or four
-  module _ (x : 0xE0 ≤ b) (y : b ≤ 0xF4) where
-    long : char_length (drop i s) ≡ cond (ltb b 0xF0)
-        (cond (of (second b) (get_or s (i + 1) 0) && (of tail (get_or s (i + 2) 0) && true)) 3 0)
-        (cond (of (second b) (get_or s (i + 1) 0) && (of tail (get_or s (i + 2) 0) && (of tail (get_or s (i + 3) 0) && true))) 4 0)
-    unfolding tried
-    long = base ∙ simp (le-ltb b 0xC2 (omega arith), le-ltb b 0xE0 x, le-ltb 0xF4 b y) (go (ltb b 0xF0))
-      where
-        go : (t : Bool) → tried (cond t ((second b ∷ tail ∷ []) ∷ []) ((second b ∷ tail ∷ tail ∷ []) ∷ [])) (drop (i + 1) s) ≡ cond t
-            (cond (of (second b) (get_or s (i + 1) 0) && (of tail (get_or s (i + 2) 0) && true)) 3 0)
-            (cond (of (second b) (get_or s (i + 1) 0) && (of tail (get_or s (i + 2) 0) && (of tail (get_or s (i + 3) 0) && true))) 4 0)
-        go true = ap (λ t. cond t 3 0) (two-more (second b) (second-some b))
-        go false = ap (λ t. cond t 4 0) (three-more (second b) (second-some b))
+  pub three : 0xE0 ≤ b → b < 0xF0 → then_some (of (second b) (get_or s (i + 1) 0) && of tail (get_or s (i + 2) 0)) 3 ≡ char_found (drop i s)
+  three x y = found_if₂ _ _ 2 ∙ ap if_any (sym (three-length x y))
 
-    pub second-not : outside_of (least_second b) (most_second b) (get_or s (i + 1) 0) ≡ true → 0 ≡ char_length (drop i s)
-    second-not o = sym (long ∙ simp (out_of (least_second b) (most_second b) (get_or s (i + 1) 0) o) (cond_both (ltb b 0xF0)))
+  -- four
+  four-length : 0xF0 ≤ b → b ≤ 0xF4
+      → char_length (drop i s) ≡ cond (of (second b) (get_or s (i + 1) 0) && (of tail (get_or s (i + 2) 0) && (of tail (get_or s (i + 3) 0) && true))) 4 0
+  unfolding tried
+  four-length x y =
+      base ∙ simp (le-ltb b 0xC2 (omega arith), le-ltb b 0xE0 (omega arith), le-ltb 0xF4 b y, le-ltb b 0xF0 x)
+      (ap (λ t. cond t 4 0) (three-more (second b) (second-some b)))
 
-    module _ (o : outside_of (least_second b) (most_second b) (get_or s (i + 1) 0) ≡ false) where
-      pub third-not : outside_of 0x80 0xBF (get_or s (i + 2) 0) ≡ true → 0 ≡ char_length (drop i s)
-      third-not p = sym (long ∙ simp (in-range (least_second b) (most_second b) (get_or s (i + 1) 0) o, out_of 0x80 0xBF (get_or s (i + 2) 0) p) (cond_both (ltb b 0xF0)))
+  pub four : 0xF0 ≤ b → b ≤ 0xF4
+      → then_some (of (second b) (get_or s (i + 1) 0) && (of tail (get_or s (i + 2) 0) && of tail (get_or s (i + 3) 0))) 4 ≡ char_found (drop i s)
+  four x y = found_if₃ (of (second b) (get_or s (i + 1) 0)) (of tail (get_or s (i + 2) 0)) (of tail (get_or s (i + 3) 0)) 3 ∙ ap if_any (sym (four-length x y))
 
-      module _ (p : outside_of 0x80 0xBF (get_or s (i + 2) 0) ≡ false) where
-        pub three-yes : b < 0xF0 → 3 ≡ char_length (drop i s)
-        three-yes q = sym (long ∙ simp (lt-ltb b 0xF0 q, in-range (least_second b) (most_second b) (get_or s (i + 1) 0) o, in-range 0x80 0xBF (get_or s (i + 2) 0) p))
+-- ---- the rows, by the bytes there
 
-        pub fourth-not : 0xF0 ≤ b → outside_of 0x80 0xBF (get_or s (i + 3) 0) ≡ true → 0 ≡ char_length (drop i s)
-        fourth-not q r = sym (long ∙ simp (le-ltb b 0xF0 q, in-range (least_second b) (most_second b) (get_or s (i + 1) 0) o, in-range 0x80 0xBF (get_or s (i + 2) 0) p, out_of 0x80 0xBF (get_or s (i + 3) 0) r))
+module _ (s : List ℕ) (i : ℕ) (h : i < length s) where
+  there : 0xC2 ≤ get_or s i 0 → get_or s i 0 ≤ 0xF4 → Lead s i (get_or s i 0)
+  there x y = record { within = h; first = refl; over = omega arith; byte = omega arith }
 
-        pub four-yes : 0xF0 ≤ b → outside_of 0x80 0xBF (get_or s (i + 3) 0) ≡ false → 4 ≡ char_length (drop i s)
-        four-yes q r = sym (long ∙ simp (le-ltb b 0xF0 q, in-range (least_second b) (most_second b) (get_or s (i + 1) 0) o, in-range 0x80 0xBF (get_or s (i + 2) 0) p, in-range 0x80 0xBF (get_or s (i + 3) 0) r))
+  pub row_two : 0xC2 ≤ get_or s i 0 → get_or s i 0 < 0xE0 → char_found (drop i s) ≡ then_some (of tail (get_or s (i + 1) 0)) 2
+  row_two x y = sym (two s i (get_or s i 0) (there x (omega arith)) x y)
 
--- a byte looked at and judged, as the code has it
-pub seen : (least least' most most' c x : ℕ) (r t : Bool) → least ≡ least' → most ≡ most' → c ≡ x → r ≡ outside_of least most c → r ≡ t → outside_of least' most' x ≡ t
-seen least least' most most' c x r t a b d e f = rw (← a, ← b, ← d) (sym e ∙ f)
+  pub row_three : 0xE0 ≤ get_or s i 0 → get_or s i 0 < 0xF0
+      → char_found (drop i s) ≡ then_some (of (second (get_or s i 0)) (get_or s (i + 1) 0) && of tail (get_or s (i + 2) 0)) 3
+  row_three x y = sym (three s i (get_or s i 0) (there (omega arith) (omega arith)) x y)
+
+  pub row_four : 0xF0 ≤ get_or s i 0 → get_or s i 0 ≤ 0xF4
+      → char_found (drop i s) ≡ then_some (of (second (get_or s i 0)) (get_or s (i + 1) 0) && (of tail (get_or s (i + 2) 0) && of tail (get_or s (i + 3) 0))) 4
+  row_four x y = sym (four s i (get_or s i 0) (there (omega arith) y) x y)

@@ -1,10 +1,7 @@
--- The second byte of a sequence by its first, as the code tests it.
+-- The second byte of a sequence by its first.
 -- Assumes nothing.
-use Rattle.std.specs.Prelude.{Bool, cond, ◌||◌, ℕ, eqb, ltb}
-
--- a byte is not from one to another
-abbrev pub outside_of : ℕ → ℕ → ℕ → Bool
-outside_of least most b = ltb b least || ltb most b
+use Rattle.std.specs.Prelude.{cond, ℕ, eqb}
+use Rattle.text.specs.Ranges.{Range, bytes}
 
 -- the least and the most second byte behind the first byte of a sequence of three or four
 abbrev pub least_second : ℕ → ℕ
@@ -12,3 +9,7 @@ least_second b = cond (eqb b 0xE0) 0xA0 (cond (eqb b 0xF0) 0x90 0x80)
 
 abbrev pub most_second : ℕ → ℕ
 most_second b = cond (eqb b 0xED) 0x9F (cond (eqb b 0xF4) 0x8F 0xBF)
+
+-- the range from one to the other
+abbrev pub second : ℕ → Range
+second b = bytes (least_second b) (most_second b)

@@ -17,9 +17,9 @@ use Rattle.text.proofs.SameLaws.{same_true}
 use Rattle.words.specs.Words.{FUNCTION_RESERVED, KEYWORDS, MACROS, MODULE_RESERVED, RULE_NAMES, BOOLEANS, RULE_WORDS, UINT_TYPES, BUILTIN_ALIASES, BOOL, TYPE_NAMES}
 use Rattle.words.specs.declared.lookup.Words.{Words}
 use Rattle.words.specs.Layout.{entries, letters, slot_of}
-use Rattle.words.specs.Lies.{Lies, listed, Finds, Only}
+use Rattle.words.specs.Lies.{Lies, listed, AtMost, Finds, Only}
 use Rattle.words.proofs.Right.{Says}
-use Rattle.words.proofs.Constants.{starts, sizes}
+use Rattle.words.proofs.Constants.{places}
 
 -- ---- one test for each word of a table
 
@@ -49,21 +49,26 @@ listed-at w k h = get_or-take w.count (drop w.first entries) k [] h ∙ get_or-d
 pub found : (w : Words) → T (are_found w) → Finds w
 found w t =
     let within : w.first + w.count ≤ length entries = leb→le (w.first + w.count) (length entries) (first-of _ _ t) in
+    let counted : (k : ℕ) → k < length (listed w) → k < w.count = λ k h. omega (arith, h, listed-length w within) in
     let pass : (k : ℕ) → k < w.count → (i : ℕ) → T (get_or (word_tests w k (get_or (listed w) k [])) i true) =
     λ k h. each (word_tests w k (get_or (listed w) k [])) (at (λ k l. all (word_tests w k l)) (listed w) [] (second-of _ _ t) k (omega (arith, listed-length w within))) in
     record {
       within = within;
       least = λ k h. leb→le _ _ (pass k h 0);
-      most = λ k h. leb→le _ _ (pass k h 1);
+      most = record { short = λ k h. leb→le _ _ (pass k (counted k h) 1) };
       held = λ k h. eqb→eq _ _ (pass k h 2);
     }
+
+-- bytes that are longer than every word of a list are none of them
+pub too_long : {ws : List (List ℕ)} {n : ℕ} → AtMost ws n → (p : List ℕ) → n < length p → Says ws p None
+too_long m p s k l e = omega (arith, m.short k l, ap length e)
 
 -- What it means for a part that the words are found: none has another length, and it can be no other than the one that its slot holds.
 pub beyond : (w : Words) (p : List ℕ) → Finds w → (2 ≤ length p → length p ≤ w.longest → ⊥) → Says (listed w) p None
 beyond w p f n k h e =
     let l : k < w.count = omega (arith, listed-length w f.within) in
     let n₁ : 2 ≤ length p = omega (arith, f.least k l, ap length e) in
-    let n₂ : length p ≤ w.longest = omega (arith, f.most k l, ap length e) in
+    let n₂ : length p ≤ w.longest = omega (arith, f.most.short k h, ap length e) in
     n n₁ n₂
 
 pub only_at : (w : Words) (p : List ℕ) {s r : ℕ} → Finds w → s ≡ slot_of w.multipliers p → r ≡ get_or w.slots s 0 → Only (listed w) p r
@@ -86,22 +91,23 @@ letter-count = refl
 -- what is tested of entry e, whose bytes are w: its size, and that it stands among the letters
 abbrev entry_tests : ℕ → List ℕ → List Bool
 entry_tests e w =
-    eqb (get_or sizes e 0) (length w) ∷
-    leb (get_or starts e 0 + length w) 359 ∷
-    same (take (length w) (drop (get_or starts e 0) letters)) w ∷ []
+    let place = get_or places e (0, 0) in
+    eqb place.1 (length w) ∷
+    leb (place.0 + length w) 359 ∷
+    same (take (length w) (drop place.0 letters)) w ∷ []
 
 entries-pass : T (every (λ e w. all (entry_tests e w)) 0 entries)
-unfolding same entries letters sizes starts FUNCTION_RESERVED KEYWORDS MACROS MODULE_RESERVED RULE_NAMES BOOLEANS RULE_WORDS UINT_TYPES BUILTIN_ALIASES BOOL TYPE_NAMES ascii ascii_from
+unfolding same entries letters places FUNCTION_RESERVED KEYWORDS MACROS MODULE_RESERVED RULE_NAMES BOOLEANS RULE_WORDS UINT_TYPES BUILTIN_ALIASES BOOL TYPE_NAMES ascii ascii_from
 entries-pass = tt
 
 module _ (e : ℕ) (h : e < 77) where
   entry-pass : (i : ℕ) → T (get_or (entry_tests e (get_or entries e [])) i true)
   entry-pass = each (entry_tests e (get_or entries e [])) (at (λ e w. all (entry_tests e w)) entries [] entries-pass e (omega (arith, entry-count)))
 
-  pub size-at : get_or sizes e 0 ≡ length (get_or entries e [])
+  pub size-at : (get_or places e (0, 0)).1 ≡ length (get_or entries e [])
   size-at = eqb→eq _ _ (entry-pass 0)
 
-  pub start-at : Lies (get_or starts e 0) (get_or entries e [])
+  pub start-at : Lies ((get_or places e (0, 0)).0) (get_or entries e [])
   start-at =
-      let i = leb→le (get_or starts e 0 + length (get_or entries e [])) 359 (entry-pass 1) in
+      let i = leb→le ((get_or places e (0, 0)).0 + length (get_or entries e [])) 359 (entry-pass 1) in
       record { inside = omega (arith, letter-count); spelt = same_true _ _ (is_true _ (entry-pass 2)) }

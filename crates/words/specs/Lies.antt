@@ -13,11 +13,15 @@ pub record Lies (r : ℕ) (w : List ℕ) : Type 0 where
 unfoldable pub listed : Words → List (List ℕ)
 listed w = take w.count (drop w.first entries)
 
+-- no word of the list has more than n bytes
+pub record AtMost (ws : List (List ℕ)) (n : ℕ) : Type 0 where
+  pub short : (k : ℕ) → k < length ws → length (get_or ws k []) ≤ n
+
 -- each of them is found: it has two bytes or more and no more than the longest, and its slot holds its place
 pub record Finds (w : Words) : Type 0 where
   pub within : w.first + w.count ≤ length entries
   pub least : (k : ℕ) → k < w.count → 2 ≤ length (get_or (listed w) k [])
-  pub most : (k : ℕ) → k < w.count → length (get_or (listed w) k []) ≤ w.longest
+  pub most : AtMost (listed w) w.longest
   pub held : (k : ℕ) → k < w.count → get_or w.slots (slot_of w.multipliers (get_or (listed w) k [])) 0 ≡ k
 
 -- if p is a word of the list, it is word number r

@@ -38,15 +38,16 @@ impl Table {
 
 // Which word of the table p is: its place in the table. Every word has two bytes or more.
 #[inline(always)]
-pub fn which(table: Table, p: &[u8]) -> Option<usize>
+pub fn which(table: Table, p: &[u8]) -> Option<u8>
     ensures { result ≡ word_of (words_of table) p.now }
 {
     table.words().which(p)
 }
 
-// Which word of the table the part of the draft from start up to end is.
+// Which word of the table the part of the draft from start up to end is. Start and end may be any numbers, as those of `text::part`, so a struct of them
+// could keep no fact.
 #[inline(always)]
-pub fn word(table: Table, draft: &[u8], start: usize, end: usize) -> Option<usize>
+pub fn word(table: Table, draft: &[u8], start: usize, end: usize) -> Option<u8>
     ensures { result ≡ word_of (words_of table) (part_of draft.now start end) }
 {
     which(table, text::part(draft, start, end))

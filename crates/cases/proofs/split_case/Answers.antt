@@ -1,6 +1,6 @@
--- A case's line, text and line end stand at the front of the stream.
+-- A case's line, text and line end stand at the front of the stream; its numbers passed the test of the limits; what is left is behind a line.
 -- Assumes nothing.
-use Rattle.std.proofs.Common.{◌≡◌, ℕ, List, ◌∷◌, ◌++◌, take, drop}
+use Rattle.std.proofs.Common.{◌≡◌, refl, ℕ, List, ◌∷◌, ◌++◌, take, drop}
 use Rattle.std.proofs.lemmas.List.{take-append-drop}
 use Rattle.cases.proofs.split_case.Goals as goal
 
@@ -17,3 +17,6 @@ returns-clause-case g c =
       parts = joined _ _ _ c.in_ok-line.ensures front back c.in_ok-end.ensures.cases.0 c.if-end-ne10.false;
       size = let last = c.in_ok-last.ensures.value in cc;
     }
+
+pub returns-clause-within : goal.returns-clause-within
+returns-clause-within g c = c.if-not-is_within.ensures refl

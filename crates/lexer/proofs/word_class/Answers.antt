@@ -1,24 +1,18 @@
 -- The word, if the kind may be one.
 -- Assumes nothing.
-use Rattle.std.proofs.Common.{sym, ◌∙◌, arith}
+use Rattle.std.proofs.Common.{sym, ◌∙◌}
 use Rattle.words.specs.Words.{words_of}
 use Rattle.lexer.specs.Class.{class_of}
-use Rattle.lexer.proofs.TokenClass.{few_words, no_word}
+use Rattle.lexer.proofs.TokenClass.{no_word}
 use Rattle.lexer.proofs.word_class.Goals as goal
 
 pub returns-in_default : goal.returns-in_default
 unfolding words_of
 returns-in_default c = no_word _ _ (sym c.word.ensures ∙ c.in_default.is)
 
-pub overflow_cast-result : goal.overflow_cast-result
-overflow_cast-result c = let h = few_words _ _ (sym c.word.ensures ∙ c.in-Some.is) in omega arith
-
-pub overflow_add-result : goal.overflow_add-result
-overflow_add-result c = let h = few_words _ _ (sym c.word.ensures ∙ c.in-Some.is) in omega arith
-
 pub returns-then-may_be_word : goal.returns-then-may_be_word
 unfolding class_of words_of
-returns-then-may_be_word c = rw (sym c.may_be_word.ensures ∙ c.if-may_be_word.true, sym c.word.ensures ∙ c.in-Some.is)
+returns-then-may_be_word c = rw (sym c.may_be_word.ensures ∙ c.if-may_be_word.true, sym c.word.ensures ∙ c.in-Some.is, c.from.ensures)
 
 pub returns : goal.returns
 unfolding class_of

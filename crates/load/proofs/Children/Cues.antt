@@ -2,6 +2,7 @@
 -- Assumes nothing.
 use Rattle.std.specs.Prelude.{Bool, true, false, ◌&&◌, cond, List, [], ◌∷◌, ◌≡◌, refl, ℕ, zero, suc, ◌+◌, ◌<◌, ◌≤◌, T, eqb, ltb, leb, get_or, length}
 use Rattle.std.specs.Bool.{beq}
+use Rattle.std.specs.Cmp.{booleans_Decides}
 use Rattle.std.proofs.Common.{sym, ap, ◌∙◌, subst, arith, eqb-true, ltb-true, ltb-false, ne_eqb, lt-ltb, eqb→eq, ltb→lt, leb→le}
 use Rattle.text.specs.Lists.{has, all, some, count, span}
 use Rattle.text.proofs.ListLaws.{all-has, all-count}
@@ -20,10 +21,7 @@ use Rattle.load.specs.Children.Cues.{kinds_end, kind_of, named, Stand}
 
 -- two tests that answer alike
 pub beq_same : (a b : Bool) → T (beq a b) → a ≡ b
-beq_same true true t = refl
-beq_same true false t = absurd t
-beq_same false true t = absurd t
-beq_same false false t = refl
+beq_same a b t = (booleans_Decides a b).0 (is_true (beq a b) t)
 
 -- past the last of a list of numbers
 pub has-none : (l : List ℕ) (n x : ℕ) → T (all (λ m. ltb m n) l) → n ≤ x → has l x ≡ false

@@ -15,7 +15,7 @@ use Rattle.lines.proofs.Hex.{hex-length}
 use Rattle.lines.specs.Lines.{half_digits, six_widths, widths}
 use Rattle.load.specs.declared.digits.TheConstants.{DIGITS}
 use Rattle.load.specs.Listing.Read.{place_in, digit_of, are_digits, number_of}
-use Rattle.load.specs.Listing.DigitLaws.{Short}
+use Rattle.load.specs.Listing.DigitLaws.{DigitTable, Short}
 
 -- The table gives each byte its value as a digit.
 digits-long : length DIGITS ≡ 256
@@ -25,8 +25,11 @@ digits-right : T (every (λ b v. eqb v (digit_of b)) 0 DIGITS)
 unfolding digit_of place_in upper_hex ascii ascii_from
 digits-right = tt
 
+pub table-rule : (t : List ℕ) → length t ≡ 256 → T (every (λ b v. eqb v (digit_of b)) 0 t) → DigitTable t
+table-rule t e h = record { gives = table_at digit_of t 256 e h }
+
 pub digit-found : (b : ℕ) → b < 256 → get_or DIGITS b 0 ≡ digit_of b
-digit-found b h = table_at digit_of DIGITS 256 digits-long digits-right b h
+digit-found = (table-rule DIGITS digits-long digits-right).gives
 
 short-by : (ws : List ℕ) → T (all (λ n. leb n half_digits) ws) → Short ws
 short-by ws t = (all-exactly (λ n. leb n half_digits) (λ n. no_more n half_digits) ws).0 t

@@ -31,6 +31,14 @@ run_at f (suc n) a c t l h = go (eqb a c) refl (first-of (f a) (run f n (suc a))
 pub sweep : (f : ℕ → Bool) → T (run f past_classes 0) → (c : ℕ) → c < past_classes → T (f c)
 sweep f t c h = run_at f past_classes 0 c t (omega arith) (omega arith)
 
+-- Two functions that agree at the classes, by one test, and past them.
+pub agree : (f g : ℕ → ℕ) → T (run (λ c. eqb (f c) (g c)) past_classes 0) → ((c : ℕ) → past_classes ≤ c → f c ≡ g c) → (c : ℕ) → f c ≡ g c
+agree f g t past c = go (ltb c past_classes) refl
+  where
+    go : (b : Bool) → ltb c past_classes ≡ b → f c ≡ g c
+    go true e = eqb→eq (f c) (g c) (sweep (λ c. eqb (f c) (g c)) t c (ltb-true c past_classes e))
+    go false e = past c (ltb-false c past_classes e)
+
 -- What holds where g passes, by one test at the classes, and past them.
 pub where-passed : (f g : ℕ → Bool) → T (run (λ c. not (g c) || f c) past_classes 0) → ((c : ℕ) → past_classes ≤ c → T (g c) → T (f c)) → (c : ℕ) → T (g c) → T (f c)
 where-passed f g t past c h = go (ltb c past_classes) refl

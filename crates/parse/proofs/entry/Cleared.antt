@@ -2,6 +2,7 @@
 -- Assumes nothing.
 use Rattle.std.proofs.Common.{◌≡◌, ℕ, ◌-◌, ◌*◌, ◌≤◌, Bool, true, false, cond, ltb, List, ◌++◌, length, take, replicate, sym, refl, ap, ◌∙◌, arith, ltb-false}
 use Rattle.std.specs.Prelude.{Result, Ok, Err}
+use Rattle.std.specs.Result.{result_unwrap_or}
 use Rattle.text.specs.Answers as paper
 use Rattle.text.specs.declared.refusal.Refused.{Refused}
 use Rattle.text.specs.Front.{Held}
@@ -66,23 +67,33 @@ module _ (k : ℕ) where
       go (paper.accepted n m) f = absurd (differ (ap recording f))
       go (paper.refused n m) f = refl
 
-module _ (en : Entry) (most : ℕ) (draft words' o : List ℕ) (n : ℕ) {a : Result ℕ Refused} (e : meant n a ≡ answer_of en most draft words' n (length o)) where
-  -- On a refusal;
-  pub refused-tree : {r : Refused} → a ≡ Err r → replicate (length o) 0 ≡ tree_of en most draft words' n (length o)
+module _ (en : Entry) (most : ℕ) (draft words' o : List ℕ) (n : ℕ) (a : Result ℕ Refused) (e : meant n a ≡ answer_of en most draft words' n (length o)) where
+  -- Of a refusal the buffer is zeros;
+  refused-tree : {r : Refused} → a ≡ Err r → replicate (length o) 0 ≡ tree_of en most draft words' n (length o)
   unfolding answer_of tree_of
   refused-tree q = zeros (length o) (too_many most n (length words')) (too_long en (length draft)) (reading_of en draft (tokens_in n words')) (sym (ap (meant n) q) ∙ e)
 
-  -- and of so many records, which fit.
-  module _ {m : ℕ} (q : a ≡ Ok m) where
-    fits : Fitting (length o) m (reading_of en draft (tokens_in n words')) (tree_of en most draft words' n (length o))
-    unfolding answer_of tree_of
-    fits = fitting (length o) (too_many most n (length words')) (too_long en (length draft)) (reading_of en draft (tokens_in n words')) (sym (ap (meant n) q) ∙ e)
+  -- and so many records fit.
+  fits : {m : ℕ} → a ≡ Ok m → Fitting (length o) m (reading_of en draft (tokens_in n words')) (tree_of en most draft words' n (length o))
+  unfolding answer_of tree_of
+  fits q = fitting (length o) (too_many most n (length words')) (too_long en (length draft)) (reading_of en draft (tokens_in n words')) (sym (ap (meant n) q) ∙ e)
 
-    pub records-fit : rec_wide * m ≤ length o
-    records-fit = fits.room
+  pub records-fit : rec_wide * result_unwrap_or a 0 ≤ length o
+  records-fit = go a refl
+    where
+      go : (r : Result ℕ Refused) → a ≡ r → rec_wide * result_unwrap_or r 0 ≤ length o
+      go (Ok m) q = (fits q).room
+      go (Err x) q = omega arith
 
-    pub cleared-tree : (out : List ℕ) → Held (meant n a) (rec_words (records_in (reading_of en draft (tokens_in n words')))) o out → take (rec_wide * m) out ++ replicate (length out - rec_wide * m) 0 ≡ tree_of en most draft words' n (length o)
-    cleared-tree out h =
-        ap (λ (z : List ℕ). take (rec_wide * m) z ++ replicate (length z - rec_wide * m) 0) (h.holds n m (ap (meant n) q))
-        ∙ front-cleared (rec_words (records_in (reading_of en draft (tokens_in n words')))) o (rec_wide * m) fits.long fits.room
-        ∙ fits.words_are
+  -- Behind the words of the records, of a refusal from the start on, all is cleared.
+  pub cleared-tree : (out : List ℕ) → length out ≡ length o → Held (meant n a) (rec_words (records_in (reading_of en draft (tokens_in n words')))) o out
+      → take (rec_wide * result_unwrap_or a 0) out ++ replicate (length out - rec_wide * result_unwrap_or a 0) 0 ≡ tree_of en most draft words' n (length o)
+  cleared-tree out long h = go a refl
+    where
+      go : (r : Result ℕ Refused) → a ≡ r
+          → take (rec_wide * result_unwrap_or r 0) out ++ replicate (length out - rec_wide * result_unwrap_or r 0) 0 ≡ tree_of en most draft words' n (length o)
+      go (Err x) q = ap (λ k. replicate k 0) (omega (arith, long)) ∙ refused-tree q
+      go (Ok m) q =
+          ap (λ (z : List ℕ). take (rec_wide * m) z ++ replicate (length z - rec_wide * m) 0) (h.holds n m (ap (meant n) q))
+          ∙ front-cleared (rec_words (records_in (reading_of en draft (tokens_in n words')))) o (rec_wide * m) (fits q).long (fits q).room
+          ∙ (fits q).words_are

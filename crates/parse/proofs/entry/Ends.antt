@@ -1,6 +1,7 @@
 -- What the entry's small functions say: whether there are too many tokens, the first state, and what the last one says.
 -- Assumes nothing.
-use Rattle.std.proofs.Common.{◌≡◌, ℕ, ◌*◌, ◌<◌, ◌≤◌, false, ltb, List, [], ◌∷◌, length, sym, refl, ap, ◌∙◌, subst, arith, ltb-false, leb-false}
+use Rattle.std.proofs.Common.{◌≡◌, ℕ, zero, suc, ◌*◌, ◌<◌, ◌≤◌, false, ltb, List, [], ◌∷◌, length, take, drop, sym, refl, ap, ◌∙◌, subst, arith, ltb-false, leb-false}
+use Rattle.std.specs.Simd.{first_chunks}
 use Rattle.std.proofs.lemmas.Bool.{or_parts}
 use Rattle.text.specs.Widths.{tok_wide}
 use Rattle.std.specs.Prelude.{None}
@@ -18,6 +19,12 @@ use Rattle.parse.proofs.Rule.Amid.{class-at}
 pub few-tokens : (most n tw : ℕ) → too_many most n tw ≡ false → (n ≤ most) × (tok_wide * n ≤ tw)
 unfolding too_many
 few-tokens most n tw e = let h = or_parts (ltb most n) (ltb tw (tok_wide * n)) e in (ltb-false most n h.0, ltb-false tw (tok_wide * n) h.1)
+
+-- The first rows of so many words are those of the first words.
+pub rows-taken : (n k : ℕ) (w : List ℕ) → n ≤ k → take n (first_chunks tok_wide k w) ≡ first_chunks tok_wide n w
+rows-taken zero k w h = refl
+rows-taken (suc n) zero w h = absurd (omega arith)
+rows-taken (suc n) (suc k) w h = ap (λ (vs : List (List ℕ)). take tok_wide w ∷ vs) (rows-taken n k (drop tok_wide w) (omega arith))
 
 -- The first state.
 pub starts-at : (x : Text) {c b s : ℕ} → Gives (record { class = c; start = b; stop = s }) (tok_at x 0)

@@ -1,8 +1,10 @@
 -- The laws of the entry: what the parser says of a whole draft is what grammar's `Answer` says of it.
 -- Assumes nothing.
-use Rattle.std.proofs.Common.{◌≡◌, ℕ, zero, suc, ◌+◌, ◌*◌, ◌/◌, ◌<◌, ◌≤◌, Bool, true, false, cond, ltb, List, [], ◌∷◌, ◌++◌, length, get_or, take, drop, sym, refl, ap, ◌∙◌, subst, ap₂, arith, length-take-le, ltb-false, ltb-true, le-ltb, lt-ltb}
+use Rattle.std.proofs.Common.{◌≡◌, ℕ, zero, suc, ◌+◌, ◌*◌, ◌<◌, ◌≤◌, Bool, true, false, cond, ltb, List, [], ◌∷◌, ◌++◌, length, map, get_or, take, drop, sym, refl, ap, ◌∙◌, subst, ap₂, arith, ltb-false, ltb-true, le-ltb, lt-ltb}
 use mathlib.Core.Option.{Option, none, some}
 use lib.Seq.{sets, sets-eq}
+use Rattle.std.specs.Simd.{first_chunks}
+use Rattle.std.proofs.lemmas.List.{get_or-take, length-map}
 use Rattle.own.proofs.WordLaws.{record-words-length}
 use Rattle.lexer.specs.Lexemes.{Token}
 use Rattle.lexer.specs.Buffer.{tokens_in}
@@ -24,9 +26,8 @@ use Rattle.text.specs.declared.refusal.Refusal.TheVariants as refusal
 use Rattle.text.specs.Refusals.{refusal_number}
 use Rattle.text.specs.declared.refusal.Refusal.{Refusal}
 use Rattle.text.specs.declared.refusal.Refused.{Refused}
-use Rattle.own.specs.Words.{toks, word_groups, rec_words}
+use Rattle.own.specs.Words.{word_groups, rec_words}
 use Rattle.own.proofs.WordLaws.{words_are}
-use Rattle.kinds.specs.Class.{class_of}
 use Rattle.kinds.specs.Spelled.{Spelled}
 use Rattle.grammar.specs.Entry.{Entry, single_function, whole_file, start_nt, records_of}
 use Rattle.grammar.specs.Shapes.WellShaped.{shape_of}
@@ -37,7 +38,7 @@ use Rattle.grammar.specs.Records.Records.{record_items}
 use Rattle.grammar.specs.Records.Faults.{Fault, faults, earliest, fault_of}
 use Rattle.grammar.specs.Answers.Answer.{toks_of, start_of, trees_of, Reading, unread, read, faulty, shaped, fitted, records_in}
 use Rattle.parse.specs.Contract as contract
-use Rattle.parse.specs.Contract.{Text, count_of, text, countable, classes, tok_at, Read, Stuck, raw, fault_in, sooner, kept, fault, Holds, Info, as_items, Went}
+use Rattle.parse.specs.Contract.{Text, count_of, row_token, source_tokens, text, countable, classes, tok_at, Read, Stuck, raw, fault_in, sooner, kept, fault, Holds, Info, as_items, Went}
 use Rattle.parse.specs.Infos.{file_read, file_stuck}
 use Rattle.parse.specs.Entry.{too_many, too_long, WholeRead, one_read, all_read, reading_of, meant, refuses, unless_kept, answer_of, Starts, ended, judged}
 use Rattle.parse.specs.declared.State.{State}
@@ -48,18 +49,6 @@ use Rattle.parse.proofs.Rule.Lists.{length-words}
 use Rattle.parse.proofs.token.Tokens.{length-text}
 use Rattle.parse.proofs.entry.Holds.{spelled_holds}
 use Rattle.parse.proofs.entry.Closed.{Closed, closed-function, closed-file}
-
--- Tokens as the code reads them are those of the paper.
-pub toks-of : (draft : List ℕ) (n : ℕ) (w : List ℕ) → toks_of draft (tokens_in n w) ≡ toks (class_of draft) n w
-unfolding toks_of tokens_in
-toks-of draft zero w = refl
-toks-of draft (suc n) w =
-    ap (λ (l : List Tok). record { class = class_of draft (get_or w 0 0) (get_or w 1 0) (get_or w 2 0); start = get_or w 1 0; stop = get_or w 2 0 } ∷ l) (toks-of draft n (drop tok_wide w))
-
-length-in : (n : ℕ) (w : List ℕ) → length (tokens_in n w) ≡ n
-unfolding tokens_in
-length-in zero w = refl
-length-in (suc n) w = ap suc (length-in n (drop tok_wide w))
 
 start-toks : (draft : List ℕ) (ts : List Token) (i : ℕ) → (get_or ts i no_token).start ≡ (get_or (toks_of draft ts) i blank_tok).start
 unfolding toks_of
@@ -78,22 +67,25 @@ module _ (src : Source) where
   n = count_of src
 
   abbrev ts : List Token
-  ts = tokens_in n src.tokens.now
+  ts = source_tokens src
 
   text-is : x.ts ≡ toks_of draft ts
   unfolding text
-  text-is = sym (toks-of draft n src.tokens.now)
+  text-is = refl
+
+  length-is : length ts ≡ n
+  length-is = length-map src.tokens.now row_token
 
   -- Where a token starts, or the length at the end.
   pub starts_in : (at : ℕ) → at < n → (tok_at x at).start ≡ start_of draft ts at
   unfolding start_of
   starts_in at i =
       ap (λ (l : List Tok). (get_or l at blank_tok).start) text-is ∙ sym (start-toks draft ts at)
-      ∙ sym (ap (λ (b : Bool). cond b (get_or ts at no_token).start (length draft)) (lt-ltb at (length ts) (omega (arith, length-in n src.tokens.now))))
+      ∙ sym (ap (λ (b : Bool). cond b (get_or ts at no_token).start (length draft)) (lt-ltb at (length ts) (omega (arith, length-is))))
 
   pub starts_out : (at : ℕ) → n ≤ at → length draft ≡ start_of draft ts at
   unfolding start_of
-  starts_out at i = sym (ap (λ (b : Bool). cond b (get_or ts at no_token).start (length draft)) (le-ltb at (length ts) (omega (arith, length-in n src.tokens.now))))
+  starts_out at i = sym (ap (λ (b : Bool). cond b (get_or ts at no_token).start (length draft)) (le-ltb at (length ts) (omega (arith, length-is))))
 
   -- What is read of the draft, at any entry.
   module _ (en : Entry) where
@@ -201,7 +193,7 @@ module _ (src : Source) where
         says-read : (b : Bool) → ltb k (rec_wide * z'.out) ≡ b → Says en o l'' (cond b (refuses refusal.NoRoom 0) (Ok z'.out))
         says-read true g = (sym (fitted-is true g), record { holds = λ i m q. absurd (not-both q) })
         says-read false g = (
-          ap (λ i. paper.accepted i z'.out) (sym (length-in n src.tokens.now)) ∙ sym (fitted-is false g),
+          ap (λ i. paper.accepted i z'.out) (sym length-is) ∙ sym (fitted-is false g),
           record {
             holds = λ i m q.
                 c.words_are (ns e) (its-count e) (ltb-false k (rec_wide * z'.out) g) (its-fit e (numbers_fit e f))
@@ -245,28 +237,28 @@ module _ (src : Source) where
       pub said-held : Held (meant n a) (rec_words (records_in (R en))) l l'
       said-held = subst (λ (a : Result ℕ Refused). Held (meant n a) (rec_words (records_in (R en))) l l') (sym e) (says v).1
 
--- The words of so many tokens hold so many, and the same ones.
-pub held-count : (n : ℕ) (w : List ℕ) → tok_wide * n ≤ length w → length (take (tok_wide * n) w) / tok_wide ≡ n
-held-count n w h = omega (arith, length-take-le (tok_wide * n) w h)
+-- The rows of so many tokens are so many, and say the same ones.
+pub rows-count : (n : ℕ) (w : List ℕ) → length (first_chunks tok_wide n w) ≡ n
+rows-count zero w = refl
+rows-count (suc n) w = ap suc (rows-count n (drop tok_wide w))
 
-pub held-tokens : (n : ℕ) (w : List ℕ) → tok_wide * n ≤ length w → tokens_in n (take (tok_wide * n) w) ≡ tokens_in n w
+pub rows-tokens : (n : ℕ) (w : List ℕ) → map row_token (first_chunks tok_wide n w) ≡ tokens_in n w
 unfolding tokens_in
-held-tokens zero w h = refl
-held-tokens (suc n) [] h = absurd (omega arith)
-held-tokens (suc n) (a ∷ []) h = absurd (omega arith)
-held-tokens (suc n) (a ∷ b ∷ []) h = absurd (omega arith)
-held-tokens (suc n) (a ∷ b ∷ c ∷ w) h =
-    let e : tok_wide * suc n ≡ suc (suc (suc (tok_wide * n))) = omega arith in
-    ap (λ (k : ℕ). tokens_in (suc n) (take k (a ∷ b ∷ c ∷ w))) e
-    ∙ ap (λ (l : List Token). record { kind = a; start = b; end = c } ∷ l) (held-tokens n w (omega arith))
+rows-tokens zero w = refl
+rows-tokens (suc n) w =
+    ap₂ (λ (t : Token) (l : List Token). t ∷ l)
+    (λ i. record { kind = word 0 (omega arith) i; start = word 1 (omega arith) i; end = word 2 (omega arith) i }) (rows-tokens n (drop tok_wide w))
+  where
+    word : (k : ℕ) → k < tok_wide → get_or (take tok_wide w) k 0 ≡ get_or w k 0
+    word k l = get_or-take tok_wide w k 0 l
 
 -- What is read of the source is what is read of the words that it was made of.
-module _ (src : Source) (draft words' : List ℕ) (n : ℕ) (d : src.draft.now ≡ draft) (w : src.tokens.now ≡ take (tok_wide * n) words') (h : tok_wide * n ≤ length words') where
+module _ (src : Source) (draft words' : List ℕ) (n : ℕ) (d : src.draft.now ≡ draft) (w : src.tokens.now ≡ first_chunks tok_wide n words') where
   pub count-is : count_of src ≡ n
-  count-is = ap (λ (l : List ℕ). length l / tok_wide) w ∙ held-count n words' h
+  count-is = ap (λ (vs : List (List ℕ)). length vs) w ∙ rows-count n words'
 
-  tokens-are : tokens_in (count_of src) src.tokens.now ≡ tokens_in n words'
-  tokens-are = ap₂ tokens_in count-is w ∙ held-tokens n words' h
+  tokens-are : source_tokens src ≡ tokens_in n words'
+  tokens-are = ap (λ (vs : List (List ℕ)). map row_token vs) w ∙ rows-tokens n words'
 
   reading-are : (en : Entry) → R src en ≡ reading_of en draft (tokens_in n words')
   reading-are en = ap₂ (reading_of en) d tokens-are

@@ -20,7 +20,7 @@ use Rattle.own.specs.Kinds as kind
 use Rattle.grammar.specs.Shapes.Row.{Form, aName}
 use Rattle.grammar.specs.Records.Records.{Head, head, plain, form_of, head_of, sees, opening, name_count, part_count, lone, place_in, call_head, wrapper_head, called_head, alone_head, name_head, text_of, first_tok, first_of, decimal}
 use Rattle.grammar.specs.Records.Faults.{Fault, unless, faults_at, earliest}
-use Rattle.grammar.specs.Shapes.ShapeKind.{BareShape, CastCallShape, FoldingShape, ForWhileShape, NamedShape, SimpleCallShape, TypedShape}
+use Rattle.grammar.specs.Shapes.ShapeKind.{CastCallShape, FoldingShape, ForWhileShape, NamedShape, SimpleCallShape, TypedShape}
 use Rattle.parse.specs.declared.State.{State}
 use Rattle.parse.proofs.Rule.Amid.{Amid}
 use Rattle.parse.specs.Contract.{Text, fault_at, bound_fault, size_fault, ExprKind, Only, callees}
@@ -76,9 +76,6 @@ pub use Rattle.parse.proofs.expr.CallRows.{
   folding-name,
   whiles-name,
   named-variable,
-  typed-variable,
-  folding-variable,
-  whiles-variable,
   typed-mark,
   folding-mark,
   whiles-mark,
@@ -168,8 +165,8 @@ pub angled-is : (c : ℕ) (w : List Sort) → name_head (word c ∷ word t.Doubl
 unfolding sees opening
 angled-is c w = name-head (word c ∷ word t.DoubleColon ∷ word t.LAngle ∷ w) (or-true (eqb c t.LAngle)) refl refl
 
-pub cast_is : (w : List Sort) → name_head (word t.LAngle ∷ w) ≡ head kind.Call call.TypeCast 0
-unfolding name_head sees opening call_head place_in
+pub cast_is : (w : List Sort) → name_head (word t.LAngle ∷ w) ≡ call_head t.LAngle
+unfolding name_head sees opening
 cast_is w = refl
 
 -- A name is no `<`, `::`, `(`.
@@ -215,7 +212,7 @@ enum-count c a W h e =
 pub enum_is : (c : ℕ) {a : ℕ} (W : List Sort) → has t.identifiers c ≡ true → sees t.LAngle W ≡ false → name_count W ≡ a → name_head (word c ∷ word t.DoubleColon ∷ W) ≡ head kind.EnumConstruction (a + 1) 0
 enum_is c {a} W h g e = name-head (word c ∷ word t.DoubleColon ∷ W) (enum-unseen c W h g) (enum-colons c W) refl ∙ ap (λ (n : ℕ). head kind.EnumConstruction n 0) (enum-count c a W h e)
 
--- The form of these seven shapes is that of a name.
+-- The form of these six shapes is that of a name.
 module _ {x : Text} {K : ℕ} {N : ℕ → Type 0} {full left : List Sym} {st : State} {l : List ℕ} {w : List Sort} {ms : List Tok} {m : ℕ} {st₁ : State} {l₁ : List ℕ} where
   pub by_form : (k : ℕ) → form_of k ≡ aName → Amid x K N full left st l w ms m st₁ l₁ → decided x k w ms ≡ name_head w
   unfolding head_of
@@ -233,10 +230,6 @@ module _ {x : Text} {K : ℕ} {N : ℕ → Type 0} {full left : List Sym} {st : 
   unfolding form_of
   form-named = by_form NamedShape refl
 
-  pub form-bare : Amid x K N full left st l w ms m st₁ l₁ → decided x BareShape w ms ≡ name_head w
-  unfolding form_of
-  form-bare = by_form BareShape refl
-
   pub form-typed : Amid x K N full left st l w ms m st₁ l₁ → decided x TypedShape w ms ≡ name_head w
   unfolding form_of
   form-typed = by_form TypedShape refl
@@ -251,7 +244,7 @@ module _ {x : Text} {K : ℕ} {N : ℕ → Type 0} {full left : List Sym} {st : 
 
 -- The heads of calls with `< >`.
 module _ {x : Text} {K : ℕ} {N : ℕ → Type 0} {full left : List Sym} {st : State} {l : List ℕ} {w : List Sort} {ms : List Tok} {m : ℕ} {st₁ : State} {l₁ : List ℕ} where
-  pub cast-head : Amid x K N full left st l (word t.LAngle ∷ w) ms m st₁ l₁ → decided x CastCallShape (word t.LAngle ∷ w) ms ≡ head kind.Call call.TypeCast 0
+  pub cast-head : Amid x K N full left st l (word t.LAngle ∷ w) ms m st₁ l₁ → decided x CastCallShape (word t.LAngle ∷ w) ms ≡ call_head t.LAngle
   cast-head d = form-cast d ∙ cast_is w
 
 module _ {x : Text} {K : ℕ} {N : ℕ → Type 0} {full left : List Sym} {st : State} {l : List ℕ} {c : ℕ} {w : List Sort} {ms : List Tok} {m : ℕ} {st₁ : State} {l₁ : List ℕ} where
@@ -268,10 +261,6 @@ module _ {x : Text} {K : ℕ} {N : ℕ → Type 0} {full left : List Sym} {st : 
 pub call-low : {H : Head} (c : ℕ) {low : ℕ} → H ≡ call_head c → low ≡ (call_head c).low → H ≡ head kind.Call low 0
 unfolding call_head
 call-low c e f = e ∙ ap (λ (l : ℕ). head kind.Call l 0) (sym f)
-
-pub whiles-low : {H : Head} {c : ℕ} → H ≡ call_head c → c ≡ t.for_while → H ≡ head kind.Call call.ForWhile 0
-unfolding call_head place_in
-whiles-low e f = e ∙ ap call_head f
 
 -- The kind of a name alone.
 pub alone-kinds : (c k : ℕ) → plain k ≡ alone_head c → (k ≡ kind.None) ⊎ (k ≡ kind.Variable)

@@ -204,18 +204,6 @@ module _ (c : ℕ) where
   unfolding choose row table look
   named-variable e = not-true (eqb c t.None) (where-chosen n-single choice.Named (λ a. not (eqb a t.None)) tt tt c e)
 
-  pub typed-variable : choose table n-single c ≡ choice.Typed → eqb c t.None ≡ false
-  unfolding choose row table look
-  typed-variable e = not-true (eqb c t.None) (where-chosen n-single choice.Typed (λ a. not (eqb a t.None)) tt tt c e)
-
-  pub folding-variable : choose table n-single c ≡ choice.Folding → eqb c t.None ≡ false
-  unfolding choose row table look
-  folding-variable e = not-true (eqb c t.None) (where-chosen n-single choice.Folding (λ a. not (eqb a t.None)) tt tt c e)
-
-  pub whiles-variable : choose table n-single c ≡ choice.ForWhile → eqb c t.None ≡ false
-  unfolding choose row table look
-  whiles-variable e = not-true (eqb c t.None) (where-chosen n-single choice.ForWhile (λ a. not (eqb a t.None)) tt tt c e)
-
   -- and marks of a call.
   pub typed-mark : choose table n-single c ≡ choice.Typed → role_of kind.Call c ≡ aMark
   unfolding choose row table look

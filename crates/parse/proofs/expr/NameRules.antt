@@ -1,6 +1,8 @@
 -- What begins with a name and may go on with `::`: its rule, whichever of the five it is, and the enum construction that it may begin.
 -- Assumes nothing.
 use Rattle.std.proofs.Common.{◌≡◌, ℕ, ◌-◌, ◌*◌, ◌≤◌, Bool, true, false, not, T, eqb, ◌⊎◌, inl, inr, List, [], ◌∷◌, sym, refl, ap, ◌∙◌, subst, ap₂}
+use Rattle.std.specs.Prelude as std
+use Rattle.std.specs.Prelude.{Some, None}
 use mathlib.Core.Option.{Option, none, some}
 use lib.Seq.{sets}
 use Rattle.lexer.specs.Classes as t
@@ -27,7 +29,7 @@ use Rattle.parse.specs.declared.expr.c.GenericCall.{GenericCall}
 use Rattle.parse.specs.declared.expr.c.GenericCall.TheVariants as generic
 use Rattle.parse.specs.Choice as choice
 use Rattle.parse.specs.Contract.{Text, tok_at, raw, fault_in, sooner, kept, fault_at, Ready, Moved, Put, as_node, Went, Node, reserved, cleaned}
-use Rattle.parse.specs.Infos.{Begun, Generic, Leads, named_leads, bare_leads, generic_leads}
+use Rattle.parse.specs.Infos.{Begun, Generic, Uncalled, Leads, named_leads, bare_leads, generic_leads}
 use Rattle.parse.proofs.Rule.Amid.{Amid, then_turns}
 use Rattle.parse.proofs.Rule.Steps.{decided}
 use Rattle.parse.proofs.Rule.Closing.{Opened, Rule, shuts-in, its-fault}
@@ -55,11 +57,15 @@ pub record NameRule (c : ℕ) : Type 0 where
   pub flat : sort_of (ex means (nt B)) ≡ shape.flat
   pub quiet : Quiet k
 
+-- One that may stand alone.
+pub record AloneRule (c : ℕ) : Type 0 where
+  pub by : NameRule c
+  pub alone : {a : ℕ} → (a ≡ t.DoubleColon → ⊥) → expand table by.B a ≡ some []
+
 -- One that `::<..>` may follow: D is what follows `::`.
 pub record GenericRule (c : ℕ) : Type 0 where
   pub by : NameRule c
   pub D : ℕ
-  pub variable : eqb c t.None ≡ false
   pub alone : {a : ℕ} → (a ≡ t.DoubleColon → ⊥) → expand table by.B a ≡ some []
   pub colons : {a : ℕ} → a ≡ t.DoubleColon → expand table by.B a ≡ some (tok t.DoubleColon ∷ nt D ∷ [])
   pub flat : sort_of (ex means (nt D)) ≡ shape.flat
@@ -93,7 +99,6 @@ module _ {c : ℕ} where
       record {
         by = by_rule call.typed-rule e (call.for-typed c e) (call.typed-name c e) refl call.flat-typed (never TypedShape tt);
         D = n-typed-optional-DoubleColon-choice;
-        variable = call.typed-variable c e;
         alone = λ h. call.typed-alone h;
         colons = λ h. call.typed-colons h;
         flat = call.flat-of-type;
@@ -106,7 +111,6 @@ module _ {c : ℕ} where
       record {
         by = by_rule call.folding-rule e (call.for-folding c e) (call.folding-name c e) refl call.flat-folding no_bound;
         D = n-folding-optional-DoubleColon-choice;
-        variable = call.folding-variable c e;
         alone = λ h. call.folding-alone h;
         colons = λ h. call.folding-colons h;
         flat = call.flat-bounded;
@@ -119,17 +123,27 @@ module _ {c : ℕ} where
       record {
         by = by_rule call.whiles-rule e (call.for-whiles c e) (call.whiles-name c e) refl call.flat-whiles (never ForWhileShape tt);
         D = n-for_while-optional-DoubleColon-choice;
-        variable = call.whiles-variable c e;
         alone = λ h. call.whiles-alone h;
         colons = λ h. call.whiles-colons h;
         flat = call.flat-looped;
         path = λ h. call.whiles-path h;
       }
 
-  pub generic-rule : (g : GenericCall) → Generic c g → GenericRule c
+  generic-rule : (g : GenericCall) → Generic c g → GenericRule c
   generic-rule generic.Typed e = typed-rule e
   generic-rule generic.Folding e = folding-rule e
   generic-rule generic.ForWhile e = while-rule e
+
+  -- Such a name may stand alone,
+  pub uncalled-rule : (g : std.Option GenericCall) → Uncalled c g → AloneRule c
+  unfolding bare-rule
+  uncalled-rule None e = record { by = bare-rule e; alone = λ h. call.bare-alone h }
+  uncalled-rule (Some g) e = let z = generic-rule g e in record { by = z.by; alone = z.alone }
+
+  -- or begin an enum construction where no `<` follows `::`.
+  pub uncalled-leads : {b : ℕ} (g : std.Option GenericCall) → Uncalled c g → (b ≡ t.LAngle → ⊥) → Leads c b
+  uncalled-leads None e h = bare_leads e
+  uncalled-leads (Some g) e h = generic_leads g e h
 
 -- A wrapper's word is a name.
 pub wrapper-chosen : (c : ℕ) → has wrappers c ≡ true → choose table n-single c ≡ choice.Named

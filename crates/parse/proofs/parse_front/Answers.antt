@@ -30,7 +30,7 @@ whole-step-requires-clause-ready c =
     let few = sym c.too_many.ensures ∙ c.if-too_many.false in
     let h = ends.few-tokens draft_limits.tokens c.args.count (length c.args.tokens.now) few in
     let s = c.source-source.result in
-    let n = law.count-is s c.args.draft.now c.args.tokens.now c.args.count c.source-source.ensures.draft c.source-source.ensures.tokens h.1 in
+    let n = law.count-is s c.args.draft.now c.args.tokens.now c.args.count c.source-source.ensures.draft c.source-source.ensures.tokens in
     ends.starts-ready c.start-st.ensures (omega (arith, length-text s, n, h.0))
 
 pub returns-clause-answer : goal.returns-clause-answer
@@ -41,9 +41,9 @@ returns-clause-answer c =
     let h = ends.few-tokens draft_limits.tokens c.args.count (length c.args.tokens.now) few in
     let s = c.source-source.result in
     let from = c.source-source.ensures in
-    let n = law.count-is s c.args.draft.now c.args.tokens.now c.args.count from.draft from.tokens h.1 in
+    let n = law.count-is s c.args.draft.now c.args.tokens.now c.args.count from.draft from.tokens in
     let e = c.judge.ensures ∙ ap (λ r. judged s r c.whole-step.result) c.whole-step.auto.tree in
-    law.read-answer s c.args.draft.now c.args.tokens.now c.args.count from.draft from.tokens h.1 en draft_limits.tokens (length c.args.tree.now) _ few short
+    law.read-answer s c.args.draft.now c.args.tokens.now c.args.count from.draft from.tokens en draft_limits.tokens (length c.args.tree.now) _ few short
     (law.said-answer s c.start-st.ensures c.args.tree.now (omega (arith, n, h.0)) en c.whole-step.ensures e)
 
 pub returns-clause-held : goal.returns-clause-held
@@ -53,7 +53,7 @@ returns-clause-held c =
     let h = ends.few-tokens draft_limits.tokens c.args.count (length c.args.tokens.now) few in
     let s = c.source-source.result in
     let from = c.source-source.ensures in
-    let n = law.count-is s c.args.draft.now c.args.tokens.now c.args.count from.draft from.tokens h.1 in
+    let n = law.count-is s c.args.draft.now c.args.tokens.now c.args.count from.draft from.tokens in
     let e = c.judge.ensures ∙ ap (λ r. judged s r c.whole-step.result) c.whole-step.auto.tree in
-    law.read-held s c.args.draft.now c.args.tokens.now c.args.count from.draft from.tokens h.1 en _
+    law.read-held s c.args.draft.now c.args.tokens.now c.args.count from.draft from.tokens en _
     (law.said-held s c.start-st.ensures c.args.tree.now (omega (arith, n, h.0)) en c.whole-step.ensures e)

@@ -1,6 +1,6 @@
 -- Runs of words written into a buffer.
 -- Assumes nothing.
-use Rattle.std.proofs.Common.{◌≡◌, ℕ, ◌+◌, ◌-◌, ◌*◌, ◌<◌, ◌≤◌, List, [], ◌++◌, length, take, drop, sym, ap, ◌∙◌, append_assoc, arith, length-append, length-take-le, take_at, drop_at}
+use Rattle.std.proofs.Common.{◌≡◌, ℕ, ◌+◌, ◌-◌, ◌*◌, ◌≤◌, List, [], ◌++◌, length, take, drop, sym, ap, ◌∙◌, append_assoc, arith, length-append, length-take-le, take_at, drop_at}
 use lib.Seq.{sets, sets-eq, length-sets}
 use Rattle.text.specs.Widths.{rec_wide}
 use Rattle.text.proofs.Sets.{sets-append, sets-sets}

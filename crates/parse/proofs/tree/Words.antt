@@ -1,15 +1,13 @@
--- The words of a record, written one by one.
+-- A part of a buffer that is written as a whole.
 -- Assumes nothing.
-use Rattle.std.proofs.Common.{◌≡◌, ℕ, suc, ◌+◌, List, [], set, arith}
-use lib.Seq.{sets}
-use Rattle.own.specs.Words.{rec_then}
+use Rattle.std.proofs.Common.{◌≡◌, ℕ, ◌+◌, ◌≤◌, List, ◌++◌, append_assoc, length, take, drop, sym, ap, ◌∙◌, arith}
+use borrow.Rule.Slice.PartMut.{put_mid}
+use Rattle.std.proofs.lemmas.List.{drop-drop}
+use lib.Seq.{sets, sets-eq}
 
-pub word-by-word : (l : List ℕ) (i k b e low high z : ℕ) → set (set (set (set (set (set (set l i k) (i + 1) b) (i + 2) e) (i + 3) low) (i + 4) high) (i + 5) z) (i + 6) 0 ≡ sets l i (rec_then k b e low high z [])
-word-by-word l i k b e low high z =
-    let one : i + 1 ≡ suc i = omega arith in
-    let two : i + 2 ≡ suc (suc i) = omega arith in
-    let three : i + 3 ≡ suc (suc (suc i)) = omega arith in
-    let four : i + 4 ≡ suc (suc (suc (suc i))) = omega arith in
-    let five : i + 5 ≡ suc (suc (suc (suc (suc i)))) = omega arith in
-    let six : i + 6 ≡ suc (suc (suc (suc (suc (suc i))))) = omega arith in
-    λ p. set (set (set (set (set (set (set l i k) (one p) b) (two p) e) (three p) low) (four p) high) (five p) z) (six p) 0
+-- The part of k words at i is written, one after the other.
+pub part-written : (l : List ℕ) (i k : ℕ) {ys vs : List ℕ} → ys ≡ vs → k ≡ length vs → i + k ≤ length l → put_mid i k l ys ≡ sets l i vs
+part-written l i k {ys} {vs} e n h =
+    ap (put_mid i k l) e
+    ∙ ap (λ r. take i l ++ (vs ++ r)) (drop-drop k i l ∙ ap (λ j. drop (i + j) l) n)
+    ∙ sym (sets-eq vs l i (omega (arith, n)) ∙ append_assoc (take i l) vs (drop (i + length vs) l))

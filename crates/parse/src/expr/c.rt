@@ -6,7 +6,7 @@ ghost use Rattle.grammar.specs.Shapes.Tables.{table};
 ghost use Rattle.grammar.specs.Shapes.TablesIndex.{n-single, n-arguments, n-path};
 ghost use Rattle.parse.specs.Choice as choice;
 ghost use Rattle.parse.specs.Contract.{text, Ready, Near, Moved, reserved, Parses, Node, ExprKind, Wraps};
-ghost use Rattle.parse.specs.Infos.{Begun, Angled, Generic, Leads, Args, Path};
+ghost use Rattle.parse.specs.Infos.{Begun, Angled, Uncalled, Leads, Args, Path, CallEnds, AngleEnds};
 
 use crate::names::NameSort;
 use crate::token::Source;
@@ -16,7 +16,8 @@ use lexer::classes as class;
 use own::call::CallName;
 use own::kind::Kind;
 
-// The calls that `::<..>` may belong to, by what stands in it: a type, a function and a number, or a function.
+// The calls that `::<..>` may belong to, by what stands in it: a type, a function and a number, or a function. `generic` stands in the cycle: a closure in
+// place of this would state both clauses of its step, as `types::types` says.
 #[derive(Clone, Copy, PartialEq, Eq, Debug)]
 pub(crate) enum GenericCall {
     Typed,
@@ -24,10 +25,10 @@ pub(crate) enum GenericCall {
     ForWhile,
 }
 
-// `(e, …)`; and 1 if it is one expression without a comma.
+// `(e, …)`; and whether it is one expression without a comma, as `exprs` says it.
 #[cycle(expression)]
 #[inline(always)]
-fn arguments(source: &Source, tree: &mut [u32], st: State) -> Step
+fn args(source: &Source, tree: &mut [u32], st: State) -> Step
     requires { Near (text source.now) st }
     ensures { Parses n-arguments Args (text source.now) st tree.old tree.new result }
 {
@@ -46,14 +47,33 @@ fn arguments(source: &Source, tree: &mut [u32], st: State) -> Step
     Step::Next(z, lone, 0)
 }
 
-// The same, apart, for what is read less often than the call of a function by its name: a copy of its own that is not inlined.
+// The arguments of a call, and then its record: that begins at `st`, whose class says which call it is.
 #[cycle(expression)]
-#[inline(never)]
-fn args(source: &Source, tree: &mut [u32], st: State) -> Step
-    requires { Near (text source.now) st }
-    ensures { Parses n-arguments Args (text source.now) st tree.old tree.new result }
+#[inline(always)]
+fn close_call(source: &Source, tree: &mut [u32], st: State, a: State) -> Step
+    requires { Near (text source.now) a }
+    ensures { CallEnds (text source.now) st a tree.old tree.new result }
 {
-    arguments(source, tree, st)
+    let inner = args(source, tree, a);
+    let Step::Next(z, _, _) = inner else {
+        return inner;
+    };
+    tree::close(tree, st, z, Head::of_call(names::call(st.class)));
+    Step::Next(z, 0, 0)
+}
+
+// The same behind the `>` of `::<..>`.
+#[cycle(expression)]
+#[inline(always)]
+fn close_angled(source: &Source, tree: &mut [u32], st: State, a: State) -> Step
+    requires { Near (text source.now) a }
+    ensures { AngleEnds (text source.now) st a tree.old tree.new result }
+{
+    let angle = source.eat(a, class::RANGLE);
+    let Step::Next(b, _, _) = angle else {
+        return angle;
+    };
+    close_call(source, tree, st, b)
 }
 
 // A macro or a jet, called.
@@ -66,12 +86,7 @@ pub(crate) fn simple(source: &Source, tree: &mut [u32], st: State) -> Step
 {
     let a = source.advance(tree::reserve(st));
     let b = names::callee(tree, st, a);
-    let inner = args(source, tree, b);
-    let Step::Next(z, _, _) = inner else {
-        return inner;
-    };
-    tree::close(tree, st, z, Head::of_call(names::call(st.class)));
-    Step::Next(z, 0, 0)
+    close_call(source, tree, st, b)
 }
 
 // `<T>::into(e, …)`
@@ -99,12 +114,7 @@ pub(crate) fn cast(source: &Source, tree: &mut [u32], st: State) -> Step
     let Step::Next(g, _, _) = into else {
         return into;
     };
-    let rest = args(source, tree, g);
-    let Step::Next(z, _, _) = rest else {
-        return rest;
-    };
-    tree::close(tree, st, z, Head::of_call(CallName::TypeCast));
-    Step::Next(z, 0, 0)
+    close_call(source, tree, st, g)
 }
 
 // A name: a call, a wrapper, an enum construction or a variable. For the variable `step` see `expr::single`.
@@ -132,8 +142,8 @@ pub(crate) fn named(source: &Source, tree: &mut [u32], st: State) -> Step
 }
 
 // A call of a name, from its arguments on; a wrapper where it is one expression and no comma. The record begins at `st`, the name, and reading goes on
-// at `a`: two states here and below, whose second has another fact in each function.
-// Its end is that of `simple`, with the arguments laid out here, since calls of a name are the most.
+// at `a`. Two states go together here and in the functions below. A struct of both and the source could say what is required of them in a ghost field, but
+// each call would make one and each function take it apart, as lib.rt says of a cursor.
 #[cycle(expression)]
 #[inline(never)]
 fn called(source: &Source, tree: &mut [u32], st: State, a: State) -> Step
@@ -147,12 +157,7 @@ fn called(source: &Source, tree: &mut [u32], st: State, a: State) -> Step
         return wrap(source, tree, st, a, kind);
     }
     let b = names::callee(tree, st, a);
-    let inner = arguments(source, tree, b);
-    let Step::Next(z, _, _) = inner else {
-        return inner;
-    };
-    tree::close(tree, st, z, Head::of_call(names::call(st.class)));
-    Step::Next(z, 0, 0)
+    close_call(source, tree, st, b)
 }
 
 // `Left(e)` and kin; or a call of that name, whose record is put before the arguments.
@@ -168,7 +173,7 @@ fn wrap(source: &Source, tree: &mut [u32], st: State, a: State, kind: Kind) -> S
     let Step::Next(b, lone, _) = inner else {
         return inner;
     };
-    if lone == 1 {
+    if lone == expr::LONE {
         tree::close(tree, st, b, Head::plain(kind));
         return Step::Next(b, 0, 0);
     }
@@ -221,13 +226,17 @@ fn path(source: &Source, tree: &mut [u32], st: State) -> Step
     Step::Next(z, number, 0)
 }
 
-// A name that is no call: `None`, a variable or the beginning of an enum construction.
-// It begins as `named` and `generic` do, but goes on by other classes, and a name alone is `None` only here.
+// A name that no argument list may follow right away: `None`, a variable, an enum construction or, of those with a `call`, that call behind `::<..>`.
 #[cycle(expression)]
 #[inline(never)]
-pub(crate) fn bare(source: &Source, tree: &mut [u32], st: State) -> Step
+pub(crate) fn generic(
+    source: &Source,
+    tree: &mut [u32],
+    st: State,
+    call: Option<GenericCall>,
+) -> Step
     requires ready { Ready (text source.now) st }
-    requires class_value { choose table n-single st.class ≡ choice.Bare }
+    requires uncalled { Uncalled st.class call }
     ensures { Parses n-single (Node ExprKind) (text source.now) st tree.old tree.new result }
 {
     let a = source.advance(tree::reserve(st));
@@ -236,35 +245,18 @@ pub(crate) fn bare(source: &Source, tree: &mut [u32], st: State) -> Step
         return Step::Next(a, 0, 0);
     }
     let b = source.advance(a);
-    built(source, tree, st, b)
-}
-
-// A name that `::<..>` may follow: a call with that, an enum construction or a variable.
-#[cycle(expression)]
-#[inline(never)]
-pub(crate) fn generic(source: &Source, tree: &mut [u32], st: State, call: GenericCall) -> Step
-    requires ready { Ready (text source.now) st }
-    requires generic { Generic st.class call }
-    ensures { Parses n-single (Node ExprKind) (text source.now) st tree.old tree.new result }
-{
-    let a = source.advance(tree::reserve(st));
-    if a.class != class::DOUBLE_COLON {
-        tree::close(tree, st, a, Head::plain(Kind::Variable));
-        return Step::Next(a, 0, 0);
-    }
-    let b = source.advance(a);
     if b.class != class::LANGLE {
         return built(source, tree, st, b);
     }
     match call {
-        GenericCall::Typed => of_type(source, tree, st, b),
-        GenericCall::Folding => bound(source, tree, st, b),
-        GenericCall::ForWhile => loops(source, tree, st, b),
+        Some(GenericCall::Typed) => of_type(source, tree, st, b),
+        Some(GenericCall::Folding) => bound(source, tree, st, b),
+        Some(GenericCall::ForWhile) => loops(source, tree, st, b),
+        None => built(source, tree, st, b),
     }
 }
 
-// `unwrap_left::<T>(e, …)` and kin, from `<` on. That `b` is there (`Angled`) is a clause of these three and no ghost field beside it, since it speaks
-// of the text and of `st` too.
+// `unwrap_left::<T>(e, …)` and kin, from `<` on. That `b` is there (`Angled`) is a clause of these three, and no ghost field, as `called` says of two states.
 #[cycle(expression)]
 fn of_type(source: &Source, tree: &mut [u32], st: State, b: State) -> Step
     requires ready { Ready (text source.now) st }
@@ -277,16 +269,7 @@ fn of_type(source: &Source, tree: &mut [u32], st: State, b: State) -> Step
     let Step::Next(f, _, _) = inner else {
         return inner;
     };
-    let angle = source.eat(f, class::RANGLE);
-    let Step::Next(g, _, _) = angle else {
-        return angle;
-    };
-    let rest = args(source, tree, g);
-    let Step::Next(z, _, _) = rest else {
-        return rest;
-    };
-    tree::close(tree, st, z, Head::of_call(names::call(st.class)));
-    Step::Next(z, 0, 0)
+    close_angled(source, tree, st, f)
 }
 
 // `fold::<f, n>(e, …)` and `array_fold::<f, n>(e, …)`, from `<` on. What is refused inside is kept apart.
@@ -310,23 +293,18 @@ fn bound(source: &Source, tree: &mut [u32], st: State, b: State) -> Step
     let Step::Next(h, _, _) = size else {
         return size;
     };
-    let angle = source.eat(h, class::RANGLE);
-    let Step::Next(i, _, _) = angle else {
-        return angle;
-    };
-    let rest = args(source, tree, i);
+    let rest = close_angled(source, tree, st, h);
     let Step::Next(y, _, _) = rest else {
         return rest;
     };
-    tree::close(tree, st, y, Head::of_call(names::call(st.class)));
-    let n = names::number(source.draft, g);
+    let n = source.number(g);
     let own = fault::placed(names::size_fault(st.class, n), g.start);
     let z = fault::judged(st, y, own);
     Step::Next(z, 0, 0)
 }
 
-// `for_while::<f>(e, …)`, from `<` on. It differs from `of_type` in what stands between the angles and in the call. One function would match on
-// `GenericCall` again, as `generic` has just done, and its contract would have to speak of two alternatives.
+// `for_while::<f>(e, …)`, from `<` on. It differs from `of_type` in what stands between the angles. One function would match on `GenericCall` again, as
+// `generic` has just done, and its contract would have to speak of two alternatives.
 #[cycle(expression)]
 fn loops(source: &Source, tree: &mut [u32], st: State, b: State) -> Step
     requires ready { Ready (text source.now) st }
@@ -339,14 +317,5 @@ fn loops(source: &Source, tree: &mut [u32], st: State, b: State) -> Step
     let Step::Next(f, _, _) = inner else {
         return inner;
     };
-    let angle = source.eat(f, class::RANGLE);
-    let Step::Next(g, _, _) = angle else {
-        return angle;
-    };
-    let rest = args(source, tree, g);
-    let Step::Next(z, _, _) = rest else {
-        return rest;
-    };
-    tree::close(tree, st, z, Head::of_call(CallName::ForWhile));
-    Step::Next(z, 0, 0)
+    close_angled(source, tree, st, f)
 }

@@ -6,7 +6,7 @@ use Rattle.lexer.proofs.Filling.{Filling}
 use Rattle.lexer.proofs.limits.fill.Given as goal
 
 abbrev pub invariant-loop-kind : goal.invariant-loop-kind
-invariant-loop-kind l = Filling l.draft l.room l.fn.out l.at l.n l.over (known l.nest.counts.depth l.nest.counts.row l.nest.passed) l.out
+invariant-loop-kind l = Filling l.draft l.room l.fn.out l.at l.n (known l.nest) l.out
 
 abbrev pub decreases-loop-kind : goal.decreases-loop-kind
 decreases-loop-kind l = length l.draft - l.at

@@ -15,4 +15,4 @@ returns-in_default c = c.rare.ensures ∙ simp (lt-ltb _ _ c.if-at-draft.false)
 
 pub returns : goal.returns
 unfolding step_of
-returns c = c.in-Some.ensures ∙ simp (lt-ltb _ _ c.if-at-draft.false)
+returns c = c.in-Some.ensures.found ∙ simp (lt-ltb _ _ c.if-at-draft.false)

@@ -14,9 +14,6 @@ use Rattle.load.proofs.check.is_whole.Goals as goal
 pub returns-then-n-eq0 : goal.returns-then-n-eq0
 returns-then-n-eq0 c = one_none _ (c.count-n.ensures ∙ sym (records-many c.args.listing.now)) c.if-n-eq0.true
 
-pub record-top-requires : goal.record-top-requires
-record-top-requires c = omega (arith, c.count-n.ensures, records-many c.args.listing.now)
-
 pub all-requires-clause-callable : goal.all-requires-clause-callable
 all-requires-clause-callable c = serves_from_Range (λ x q k. search (rules, tests)) (λ x low high. search (rules, c.count-n.ensures, records-many c.args.listing.now))
 

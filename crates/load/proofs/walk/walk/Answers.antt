@@ -10,7 +10,7 @@ pub overflow_add-i : goal.overflow_add-i
 overflow_add-i c = omega (arith, in-listing _ _ _ _ c.requires.size_in_bounds, c.requires.size_nonzero)
 
 pub loop-seen-init : goal.loop-seen-init
-loop-seen-init c = walking_start _ _ _ c.start.ensures.is c.start.ensures.below c.requires.parent_value c.requires.size_nonzero (omega arith) c.requires.size_in_bounds (omega (arith, in-listing _ _ _ _ c.requires.size_in_bounds))
+loop-seen-init c = rw (c.default.ensures.0, c.default.ensures.1.0, c.default.ensures.1.1) (walking_start _ _ _ c.start.ensures.is c.start.ensures.below c.requires.parent_value c.requires.size_nonzero (omega arith) c.requires.size_in_bounds (omega (arith, in-listing _ _ _ _ c.requires.size_in_bounds)))
 
 pub returns-then-not-sits-clause-is : goal.returns-then-not-sits-clause-is
 returns-then-not-sits-clause-is c = walking-bad c.loop-seen.invariant c.loop-seen-test.true _ c.record-child.ensures (sym c.sits.ensures ∙ c.if-not-sits.true)

@@ -1,23 +1,23 @@
 -- Assumes nothing.
-use Rattle.std.proofs.Common.{not, [], ◌∷◌, ◌++◌, get_or, sym, refl, ap, ◌∙◌, inl, inr, arith}
+use Rattle.std.proofs.Common.{not, [], ◌∷◌, ◌++◌, sym, refl, ap, ◌∙◌, inl, inr, arith}
 use Rattle.theory.specs.Grammar.{tok, nt}
 use Rattle.theory.specs.Walk.{k_nt}
 use Rattle.theory.specs.Machine.{expand}
 use Rattle.lexer.specs.Classes as class
 use Rattle.own.specs.Kinds as kind
 use Rattle.own.specs.Law.{word, child}
-use Rattle.grammar.specs.Records.Records.{lone}
+use Rattle.grammar.specs.Records.Records.{lone, call_head}
 use Rattle.grammar.specs.Shapes.Tables.{table}
-use Rattle.grammar.specs.Shapes.TablesIndex.{n-arguments, n-arm-choice, n-arm-choice-optional-Comma, n-bare-optional-DoubleColon, n-block, n-function_name, n-list-expression, n-named-optional, n-single, n-type}
-use Rattle.grammar.specs.Shapes.ShapeKind.{AssignmentShape, BareShape, BlockShape, CastCallShape, FoldingShape, ForWhileShape, ListShape, NamedShape, SimpleCallShape, TypedShape}
+use Rattle.grammar.specs.Shapes.TablesIndex.{n-arguments, n-named-optional, n-single}
+use Rattle.grammar.specs.Shapes.ShapeKind.{AssignmentShape, BlockShape, FoldingShape, ListShape, NamedShape}
 use Rattle.own.specs.Numbers.{kind_number}
-use Rattle.parse.specs.Contract.{text, classes, tok_at, reserved, read, stuck, ExprKind, opening_class, closing_class}
+use Rattle.parse.specs.Contract.{text, tok_at, reserved, read, stuck, ExprKind, closing_class}
 use Rattle.parse.specs.Infos as info
 use Rattle.parse.proofs.names.Steps.{ready-near}
 use Rattle.parse.proofs.Rule.Amid.{starts, then_turns, then-passed}
 use Rattle.parse.proofs.Rule.Closing.{opens, opens-clean, as-nonterminal, enters}
-use Rattle.parse.proofs.Rule.Chain.{further, onward-ahead, advances, then-eats, then-lacks, then-node}
-use Rattle.parse.proofs.Rule.Marks.{sign_pos, sign-mark, opens-sign, closes-sign, keeping-mark, word-mark}
+use Rattle.parse.proofs.Rule.Chain.{further, onward, onward-ahead, advances, then-eats, then-lacks, then-node}
+use Rattle.parse.proofs.Rule.Marks.{sign_pos, sign-mark, closes-sign, keeping-mark}
 use Rattle.parse.proofs.Rule.Commas.{AnyN}
 use Rattle.parse.proofs.Rule.Commas as lined
 use Rattle.parse.proofs.Rule.Heads.{judged-at, shut, shut-judged, value-text}
@@ -28,8 +28,12 @@ use Rattle.parse.proofs.expr.Forms as form
 use Rattle.parse.proofs.expr.ArmForms as armed
 use Rattle.parse.proofs.expr.ArmsLoop as arm-loop
 use Rattle.parse.proofs.expr.MatchForm as match
+use Rattle.parse.proofs.expr.LetForm as letting
+use Rattle.parse.proofs.expr.AngleForms as angle
+use Rattle.parse.proofs.expr.BracketForms as bracket
 use Rattle.parse.proofs.expr.CallForms as call
 use Rattle.parse.proofs.expr.CallLaws as law
+use Rattle.parse.proofs.expr.CallEnd as ends
 use Rattle.parse.proofs.expr.NameRules as rule
 use Rattle.parse.proofs.Rule.Refused.{refusal}
 use Rattle.parse.proofs.expr.+expression.Goals as goal
@@ -119,9 +123,7 @@ bracketed-exprs-inner-requires t c =
     let e = c.requires.class_value in
     let b = c.args.brackets in
     let o = opens y c.reserve.ensures in
-    let d0 = starts kind.Tuple AnyN (form.bracketed_rhs b) c.args.tree.now o.stands in
-    let k = o.class_is ∙ form.at-bracketed c.args.st.class b e in
-    let d1 = advances d0 k (sign_pos (opening_class b) (opens-sign b)) c.advance-a.ensures (sign-mark kind.Tuple (opening_class b) (opens-sign b)) in
+    let d1 = bracket.bracketed₁ c.args.tree.now o c.advance-a.ensures kind.Tuple b e in
     let f1 = further y o d1 (omega arith) in
     (omega (arith, f1.ahead, f1.within, c.decreases), f1.ready)
 
@@ -131,9 +133,7 @@ bracketed-returns-in_default t c =
     let e = c.requires.class_value in
     let b = c.args.brackets in
     let o = opens y c.reserve.ensures in
-    let d0 = starts kind.Tuple AnyN (form.bracketed_rhs b) c.args.tree.now o.stands in
-    let k = o.class_is ∙ form.at-bracketed c.args.st.class b e in
-    let d1 = advances d0 k (sign_pos (opening_class b) (opens-sign b)) c.advance-a.ensures (sign-mark kind.Tuple (opening_class b) (opens-sign b)) in
+    let d1 = bracket.bracketed₁ c.args.tree.now o c.advance-a.ensures kind.Tuple b e in
     then-passed d1 (refusal c.in_default.is) (enters (form.bracketed-rule b) y e o) c.exprs-inner.ensures
 
 pub bracketed-returns-in_default-end : goal.bracketed-returns-in_default-end
@@ -142,9 +142,7 @@ bracketed-returns-in_default-end t c =
     let e = c.requires.class_value in
     let b = c.args.brackets in
     let o = opens y c.reserve.ensures in
-    let d0 = starts kind.Tuple AnyN (form.bracketed_rhs b) c.args.tree.now o.stands in
-    let k = o.class_is ∙ form.at-bracketed c.args.st.class b e in
-    let d1 = advances d0 k (sign_pos (opening_class b) (opens-sign b)) c.advance-a.ensures (sign-mark kind.Tuple (opening_class b) (opens-sign b)) in
+    let d1 = bracket.bracketed₁ c.args.tree.now o c.advance-a.ensures kind.Tuple b e in
     let d2 = elem.then-lone d1 c.exprs-inner.ensures c.in-Next.is in
     then-lacks d2.amid (refusal c.in_default-end.is) (enters (form.bracketed-rule b) y e o) (rw c.end.ensures at c.eat-end.ensures)
 
@@ -154,9 +152,7 @@ bracketed-returns t c =
     let e = c.requires.class_value in
     let b = c.args.brackets in
     let o = opens y c.reserve.ensures in
-    let d0 = starts (kind_number c.kind.result) AnyN (form.bracketed_rhs b) c.args.tree.now o.stands in
-    let k = o.class_is ∙ form.at-bracketed c.args.st.class b e in
-    let d1 = advances d0 k (sign_pos (opening_class b) (opens-sign b)) c.advance-a.ensures (sign-mark (kind_number c.kind.result) (opening_class b) (opens-sign b)) in
+    let d1 = bracket.bracketed₁ c.args.tree.now o c.advance-a.ensures (kind_number c.kind.result) b e in
     let d2 = elem.then-lone d1 c.exprs-inner.ensures c.in-Next.is in
     let d3 = then-eats d2.amid (sign_pos (closing_class b) (closes-sign b)) (rw c.end.ensures at c.eat-end.ensures) c.in-Next-end.is (sign-mark (kind_number c.kind.result) (closing_class b) (closes-sign b)) in
     let z = form.bracketed-kind b c.in-Next.lone c.kind.ensures in
@@ -165,10 +161,8 @@ bracketed-returns t c =
 pub assign-pattern-left-requires : goal.assign-pattern-left-requires
 assign-pattern-left-requires t c =
     let y = c.requires.ready in
-    let e = form.at-assign c.args.st.class c.requires.class_value in
     let o = opens y c.reserve.ensures in
-    let d0 = starts kind.Let AnyN form.assign_rhs c.args.tree.now o.stands in
-    let d1 = advances d0 (o.class_is ∙ c.requires.class_value) (omega arith) c.advance-a.ensures (sign-mark kind.Let class.Let tt) in
+    let d1 = letting.let₁ c.args.tree.now o c.requires.class_value c.advance-a.ensures in
     let f1 = further y o d1 (omega arith) in
     f1.ready
 
@@ -177,8 +171,7 @@ assign-returns-in_default t c =
     let y = c.requires.ready in
     let e = form.at-assign c.args.st.class c.requires.class_value in
     let o = opens y c.reserve.ensures in
-    let d0 = starts kind.Let AnyN form.assign_rhs c.args.tree.now o.stands in
-    let d1 = advances d0 (o.class_is ∙ c.requires.class_value) (omega arith) c.advance-a.ensures (sign-mark kind.Let class.Let tt) in
+    let d1 = letting.let₁ c.args.tree.now o c.requires.class_value c.advance-a.ensures in
     then-passed d1 (refusal c.in_default.is) (enters form.assign-rule y e o) c.pattern-left.ensures
 
 pub assign-returns-in_default-colon : goal.assign-returns-in_default-colon
@@ -186,20 +179,14 @@ assign-returns-in_default-colon t c =
     let y = c.requires.ready in
     let e = form.at-assign c.args.st.class c.requires.class_value in
     let o = opens y c.reserve.ensures in
-    let d0 = starts kind.Let AnyN form.assign_rhs c.args.tree.now o.stands in
-    let d1 = advances d0 (o.class_is ∙ c.requires.class_value) (omega arith) c.advance-a.ensures (sign-mark kind.Let class.Let tt) in
-    let d2 = then-node d1 c.pattern-left.ensures c.in-Next.is in
+    let d2 = letting.let₂ c.args.tree.now o c.requires.class_value c.advance-a.ensures c.pattern-left.ensures c.in-Next.is in
     then-lacks d2.amid (refusal c.in_default-colon.is) (enters form.assign-rule y e o) c.eat-colon.ensures
 
 pub assign-ty-middle-requires : goal.assign-ty-middle-requires
 assign-ty-middle-requires t c =
     let y = c.requires.ready in
-    let e = form.at-assign c.args.st.class c.requires.class_value in
     let o = opens y c.reserve.ensures in
-    let d0 = starts kind.Let AnyN form.assign_rhs c.args.tree.now o.stands in
-    let d1 = advances d0 (o.class_is ∙ c.requires.class_value) (omega arith) c.advance-a.ensures (sign-mark kind.Let class.Let tt) in
-    let d2 = then-node d1 c.pattern-left.ensures c.in-Next.is in
-    let d3 = then-eats d2.amid (omega arith) c.eat-colon.ensures c.in-Next-colon.is (sign-mark kind.Let class.Colon tt) in
+    let d3 = letting.let₃ c.args.tree.now o c.requires.class_value c.advance-a.ensures c.pattern-left.ensures c.in-Next.is c.eat-colon.ensures c.in-Next-colon.is in
     let f3 = further y o d3 (omega arith) in
     f3.ready
 
@@ -208,10 +195,7 @@ assign-returns-in_default-middle t c =
     let y = c.requires.ready in
     let e = form.at-assign c.args.st.class c.requires.class_value in
     let o = opens y c.reserve.ensures in
-    let d0 = starts kind.Let AnyN form.assign_rhs c.args.tree.now o.stands in
-    let d1 = advances d0 (o.class_is ∙ c.requires.class_value) (omega arith) c.advance-a.ensures (sign-mark kind.Let class.Let tt) in
-    let d2 = then-node d1 c.pattern-left.ensures c.in-Next.is in
-    let d3 = then-eats d2.amid (omega arith) c.eat-colon.ensures c.in-Next-colon.is (sign-mark kind.Let class.Colon tt) in
+    let d3 = letting.let₃ c.args.tree.now o c.requires.class_value c.advance-a.ensures c.pattern-left.ensures c.in-Next.is c.eat-colon.ensures c.in-Next-colon.is in
     then-passed d3 (refusal c.in_default-middle.is) (enters form.assign-rule y e o) c.ty-middle.ensures
 
 pub assign-returns-in_default-equal : goal.assign-returns-in_default-equal
@@ -219,24 +203,14 @@ assign-returns-in_default-equal t c =
     let y = c.requires.ready in
     let e = form.at-assign c.args.st.class c.requires.class_value in
     let o = opens y c.reserve.ensures in
-    let d0 = starts kind.Let AnyN form.assign_rhs c.args.tree.now o.stands in
-    let d1 = advances d0 (o.class_is ∙ c.requires.class_value) (omega arith) c.advance-a.ensures (sign-mark kind.Let class.Let tt) in
-    let d2 = then-node d1 c.pattern-left.ensures c.in-Next.is in
-    let d3 = then-eats d2.amid (omega arith) c.eat-colon.ensures c.in-Next-colon.is (sign-mark kind.Let class.Colon tt) in
-    let d4 = then-node d3 c.ty-middle.ensures c.in-Next-middle.is in
+    let d4 = letting.let₄ c.args.tree.now o c.requires.class_value c.advance-a.ensures c.pattern-left.ensures c.in-Next.is c.eat-colon.ensures c.in-Next-colon.is c.ty-middle.ensures c.in-Next-middle.is in
     then-lacks d4.amid (refusal c.in_default-equal.is) (enters form.assign-rule y e o) c.eat-equal.ensures
 
 pub assign-expr-right-requires : goal.assign-expr-right-requires
 assign-expr-right-requires t c =
     let y = c.requires.ready in
-    let e = form.at-assign c.args.st.class c.requires.class_value in
     let o = opens y c.reserve.ensures in
-    let d0 = starts kind.Let AnyN form.assign_rhs c.args.tree.now o.stands in
-    let d1 = advances d0 (o.class_is ∙ c.requires.class_value) (omega arith) c.advance-a.ensures (sign-mark kind.Let class.Let tt) in
-    let d2 = then-node d1 c.pattern-left.ensures c.in-Next.is in
-    let d3 = then-eats d2.amid (omega arith) c.eat-colon.ensures c.in-Next-colon.is (sign-mark kind.Let class.Colon tt) in
-    let d4 = then-node d3 c.ty-middle.ensures c.in-Next-middle.is in
-    let d5 = then-eats d4.amid (omega arith) c.eat-equal.ensures c.in-Next-equal.is (sign-mark kind.Let class.Eq tt) in
+    let d5 = letting.let₅ c.args.tree.now o c.requires.class_value c.advance-a.ensures c.pattern-left.ensures c.in-Next.is c.eat-colon.ensures c.in-Next-colon.is c.ty-middle.ensures c.in-Next-middle.is c.eat-equal.ensures c.in-Next-equal.is in
     let f5 = further y o d5 (omega arith) in
     (omega (arith, f5.ahead, f5.within, c.decreases), f5.ready)
 
@@ -245,12 +219,7 @@ assign-returns-in_default-right t c =
     let y = c.requires.ready in
     let e = form.at-assign c.args.st.class c.requires.class_value in
     let o = opens y c.reserve.ensures in
-    let d0 = starts kind.Let AnyN form.assign_rhs c.args.tree.now o.stands in
-    let d1 = advances d0 (o.class_is ∙ c.requires.class_value) (omega arith) c.advance-a.ensures (sign-mark kind.Let class.Let tt) in
-    let d2 = then-node d1 c.pattern-left.ensures c.in-Next.is in
-    let d3 = then-eats d2.amid (omega arith) c.eat-colon.ensures c.in-Next-colon.is (sign-mark kind.Let class.Colon tt) in
-    let d4 = then-node d3 c.ty-middle.ensures c.in-Next-middle.is in
-    let d5 = then-eats d4.amid (omega arith) c.eat-equal.ensures c.in-Next-equal.is (sign-mark kind.Let class.Eq tt) in
+    let d5 = letting.let₅ c.args.tree.now o c.requires.class_value c.advance-a.ensures c.pattern-left.ensures c.in-Next.is c.eat-colon.ensures c.in-Next-colon.is c.ty-middle.ensures c.in-Next-middle.is c.eat-equal.ensures c.in-Next-equal.is in
     then-passed d5 (refusal c.in_default-right.is) (enters form.assign-rule y e o) c.expr-right.ensures
 
 pub assign-returns : goal.assign-returns
@@ -258,22 +227,15 @@ assign-returns t c =
     let y = c.requires.ready in
     let e = form.at-assign c.args.st.class c.requires.class_value in
     let o = opens y c.reserve.ensures in
-    let d0 = starts kind.Let AnyN form.assign_rhs c.args.tree.now o.stands in
-    let d1 = advances d0 (o.class_is ∙ c.requires.class_value) (omega arith) c.advance-a.ensures (sign-mark kind.Let class.Let tt) in
-    let d2 = then-node d1 c.pattern-left.ensures c.in-Next.is in
-    let d3 = then-eats d2.amid (omega arith) c.eat-colon.ensures c.in-Next-colon.is (sign-mark kind.Let class.Colon tt) in
-    let d4 = then-node d3 c.ty-middle.ensures c.in-Next-middle.is in
-    let d5 = then-eats d4.amid (omega arith) c.eat-equal.ensures c.in-Next-equal.is (sign-mark kind.Let class.Eq tt) in
+    let d5 = letting.let₅ c.args.tree.now o c.requires.class_value c.advance-a.ensures c.pattern-left.ensures c.in-Next.is c.eat-colon.ensures c.in-Next-colon.is c.ty-middle.ensures c.in-Next-middle.is c.eat-equal.ensures c.in-Next-equal.is in
     let d6 = then-node d5 c.expr-right.ensures c.in-Next-right.is in
     as-nonterminal form.assign-rule y e (read (shut AssignmentShape tt y o d6.amid (omega arith) (form.assign-head d6.amid) tt info.LetKind refl (rw c.plain.ensures at c.close.ensures)))
 
 pub block-elems-inner-requires : goal.block-elems-inner-requires
 block-elems-inner-requires t c =
     let y = c.requires.ready in
-    let e = form.at_block c.args.st.class c.requires.class_value in
     let o = opens y c.reserve.ensures in
-    let d0 = starts kind.Block AnyN form.block_rhs c.args.tree.now o.stands in
-    let d1 = advances d0 (o.class_is ∙ c.requires.class_value) (omega arith) c.advance-a.ensures (sign-mark kind.Block class.LBrace tt) in
+    let d1 = bracket.block₁ c.args.tree.now o c.advance-a.ensures c.requires.class_value in
     let f1 = further y o d1 (omega arith) in
     (omega (arith, f1.ahead, f1.within, c.decreases), f1.ready)
 
@@ -282,8 +244,7 @@ block-returns-in_default t c =
     let y = c.requires.ready in
     let e = form.at_block c.args.st.class c.requires.class_value in
     let o = opens y c.reserve.ensures in
-    let d0 = starts kind.Block AnyN form.block_rhs c.args.tree.now o.stands in
-    let d1 = advances d0 (o.class_is ∙ c.requires.class_value) (omega arith) c.advance-a.ensures (sign-mark kind.Block class.LBrace tt) in
+    let d1 = bracket.block₁ c.args.tree.now o c.advance-a.ensures c.requires.class_value in
     then-passed d1 (refusal c.in_default.is) (enters form.block-rule y e o) c.elems-inner.ensures
 
 pub block-returns-in_default-brace : goal.block-returns-in_default-brace
@@ -291,8 +252,7 @@ block-returns-in_default-brace t c =
     let y = c.requires.ready in
     let e = form.at_block c.args.st.class c.requires.class_value in
     let o = opens y c.reserve.ensures in
-    let d0 = starts kind.Block AnyN form.block_rhs c.args.tree.now o.stands in
-    let d1 = advances d0 (o.class_is ∙ c.requires.class_value) (omega arith) c.advance-a.ensures (sign-mark kind.Block class.LBrace tt) in
+    let d1 = bracket.block₁ c.args.tree.now o c.advance-a.ensures c.requires.class_value in
     let d2 = elem.then-elements d1 c.elems-inner.ensures c.in-Next.is in
     then-lacks d2.amid (refusal c.in_default-brace.is) (enters form.block-rule y e o) c.eat-brace.ensures
 
@@ -301,8 +261,7 @@ block-returns t c =
     let y = c.requires.ready in
     let e = form.at_block c.args.st.class c.requires.class_value in
     let o = opens y c.reserve.ensures in
-    let d0 = starts kind.Block AnyN form.block_rhs c.args.tree.now o.stands in
-    let d1 = advances d0 (o.class_is ∙ c.requires.class_value) (omega arith) c.advance-a.ensures (sign-mark kind.Block class.LBrace tt) in
+    let d1 = bracket.block₁ c.args.tree.now o c.advance-a.ensures c.requires.class_value in
     let d2 = elem.then-elements d1 c.elems-inner.ensures c.in-Next.is in
     let d3 = then-eats d2.amid (omega arith) c.eat-brace.ensures c.in-Next-brace.is (sign-mark kind.Block class.RBrace tt) in
     as-nonterminal form.block-rule y e (read (shut BlockShape tt y o d3 (omega arith) (form.block-head d2.W d3 d2.so) tt ExprKind (form.expr-kind (omega arith, omega arith)) (rw c.with_low.ensures at c.close.ensures)))
@@ -310,15 +269,13 @@ block-returns t c =
 pub body-returns-in_default : goal.body-returns-in_default
 body-returns-in_default t c =
     let y = c.requires in
-    let s0 = starts 0 AnyN (nt n-arm-choice ∷ []) c.args.tree.now y.stands in
-    let d0 = then_turns (nt n-block ∷ nt n-arm-choice-optional-Comma ∷ []) s0 armed.flat-body (armed.body-block (sym y.stands.class_is ∙ c.if-st-eq-LBRACE.true)) in
+    let d0 = bracket.block_body c.args.tree.now y c.if-st-eq-LBRACE.true in
     then-passed d0 (refusal c.in_default.is) (λ τ p h. h) c.block-inner.ensures
 
 pub body-returns-then-a-eq-COMMA : goal.body-returns-then-a-eq-COMMA
 body-returns-then-a-eq-COMMA t c =
     let y = c.requires in
-    let s0 = starts 0 AnyN (nt n-arm-choice ∷ []) c.args.tree.now y.stands in
-    let d0 = then_turns (nt n-block ∷ nt n-arm-choice-optional-Comma ∷ []) s0 armed.flat-body (armed.body-block (sym y.stands.class_is ∙ c.if-st-eq-LBRACE.true)) in
+    let d0 = bracket.block_body c.args.tree.now y c.if-st-eq-LBRACE.true in
     let d1 = then-node d0 c.block-inner.ensures c.in-Next.is in
     let d2 = advances (then_turns (tok class.Comma ∷ []) d1.amid armed.flat-comma (armed.a-comma (sym d1.amid.lays.stands.class_is ∙ c.if-a-eq-COMMA.true))) c.if-a-eq-COMMA.true (omega arith) c.advance-b.ensures (sign-mark 0 class.Comma tt) in
     read (armed.body_is d1.kind d1.low d1.high d1.first (word class.Comma ∷ []) d2 d1.its_kind (inr refl))
@@ -326,8 +283,7 @@ body-returns-then-a-eq-COMMA t c =
 pub body-returns-then-st-eq-LBRACE : goal.body-returns-then-st-eq-LBRACE
 body-returns-then-st-eq-LBRACE t c =
     let y = c.requires in
-    let s0 = starts 0 AnyN (nt n-arm-choice ∷ []) c.args.tree.now y.stands in
-    let d0 = then_turns (nt n-block ∷ nt n-arm-choice-optional-Comma ∷ []) s0 armed.flat-body (armed.body-block (sym y.stands.class_is ∙ c.if-st-eq-LBRACE.true)) in
+    let d0 = bracket.block_body c.args.tree.now y c.if-st-eq-LBRACE.true in
     let d1 = then-node d0 c.block-inner.ensures c.in-Next.is in
     let d3 = then_turns [] d1.amid armed.flat-comma (armed.no-comma (λ h. c.if-a-eq-COMMA.false (d1.amid.lays.stands.class_is ∙ h))) in
     read (armed.body_is d1.kind d1.low d1.high d1.first [] d3 d1.its_kind (inl refl))
@@ -335,90 +291,64 @@ body-returns-then-st-eq-LBRACE t c =
 pub body-returns-in_default-other : goal.body-returns-in_default-other
 body-returns-in_default-other t c =
     let y = c.requires in
-    let s0 = starts 0 AnyN (nt n-arm-choice ∷ []) c.args.tree.now y.stands in
-    let a0 = then_turns (nt n-single ∷ tok class.Comma ∷ []) s0 armed.flat-body (armed.body-single (λ h. c.if-st-eq-LBRACE.false (y.stands.class_is ∙ h))) in
+    let a0 = bracket.other_body c.args.tree.now y c.if-st-eq-LBRACE.false in
     then-passed a0 (refusal c.in_default-other.is) (λ τ p h. h) c.single-other.ensures
 
 pub body-returns-in_default-comma : goal.body-returns-in_default-comma
 body-returns-in_default-comma t c =
     let y = c.requires in
-    let s0 = starts 0 AnyN (nt n-arm-choice ∷ []) c.args.tree.now y.stands in
-    let a0 = then_turns (nt n-single ∷ tok class.Comma ∷ []) s0 armed.flat-body (armed.body-single (λ h. c.if-st-eq-LBRACE.false (y.stands.class_is ∙ h))) in
+    let a0 = bracket.other_body c.args.tree.now y c.if-st-eq-LBRACE.false in
     let a1 = then-node a0 c.single-other.ensures c.in-Next-other.is in
     then-lacks a1.amid (refusal c.in_default-comma.is) (λ τ p h. h) c.eat-comma.ensures
 
 pub body-returns : goal.body-returns
 body-returns t c =
     let y = c.requires in
-    let s0 = starts 0 AnyN (nt n-arm-choice ∷ []) c.args.tree.now y.stands in
-    let a0 = then_turns (nt n-single ∷ tok class.Comma ∷ []) s0 armed.flat-body (armed.body-single (λ h. c.if-st-eq-LBRACE.false (y.stands.class_is ∙ h))) in
+    let a0 = bracket.other_body c.args.tree.now y c.if-st-eq-LBRACE.false in
     let a1 = then-node a0 c.single-other.ensures c.in-Next-other.is in
     let a2 = then-eats a1.amid (omega arith) c.eat-comma.ensures c.in-Next-comma.is (sign-mark 0 class.Comma tt) in
     read (armed.body_is a1.kind a1.low a1.high a1.first (word class.Comma ∷ []) a2 a1.its_kind (inr refl))
 
-pub c::arguments-returns-in_default : goal.c::arguments-returns-in_default
-c::arguments-returns-in_default t c =
-    let x = text c.args.source.now in
+pub c::args-returns-in_default : goal.c::args-returns-in_default
+c::args-returns-in_default t c =
     let y = c.requires in
-    let d0 = then_turns (tok class.LParen ∷ nt n-list-expression ∷ tok class.RParen ∷ []) (starts 0 AnyN (nt n-arguments ∷ []) c.args.tree.now y.stands) armed.flat-args (armed.args-rule (get_or (classes x) c.args.st.at 0)) in
+    let d0 = bracket.arguments₀ c.args.tree.now y in
     then-lacks d0 (refusal c.in_default.is) (λ τ p h. h) c.eat-open.ensures
 
-pub c::arguments-exprs-inner-requires : goal.c::arguments-exprs-inner-requires
-c::arguments-exprs-inner-requires t c =
-    let x = text c.args.source.now in
+pub c::args-exprs-inner-requires : goal.c::args-exprs-inner-requires
+c::args-exprs-inner-requires t c =
     let y = c.requires in
-    let d0 = then_turns (tok class.LParen ∷ nt n-list-expression ∷ tok class.RParen ∷ []) (starts 0 AnyN (nt n-arguments ∷ []) c.args.tree.now y.stands) armed.flat-args (armed.args-rule (get_or (classes x) c.args.st.at 0)) in
-    let d1 = then-eats d0 (omega arith) c.eat-open.ensures c.in-Next.is (sign-mark 0 class.LParen tt) in
+    let d1 = bracket.arguments₁ c.args.tree.now y c.eat-open.ensures c.in-Next.is in
     (omega (arith, onward-ahead d1 (omega arith), d1.lays.stands.within, c.decreases), armed.near-onward y d1 (omega arith))
 
-pub c::arguments-returns-in_default-inner : goal.c::arguments-returns-in_default-inner
-c::arguments-returns-in_default-inner t c =
-    let x = text c.args.source.now in
+pub c::args-returns-in_default-inner : goal.c::args-returns-in_default-inner
+c::args-returns-in_default-inner t c =
     let y = c.requires in
-    let d0 = then_turns (tok class.LParen ∷ nt n-list-expression ∷ tok class.RParen ∷ []) (starts 0 AnyN (nt n-arguments ∷ []) c.args.tree.now y.stands) armed.flat-args (armed.args-rule (get_or (classes x) c.args.st.at 0)) in
-    let d1 = then-eats d0 (omega arith) c.eat-open.ensures c.in-Next.is (sign-mark 0 class.LParen tt) in
+    let d1 = bracket.arguments₁ c.args.tree.now y c.eat-open.ensures c.in-Next.is in
     then-passed d1 (refusal c.in_default-inner.is) (λ τ p h. h) c.exprs-inner.ensures
 
-pub c::arguments-returns-in_default-paren : goal.c::arguments-returns-in_default-paren
-c::arguments-returns-in_default-paren t c =
-    let x = text c.args.source.now in
+pub c::args-returns-in_default-paren : goal.c::args-returns-in_default-paren
+c::args-returns-in_default-paren t c =
     let y = c.requires in
-    let d0 = then_turns (tok class.LParen ∷ nt n-list-expression ∷ tok class.RParen ∷ []) (starts 0 AnyN (nt n-arguments ∷ []) c.args.tree.now y.stands) armed.flat-args (armed.args-rule (get_or (classes x) c.args.st.at 0)) in
-    let d1 = then-eats d0 (omega arith) c.eat-open.ensures c.in-Next.is (sign-mark 0 class.LParen tt) in
+    let d1 = bracket.arguments₁ c.args.tree.now y c.eat-open.ensures c.in-Next.is in
     let d2 = elem.then-lone d1 c.exprs-inner.ensures c.in-Next-inner.is in
     then-lacks d2.amid (refusal c.in_default-paren.is) (λ τ p h. h) c.eat-paren.ensures
 
-pub c::arguments-returns : goal.c::arguments-returns
-c::arguments-returns t c =
-    let x = text c.args.source.now in
+pub c::args-returns : goal.c::args-returns
+c::args-returns t c =
     let y = c.requires in
-    let d0 = then_turns (tok class.LParen ∷ nt n-list-expression ∷ tok class.RParen ∷ []) (starts 0 AnyN (nt n-arguments ∷ []) c.args.tree.now y.stands) armed.flat-args (armed.args-rule (get_or (classes x) c.args.st.at 0)) in
-    let d1 = then-eats d0 (omega arith) c.eat-open.ensures c.in-Next.is (sign-mark 0 class.LParen tt) in
+    let d1 = bracket.arguments₁ c.args.tree.now y c.eat-open.ensures c.in-Next.is in
     let d2 = elem.then-lone d1 c.exprs-inner.ensures c.in-Next-inner.is in
     let d3 = then-eats d2.amid (omega arith) c.eat-paren.ensures c.in-Next-paren.is (sign-mark 0 class.RParen tt) in
     read (armed.args_are d2.W d3 (omega arith) d2.so.0 d2.so.1)
-
-pub c::bare-returns-then-a-ne-DOUBLE_COLON : goal.c::bare-returns-then-a-ne-DOUBLE_COLON
-c::bare-returns-then-a-ne-DOUBLE_COLON t c =
-    let y = c.requires.ready in
-    let e = c.requires.class_value in
-    let o = opens y c.reserve.ensures in
-    let n = call.bare-name c.args.st.class e in
-    let z = call.for-bare c.args.st.class e in
-    let ks = call.alone-kinds c.args.st.class (kind_number c.alone.result) c.alone.ensures in
-    let a1 = law.first-mark y o z (kind_number c.alone.result) AnyN (nt n-bare-optional-DoubleColon ∷ []) c.args.tree.now c.advance-a.ensures (keeping-mark (kind_number c.alone.result) c.args.st.class (call.alone-keeps ks)) in
-    let a2 = then_turns [] a1 call.flat-bare (call.bare-alone (λ h. c.if-a-ne-DOUBLE_COLON.true (a1.lays.stands.class_is ∙ h))) in
-    as-nonterminal call.bare-rule y e (read (shut BareShape tt y o a2 (omega arith) (call.form-bare a2 ∙ call.alone-is c.args.st.class n ∙ sym c.alone.ensures) (call.alone-unturned ks) ExprKind (call.alone-kind ks) (rw c.plain.ensures at c.close.ensures)))
 
 pub c::bound-name-inner-requires : goal.c::bound-name-inner-requires
 c::bound-name-inner-requires t c =
     let y = c.requires.ready in
     let e = c.requires.class_value in
     let o = opens-clean y refl refl in
-    let g = rule.begun-apart c.args.st c.args.b c.requires.angled.begun c.clean.ensures in
-    let h = rule.apart-class c.args.b c.clean.ensures c.requires.angled.angle in
-    let a1 = law.angled y o (call.for-folding c.args.st.class e) AnyN (nt n-function_name ∷ tok class.Comma ∷ tok class.DecLiteral ∷ tok class.RAngle ∷ nt n-arguments ∷ []) c.args.tree.now call.flat-folding (λ i h. call.folding-colons h) call.flat-bounded (λ i h. call.folding-angle h) (call.folding-mark c.args.st.class e) g h c.advance-d.ensures in
-    let f1 = further y o a1 (omega arith) in
+    let d1 = angle.folding₁ c.args.tree.now y e c.requires.angled c.clean.ensures c.advance-d.ensures AnyN in
+    let f1 = further y o d1 (omega arith) in
     ready-near f1.ready
 
 pub c::bound-returns-in_default : goal.c::bound-returns-in_default
@@ -426,98 +356,50 @@ c::bound-returns-in_default t c =
     let y = c.requires.ready in
     let e = c.requires.class_value in
     let o = opens-clean y refl refl in
-    let g = rule.begun-apart c.args.st c.args.b c.requires.angled.begun c.clean.ensures in
-    let h = rule.apart-class c.args.b c.clean.ensures c.requires.angled.angle in
-    let a1 = law.angled y o (call.for-folding c.args.st.class e) AnyN (nt n-function_name ∷ tok class.Comma ∷ tok class.DecLiteral ∷ tok class.RAngle ∷ nt n-arguments ∷ []) c.args.tree.now call.flat-folding (λ i h. call.folding-colons h) call.flat-bounded (λ i h. call.folding-angle h) (call.folding-mark c.args.st.class e) g h c.advance-d.ensures in
-    then-passed a1 (refusal c.in_default.is) (enters call.folding-rule y e o) c.name-inner.ensures
+    let d1 = angle.folding₁ c.args.tree.now y e c.requires.angled c.clean.ensures c.advance-d.ensures AnyN in
+    then-passed d1 (refusal c.in_default.is) (enters call.folding-rule y e o) c.name-inner.ensures
 
 pub c::bound-returns-in_default-comma : goal.c::bound-returns-in_default-comma
 c::bound-returns-in_default-comma t c =
     let y = c.requires.ready in
     let e = c.requires.class_value in
     let o = opens-clean y refl refl in
-    let g = rule.begun-apart c.args.st c.args.b c.requires.angled.begun c.clean.ensures in
-    let h = rule.apart-class c.args.b c.clean.ensures c.requires.angled.angle in
-    let a1 = law.angled y o (call.for-folding c.args.st.class e) AnyN (nt n-function_name ∷ tok class.Comma ∷ tok class.DecLiteral ∷ tok class.RAngle ∷ nt n-arguments ∷ []) c.args.tree.now call.flat-folding (λ i h. call.folding-colons h) call.flat-bounded (λ i h. call.folding-angle h) (call.folding-mark c.args.st.class e) g h c.advance-d.ensures in
-    let a2 = law.then-function-name a1 c.name-inner.ensures c.in-Next.is in
-    then-lacks a2 (refusal c.in_default-comma.is) (enters call.folding-rule y e o) c.eat-comma.ensures
+    let d2 = angle.folding₂ c.args.tree.now y e c.requires.angled c.clean.ensures c.advance-d.ensures c.name-inner.ensures c.in-Next.is AnyN in
+    then-lacks d2 (refusal c.in_default-comma.is) (enters call.folding-rule y e o) c.eat-comma.ensures
 
 pub c::bound-decimal-size-requires : goal.c::bound-decimal-size-requires
 c::bound-decimal-size-requires t c =
-    let x = text c.args.source.now in
     let y = c.requires.ready in
     let e = c.requires.class_value in
     let o = opens-clean y refl refl in
-    let g = rule.begun-apart c.args.st c.args.b c.requires.angled.begun c.clean.ensures in
-    let h = rule.apart-class c.args.b c.clean.ensures c.requires.angled.angle in
-    let N = law.Valued x c.in-Next-comma.g.at in
-    let d1 = law.angled y o (call.for-folding c.args.st.class e) N (nt n-function_name ∷ tok class.Comma ∷ tok class.DecLiteral ∷ tok class.RAngle ∷ nt n-arguments ∷ []) c.args.tree.now call.flat-folding (λ i h. call.folding-colons h) call.flat-bounded (λ i h. call.folding-angle h) (call.folding-mark c.args.st.class e) g h c.advance-d.ensures in
-    let d2 = law.then-function-name d1 c.name-inner.ensures c.in-Next.is in
-    let d3 = then-eats d2 (omega arith) c.eat-comma.ensures c.in-Next-comma.is (sign-mark kind.Call class.Comma tt) in
+    let d3 = angle.folding₃ c.args.tree.now y e c.requires.angled c.clean.ensures c.advance-d.ensures c.name-inner.ensures c.in-Next.is c.eat-comma.ensures c.in-Next-comma.is (law.Valued (text c.args.source.now) c.in-Next-comma.g.at) in
     let f3 = further y o d3 (omega arith) in
     f3.ready
 
 pub c::bound-returns-in_default-size : goal.c::bound-returns-in_default-size
 c::bound-returns-in_default-size t c =
-    let x = text c.args.source.now in
     let y = c.requires.ready in
     let e = c.requires.class_value in
     let o = opens-clean y refl refl in
-    let g = rule.begun-apart c.args.st c.args.b c.requires.angled.begun c.clean.ensures in
-    let h = rule.apart-class c.args.b c.clean.ensures c.requires.angled.angle in
-    let N = law.Valued x c.in-Next-comma.g.at in
-    let d1 = law.angled y o (call.for-folding c.args.st.class e) N (nt n-function_name ∷ tok class.Comma ∷ tok class.DecLiteral ∷ tok class.RAngle ∷ nt n-arguments ∷ []) c.args.tree.now call.flat-folding (λ i h. call.folding-colons h) call.flat-bounded (λ i h. call.folding-angle h) (call.folding-mark c.args.st.class e) g h c.advance-d.ensures in
-    let d2 = law.then-function-name d1 c.name-inner.ensures c.in-Next.is in
-    let d3 = then-eats d2 (omega arith) c.eat-comma.ensures c.in-Next-comma.is (sign-mark kind.Call class.Comma tt) in
+    let d3 = angle.folding₃ c.args.tree.now y e c.requires.angled c.clean.ensures c.advance-d.ensures c.name-inner.ensures c.in-Next.is c.eat-comma.ensures c.in-Next-comma.is (law.Valued (text c.args.source.now) c.in-Next-comma.g.at) in
     then-passed d3 (refusal c.in_default-size.is) (enters call.folding-rule y e o) c.decimal-size.ensures
 
-pub c::bound-returns-in_default-angle : goal.c::bound-returns-in_default-angle
-c::bound-returns-in_default-angle t c =
-    let x = text c.args.source.now in
+pub c::bound-close_angled-rest-requires : goal.c::bound-close_angled-rest-requires
+c::bound-close_angled-rest-requires t c =
     let y = c.requires.ready in
     let e = c.requires.class_value in
     let o = opens-clean y refl refl in
-    let g = rule.begun-apart c.args.st c.args.b c.requires.angled.begun c.clean.ensures in
-    let h = rule.apart-class c.args.b c.clean.ensures c.requires.angled.angle in
-    let N = law.Valued x c.in-Next-comma.g.at in
-    let d1 = law.angled y o (call.for-folding c.args.st.class e) N (nt n-function_name ∷ tok class.Comma ∷ tok class.DecLiteral ∷ tok class.RAngle ∷ nt n-arguments ∷ []) c.args.tree.now call.flat-folding (λ i h. call.folding-colons h) call.flat-bounded (λ i h. call.folding-angle h) (call.folding-mark c.args.st.class e) g h c.advance-d.ensures in
-    let d2 = law.then-function-name d1 c.name-inner.ensures c.in-Next.is in
-    let d3 = then-eats d2 (omega arith) c.eat-comma.ensures c.in-Next-comma.is (sign-mark kind.Call class.Comma tt) in
-    let d4 = law.then-bound d3 c.decimal-size.ensures c.in-Next-size.is in
-    then-lacks d4 (refusal c.in_default-angle.is) (enters call.folding-rule y e o) c.eat-angle.ensures
-
-pub c::bound-args-rest-requires : goal.c::bound-args-rest-requires
-c::bound-args-rest-requires t c =
-    let x = text c.args.source.now in
-    let y = c.requires.ready in
-    let e = c.requires.class_value in
-    let o = opens-clean y refl refl in
-    let g = rule.begun-apart c.args.st c.args.b c.requires.angled.begun c.clean.ensures in
-    let h = rule.apart-class c.args.b c.clean.ensures c.requires.angled.angle in
-    let N = law.Valued x c.in-Next-comma.g.at in
-    let d1 = law.angled y o (call.for-folding c.args.st.class e) N (nt n-function_name ∷ tok class.Comma ∷ tok class.DecLiteral ∷ tok class.RAngle ∷ nt n-arguments ∷ []) c.args.tree.now call.flat-folding (λ i h. call.folding-colons h) call.flat-bounded (λ i h. call.folding-angle h) (call.folding-mark c.args.st.class e) g h c.advance-d.ensures in
-    let d2 = law.then-function-name d1 c.name-inner.ensures c.in-Next.is in
-    let d3 = then-eats d2 (omega arith) c.eat-comma.ensures c.in-Next-comma.is (sign-mark kind.Call class.Comma tt) in
-    let d4 = law.then-bound d3 c.decimal-size.ensures c.in-Next-size.is in
-    let d5 = then-eats d4 (omega arith) c.eat-angle.ensures c.in-Next-angle.is (sign-mark kind.Call class.RAngle tt) in
-    let f5 = further y o d5 (omega arith) in
-    (omega (arith, f5.ahead, f5.within, c.decreases), law.near f5.ready)
+    let d4 = angle.folding₄ c.args.tree.now y e c.requires.angled c.clean.ensures c.advance-d.ensures c.name-inner.ensures c.in-Next.is c.eat-comma.ensures c.in-Next-comma.is c.decimal-size.ensures c.in-Next-size.is in
+    let f4 = further y o d4 (omega arith) in
+    (omega (arith, f4.ahead, f4.within, c.decreases), law.near f4.ready)
 
 pub c::bound-returns-in_default-rest : goal.c::bound-returns-in_default-rest
 c::bound-returns-in_default-rest t c =
-    let x = text c.args.source.now in
     let y = c.requires.ready in
     let e = c.requires.class_value in
     let o = opens-clean y refl refl in
-    let g = rule.begun-apart c.args.st c.args.b c.requires.angled.begun c.clean.ensures in
-    let h = rule.apart-class c.args.b c.clean.ensures c.requires.angled.angle in
-    let N = law.Valued x c.in-Next-comma.g.at in
-    let d1 = law.angled y o (call.for-folding c.args.st.class e) N (nt n-function_name ∷ tok class.Comma ∷ tok class.DecLiteral ∷ tok class.RAngle ∷ nt n-arguments ∷ []) c.args.tree.now call.flat-folding (λ i h. call.folding-colons h) call.flat-bounded (λ i h. call.folding-angle h) (call.folding-mark c.args.st.class e) g h c.advance-d.ensures in
-    let d2 = law.then-function-name d1 c.name-inner.ensures c.in-Next.is in
-    let d3 = then-eats d2 (omega arith) c.eat-comma.ensures c.in-Next-comma.is (sign-mark kind.Call class.Comma tt) in
-    let d4 = law.then-bound d3 c.decimal-size.ensures c.in-Next-size.is in
-    let d5 = then-eats d4 (omega arith) c.eat-angle.ensures c.in-Next-angle.is (sign-mark kind.Call class.RAngle tt) in
-    then-passed d5 (refusal c.in_default-rest.is) (enters call.folding-rule y e o) c.args-rest.ensures
+    let d4 = angle.folding₄ c.args.tree.now y e c.requires.angled c.clean.ensures c.advance-d.ensures c.name-inner.ensures c.in-Next.is c.eat-comma.ensures c.in-Next-comma.is c.decimal-size.ensures c.in-Next-size.is in
+    ends.angle-passed d4 c.in_default-rest.is (enters call.folding-rule y e o) c.close_angled-rest.ensures
 
 pub c::bound-returns : goal.c::bound-returns
 c::bound-returns t c =
@@ -525,20 +407,15 @@ c::bound-returns t c =
     let y = c.requires.ready in
     let e = c.requires.class_value in
     let o = opens-clean y refl refl in
-    let g = rule.begun-apart c.args.st c.args.b c.requires.angled.begun c.clean.ensures in
-    let h = rule.apart-class c.args.b c.clean.ensures c.requires.angled.angle in
     let p = call.folding-apart c.args.st.class e in
-    let N = law.Valued x c.in-Next-comma.g.at in
-    let d1 = law.angled y o (call.for-folding c.args.st.class e) N (nt n-function_name ∷ tok class.Comma ∷ tok class.DecLiteral ∷ tok class.RAngle ∷ nt n-arguments ∷ []) c.args.tree.now call.flat-folding (λ i h. call.folding-colons h) call.flat-bounded (λ i h. call.folding-angle h) (call.folding-mark c.args.st.class e) g h c.advance-d.ensures in
-    let d2 = law.then-function-name d1 c.name-inner.ensures c.in-Next.is in
-    let d3 = then-eats d2 (omega arith) c.eat-comma.ensures c.in-Next-comma.is (sign-mark kind.Call class.Comma tt) in
-    let d4 = law.then-bound d3 c.decimal-size.ensures c.in-Next-size.is in
-    let d5 = then-eats d4 (omega arith) c.eat-angle.ensures c.in-Next-angle.is (sign-mark kind.Call class.RAngle tt) in
-    let d6 = law.then-args d5 c.args-rest.ensures c.in-Next-rest.is in
+    let d3 = angle.folding₃ c.args.tree.now y e c.requires.angled c.clean.ensures c.advance-d.ensures c.name-inner.ensures c.in-Next.is c.eat-comma.ensures c.in-Next-comma.is (law.Valued (text c.args.source.now) c.in-Next-comma.g.at) in
+    let d4 = angle.folding₄ c.args.tree.now y e c.requires.angled c.clean.ensures c.advance-d.ensures c.name-inner.ensures c.in-Next.is c.eat-comma.ensures c.in-Next-comma.is c.decimal-size.ensures c.in-Next-size.is in
+    let g5 = ends.angle-went d4 c.close_angled-rest.ensures c.in-Next-rest.is in
+    let d6 = g5.argued in
     let nd = law.name-no-decimal c.name-inner.ensures c.in-Next.is in
     let vt = value-text c.args.source.now d3.lays.stands c.number-n.ensures in
-    as-nonterminal call.folding-rule y e (read (shut-judged FoldingShape y o d6.amid (omega (arith, d6.one)) (call.call-low c.args.st.class (call.folding-head d6.amid) c.call.ensures)
-    (law.fold-number d6.amid p.decimal nd) tt ExprKind call.call-kind (rw c.of_call.ensures at c.close.ensures)
+    as-nonterminal call.folding-rule y e (read (shut-judged FoldingShape y o d6.amid (omega (arith, d6.one)) (call.call-low c.args.st.class (call.folding-head d6.amid) refl)
+    (law.fold-number d6.amid p.decimal nd) tt ExprKind call.call-kind g5.put
     (judged-at c.judged-z.ensures c.placed-own.ensures c.size_fault.ensures d3.lays.stands.start_is)
     (λ is u v. call.fold-fault x.draft is c.args.st.class c.number-n.result (tok_at x c.in-Next-comma.g.at) u (law.fold-first d6.amid p.decimal nd is u v) vt)))
 
@@ -572,8 +449,8 @@ c::called-wrap-requires t c =
     let k = c.requires.class_value_2 in
     (omega (arith, c.decreases), (y, (c.in-Some.ensures, (mv, k))))
 
-pub c::called-arguments-inner-requires : goal.c::called-arguments-inner-requires
-c::called-arguments-inner-requires t c =
+pub c::called-close_call-requires : goal.c::called-close_call-requires
+c::called-close_call-requires t c =
     let y = c.requires.ready in
     let e = c.requires.class_value in
     let mv = c.requires.moved in
@@ -582,18 +459,6 @@ c::called-arguments-inner-requires t c =
     let p = call.named-apart c.args.st.class e in
     let d1 = law.first-called y o (call.for-named c.args.st.class e) AnyN (nt n-named-optional ∷ []) p mv c.callee-b.ensures in
     (omega (arith, d1.ahead, d1.amid.lays.stands.within, o.at_is, c.decreases), law.nearly y o d1.amid)
-
-pub c::called-returns-in_default-inner : goal.c::called-returns-in_default-inner
-c::called-returns-in_default-inner t c =
-    let y = c.requires.ready in
-    let e = c.requires.class_value in
-    let mv = c.requires.moved in
-    let k = c.requires.class_value_2 in
-    let o = opens y refl in
-    let p = call.named-apart c.args.st.class e in
-    let d1 = law.first-called y o (call.for-named c.args.st.class e) AnyN (nt n-named-optional ∷ []) p mv c.callee-b.ensures in
-    let d2 = then_turns (nt n-arguments ∷ []) d1.amid call.flat-named (call.named-args (sym d1.amid.lays.stands.class_is ∙ d1.class_is ∙ k)) in
-    then-passed d2 (refusal c.in_default-inner.is) (enters call.named_rule y e o) c.arguments-inner.ensures
 
 pub c::called-returns : goal.c::called-returns
 c::called-returns t c =
@@ -605,16 +470,14 @@ c::called-returns t c =
     let p = call.named-apart c.args.st.class e in
     let d1 = law.first-called y o (call.for-named c.args.st.class e) AnyN (nt n-named-optional ∷ []) p mv c.callee-b.ensures in
     let d2 = then_turns (nt n-arguments ∷ []) d1.amid call.flat-named (call.named-args (sym d1.amid.lays.stands.class_is ∙ d1.class_is ∙ k)) in
-    let d3 = law.then-args d2 c.arguments-inner.ensures c.in-Next.is in
-    as-nonterminal call.named_rule y e (read (shut NamedShape tt y o d3.amid (omega (arith, d3.one)) (call.call-low c.args.st.class (call.form-named d3.amid ∙ call.unwrapped-is c.args.st.class d3.W p c.in_default.ensures d3.commas) c.call.ensures) tt ExprKind call.call-kind (rw c.of_call.ensures at c.close.ensures)))
+    ends.call-shut call.named_rule y e o tt d2 (λ W h ms m z l d. call.form-named d ∙ call.unwrapped-is c.args.st.class W p c.in_default.ensures h) c.close_call.ensures
 
 pub c::cast-ty-inner-requires : goal.c::cast-ty-inner-requires
 c::cast-ty-inner-requires t c =
     let y = c.requires.ready in
     let e = c.requires.class_value in
     let o = opens y c.reserve.ensures in
-    let d0 = starts kind.Call AnyN call.cast_rhs c.args.tree.now o.stands in
-    let d1 = advances d0 (o.class_is ∙ call.at-cast c.args.st.class e) (omega arith) c.advance-a.ensures (sign-mark kind.Call class.LAngle tt) in
+    let d1 = angle.cast₁ c.args.tree.now o e c.advance-a.ensures in
     let f1 = further y o d1 (omega arith) in
     f1.ready
 
@@ -623,8 +486,7 @@ c::cast-returns-in_default t c =
     let y = c.requires.ready in
     let e = c.requires.class_value in
     let o = opens y c.reserve.ensures in
-    let d0 = starts kind.Call AnyN call.cast_rhs c.args.tree.now o.stands in
-    let d1 = advances d0 (o.class_is ∙ call.at-cast c.args.st.class e) (omega arith) c.advance-a.ensures (sign-mark kind.Call class.LAngle tt) in
+    let d1 = angle.cast₁ c.args.tree.now o e c.advance-a.ensures in
     then-passed d1 (refusal c.in_default.is) (enters call.cast-rule y e o) c.ty-inner.ensures
 
 pub c::cast-returns-in_default-angle : goal.c::cast-returns-in_default-angle
@@ -632,9 +494,7 @@ c::cast-returns-in_default-angle t c =
     let y = c.requires.ready in
     let e = c.requires.class_value in
     let o = opens y c.reserve.ensures in
-    let d0 = starts kind.Call AnyN call.cast_rhs c.args.tree.now o.stands in
-    let d1 = advances d0 (o.class_is ∙ call.at-cast c.args.st.class e) (omega arith) c.advance-a.ensures (sign-mark kind.Call class.LAngle tt) in
-    let d2 = then-node d1 c.ty-inner.ensures c.in-Next.is in
+    let d2 = angle.cast₂ c.args.tree.now o e c.advance-a.ensures c.ty-inner.ensures c.in-Next.is in
     then-lacks d2.amid (refusal c.in_default-angle.is) (enters call.cast-rule y e o) c.eat-angle.ensures
 
 pub c::cast-returns-in_default-colons : goal.c::cast-returns-in_default-colons
@@ -642,10 +502,7 @@ c::cast-returns-in_default-colons t c =
     let y = c.requires.ready in
     let e = c.requires.class_value in
     let o = opens y c.reserve.ensures in
-    let d0 = starts kind.Call AnyN call.cast_rhs c.args.tree.now o.stands in
-    let d1 = advances d0 (o.class_is ∙ call.at-cast c.args.st.class e) (omega arith) c.advance-a.ensures (sign-mark kind.Call class.LAngle tt) in
-    let d2 = then-node d1 c.ty-inner.ensures c.in-Next.is in
-    let d3 = then-eats d2.amid (omega arith) c.eat-angle.ensures c.in-Next-angle.is (sign-mark kind.Call class.RAngle tt) in
+    let d3 = angle.cast₃ c.args.tree.now o e c.advance-a.ensures c.ty-inner.ensures c.in-Next.is c.eat-angle.ensures c.in-Next-angle.is in
     then-lacks d3 (refusal c.in_default-colons.is) (enters call.cast-rule y e o) c.eat-colons.ensures
 
 pub c::cast-returns-in_default-into : goal.c::cast-returns-in_default-into
@@ -653,77 +510,67 @@ c::cast-returns-in_default-into t c =
     let y = c.requires.ready in
     let e = c.requires.class_value in
     let o = opens y c.reserve.ensures in
-    let d0 = starts kind.Call AnyN call.cast_rhs c.args.tree.now o.stands in
-    let d1 = advances d0 (o.class_is ∙ call.at-cast c.args.st.class e) (omega arith) c.advance-a.ensures (sign-mark kind.Call class.LAngle tt) in
-    let d2 = then-node d1 c.ty-inner.ensures c.in-Next.is in
-    let d3 = then-eats d2.amid (omega arith) c.eat-angle.ensures c.in-Next-angle.is (sign-mark kind.Call class.RAngle tt) in
-    let d4 = then-eats d3 (omega arith) c.eat-colons.ensures c.in-Next-colons.is (sign-mark kind.Call class.DoubleColon tt) in
+    let d4 = angle.cast₄ c.args.tree.now o e c.advance-a.ensures c.ty-inner.ensures c.in-Next.is c.eat-angle.ensures c.in-Next-angle.is c.eat-colons.ensures c.in-Next-colons.is in
     then-lacks d4 (refusal c.in_default-into.is) (enters call.cast-rule y e o) c.eat-into.ensures
 
-pub c::cast-args-rest-requires : goal.c::cast-args-rest-requires
-c::cast-args-rest-requires t c =
+pub c::cast-close_call-requires : goal.c::cast-close_call-requires
+c::cast-close_call-requires t c =
     let y = c.requires.ready in
     let e = c.requires.class_value in
     let o = opens y c.reserve.ensures in
-    let d0 = starts kind.Call AnyN call.cast_rhs c.args.tree.now o.stands in
-    let d1 = advances d0 (o.class_is ∙ call.at-cast c.args.st.class e) (omega arith) c.advance-a.ensures (sign-mark kind.Call class.LAngle tt) in
-    let d2 = then-node d1 c.ty-inner.ensures c.in-Next.is in
-    let d3 = then-eats d2.amid (omega arith) c.eat-angle.ensures c.in-Next-angle.is (sign-mark kind.Call class.RAngle tt) in
-    let d4 = then-eats d3 (omega arith) c.eat-colons.ensures c.in-Next-colons.is (sign-mark kind.Call class.DoubleColon tt) in
-    let d5 = then-eats d4 (omega arith) c.eat-into.ensures c.in-Next-into.is (word-mark class.into tt) in
+    let d5 = angle.cast₅ c.args.tree.now o e c.advance-a.ensures c.ty-inner.ensures c.in-Next.is c.eat-angle.ensures c.in-Next-angle.is c.eat-colons.ensures c.in-Next-colons.is c.eat-into.ensures c.in-Next-into.is in
     let f5 = further y o d5 (omega arith) in
     (omega (arith, f5.ahead, f5.within, c.decreases), law.near f5.ready)
-
-pub c::cast-returns-in_default-rest : goal.c::cast-returns-in_default-rest
-c::cast-returns-in_default-rest t c =
-    let y = c.requires.ready in
-    let e = c.requires.class_value in
-    let o = opens y c.reserve.ensures in
-    let d0 = starts kind.Call AnyN call.cast_rhs c.args.tree.now o.stands in
-    let d1 = advances d0 (o.class_is ∙ call.at-cast c.args.st.class e) (omega arith) c.advance-a.ensures (sign-mark kind.Call class.LAngle tt) in
-    let d2 = then-node d1 c.ty-inner.ensures c.in-Next.is in
-    let d3 = then-eats d2.amid (omega arith) c.eat-angle.ensures c.in-Next-angle.is (sign-mark kind.Call class.RAngle tt) in
-    let d4 = then-eats d3 (omega arith) c.eat-colons.ensures c.in-Next-colons.is (sign-mark kind.Call class.DoubleColon tt) in
-    let d5 = then-eats d4 (omega arith) c.eat-into.ensures c.in-Next-into.is (word-mark class.into tt) in
-    then-passed d5 (refusal c.in_default-rest.is) (enters call.cast-rule y e o) c.args-rest.ensures
 
 pub c::cast-returns : goal.c::cast-returns
 c::cast-returns t c =
     let y = c.requires.ready in
     let e = c.requires.class_value in
     let o = opens y c.reserve.ensures in
-    let d0 = starts kind.Call AnyN call.cast_rhs c.args.tree.now o.stands in
-    let d1 = advances d0 (o.class_is ∙ call.at-cast c.args.st.class e) (omega arith) c.advance-a.ensures (sign-mark kind.Call class.LAngle tt) in
-    let d2 = then-node d1 c.ty-inner.ensures c.in-Next.is in
-    let d3 = then-eats d2.amid (omega arith) c.eat-angle.ensures c.in-Next-angle.is (sign-mark kind.Call class.RAngle tt) in
-    let d4 = then-eats d3 (omega arith) c.eat-colons.ensures c.in-Next-colons.is (sign-mark kind.Call class.DoubleColon tt) in
-    let d5 = then-eats d4 (omega arith) c.eat-into.ensures c.in-Next-into.is (word-mark class.into tt) in
-    let d6 = law.then-args d5 c.args-rest.ensures c.in-Next-rest.is in
-    as-nonterminal call.cast-rule y e (read (shut CastCallShape tt y o d6.amid (omega (arith, d6.one)) (call.cast-head d6.amid) tt ExprKind call.call-kind (rw c.of_call.ensures at c.close.ensures)))
+    let d5 = angle.cast₅ c.args.tree.now o e c.advance-a.ensures c.ty-inner.ensures c.in-Next.is c.eat-angle.ensures c.in-Next-angle.is c.eat-colons.ensures c.in-Next-colons.is c.eat-into.ensures c.in-Next-into.is in
+    ends.call-shut call.cast-rule y e o tt d5 (λ W h ms m z l d. call.cast-head d ∙ ap call_head (sym (call.at-cast c.args.st.class e))) c.close_call.ensures
+
+pub c::close_angled-returns-in_default : goal.c::close_angled-returns-in_default
+c::close_angled-returns-in_default t c = ends.angle-stuck c.in_default.is c.eat-angle.ensures
+
+pub c::close_angled-close_call-requires : goal.c::close_angled-close_call-requires
+c::close_angled-close_call-requires t c =
+    let y = c.requires in
+    let d0 = starts 0 AnyN (tok class.RAngle ∷ nt n-arguments ∷ []) c.args.tree.now y.stands in
+    let d1 = then-eats d0 (omega arith) c.eat-angle.ensures c.in-Next.is (sign-mark 0 class.RAngle tt) in
+    (omega (arith, onward-ahead d1 (omega arith), d1.lays.stands.within, c.decreases), law.near (armed.near-onward y d1 (omega arith)))
+
+pub c::close_angled-returns : goal.c::close_angled-returns
+c::close_angled-returns t c = ends.angle-ends c.in-Next.is c.eat-angle.ensures c.close_call.ensures
+
+pub c::close_call-returns-in_default : goal.c::close_call-returns-in_default
+c::close_call-returns-in_default t c = ends.call-stuck c.in_default.is c.args-inner.ensures
+
+pub c::close_call-returns : goal.c::close_call-returns
+c::close_call-returns t c = ends.call-ends c.in-Next.is c.args-inner.ensures (rw c.call.ensures at (rw c.of_call.ensures at c.close.ensures))
 
 pub c::generic-returns-then-a-ne-DOUBLE_COLON : goal.c::generic-returns-then-a-ne-DOUBLE_COLON
 c::generic-returns-then-a-ne-DOUBLE_COLON t c =
     let y = c.requires.ready in
-    let g = c.requires.generic in
     let o = opens y c.reserve.ensures in
-    let z = rule.generic-rule c.args.call g in
-    let a1 = law.first-mark y o z.by.one_token kind.Variable AnyN (nt z.by.B ∷ []) c.args.tree.now c.advance-a.ensures (keeping-mark kind.Variable c.args.st.class tt) in
+    let z = rule.uncalled-rule c.args.call c.requires.uncalled in
+    let ks = call.alone-kinds c.args.st.class (kind_number c.alone.result) c.alone.ensures in
+    let a1 = law.first-mark y o z.by.one_token (kind_number c.alone.result) AnyN (nt z.by.B ∷ []) c.args.tree.now c.advance-a.ensures (keeping-mark (kind_number c.alone.result) c.args.st.class (call.alone-keeps ks)) in
     let a2 = then_turns [] a1 z.by.flat (z.alone (λ h. c.if-a-ne-DOUBLE_COLON.true (a1.lays.stands.class_is ∙ h))) in
-    as-nonterminal z.by.rule y z.by.chosen (read (rule.shut-named z.by y o a2 (omega arith) (call.variable-is c.args.st.class z.by.name z.variable) (call.alone-angle c.args.st.class z.by.name) tt ExprKind call.variable-kind (rw c.plain.ensures at c.close.ensures)))
+    as-nonterminal z.by.rule y z.by.chosen (read (rule.shut-named z.by y o a2 (omega arith) (call.alone-is c.args.st.class z.by.name ∙ sym c.alone.ensures) (call.alone-angle c.args.st.class z.by.name) (call.alone-unturned ks) ExprKind (call.alone-kind ks) (rw c.plain.ensures at c.close.ensures)))
 
 pub c::generic-built-requires : goal.c::generic-built-requires
 c::generic-built-requires t c =
     let y = c.requires.ready in
-    let g = c.requires.generic in
     let b = law.begun c.reserve.ensures c.advance-a.ensures c.if-a-ne-DOUBLE_COLON.false c.advance-b.ensures in
-    (omega (arith, c.decreases), (y, (info.generic_leads c.args.call g c.if-b-ne-LANGLE.true, b)))
+    (omega (arith, c.decreases), (y, (rule.uncalled-leads c.args.call c.requires.uncalled c.if-b-ne-LANGLE.true, b)))
 
 pub c::loops-name-inner-requires : goal.c::loops-name-inner-requires
 c::loops-name-inner-requires t c =
     let y = c.requires.ready in
     let e = c.requires.class_value in
     let o = opens y refl in
-    let d1 = law.angled y o (call.for-whiles c.args.st.class e) AnyN (nt n-function_name ∷ tok class.RAngle ∷ nt n-arguments ∷ []) c.args.tree.now call.flat-whiles (λ i h. call.whiles-colons h) call.flat-looped (λ i h. call.whiles-angle h) (call.whiles-mark c.args.st.class e) c.requires.angled.begun c.requires.angled.angle c.advance-d.ensures in
+    let d1 = angle.whiles₁ c.args.tree.now y o e c.requires.angled c.advance-d.ensures in
     let f1 = further y o d1 (omega arith) in
     ready-near f1.ready
 
@@ -732,49 +579,25 @@ c::loops-returns-in_default t c =
     let y = c.requires.ready in
     let e = c.requires.class_value in
     let o = opens y refl in
-    let d1 = law.angled y o (call.for-whiles c.args.st.class e) AnyN (nt n-function_name ∷ tok class.RAngle ∷ nt n-arguments ∷ []) c.args.tree.now call.flat-whiles (λ i h. call.whiles-colons h) call.flat-looped (λ i h. call.whiles-angle h) (call.whiles-mark c.args.st.class e) c.requires.angled.begun c.requires.angled.angle c.advance-d.ensures in
+    let d1 = angle.whiles₁ c.args.tree.now y o e c.requires.angled c.advance-d.ensures in
     then-passed d1 (refusal c.in_default.is) (enters call.whiles-rule y e o) c.name-inner.ensures
 
-pub c::loops-returns-in_default-angle : goal.c::loops-returns-in_default-angle
-c::loops-returns-in_default-angle t c =
+pub c::loops-close_angled-requires : goal.c::loops-close_angled-requires
+c::loops-close_angled-requires t c =
     let y = c.requires.ready in
     let e = c.requires.class_value in
     let o = opens y refl in
-    let d1 = law.angled y o (call.for-whiles c.args.st.class e) AnyN (nt n-function_name ∷ tok class.RAngle ∷ nt n-arguments ∷ []) c.args.tree.now call.flat-whiles (λ i h. call.whiles-colons h) call.flat-looped (λ i h. call.whiles-angle h) (call.whiles-mark c.args.st.class e) c.requires.angled.begun c.requires.angled.angle c.advance-d.ensures in
-    let d2 = law.then-function-name d1 c.name-inner.ensures c.in-Next.is in
-    then-lacks d2 (refusal c.in_default-angle.is) (enters call.whiles-rule y e o) c.eat-angle.ensures
-
-pub c::loops-args-rest-requires : goal.c::loops-args-rest-requires
-c::loops-args-rest-requires t c =
-    let y = c.requires.ready in
-    let e = c.requires.class_value in
-    let o = opens y refl in
-    let d1 = law.angled y o (call.for-whiles c.args.st.class e) AnyN (nt n-function_name ∷ tok class.RAngle ∷ nt n-arguments ∷ []) c.args.tree.now call.flat-whiles (λ i h. call.whiles-colons h) call.flat-looped (λ i h. call.whiles-angle h) (call.whiles-mark c.args.st.class e) c.requires.angled.begun c.requires.angled.angle c.advance-d.ensures in
-    let d2 = law.then-function-name d1 c.name-inner.ensures c.in-Next.is in
-    let d3 = then-eats d2 (omega arith) c.eat-angle.ensures c.in-Next-angle.is (sign-mark kind.Call class.RAngle tt) in
-    let f3 = further y o d3 (omega arith) in
-    (omega (arith, f3.ahead, f3.within, c.decreases), law.near f3.ready)
-
-pub c::loops-returns-in_default-rest : goal.c::loops-returns-in_default-rest
-c::loops-returns-in_default-rest t c =
-    let y = c.requires.ready in
-    let e = c.requires.class_value in
-    let o = opens y refl in
-    let d1 = law.angled y o (call.for-whiles c.args.st.class e) AnyN (nt n-function_name ∷ tok class.RAngle ∷ nt n-arguments ∷ []) c.args.tree.now call.flat-whiles (λ i h. call.whiles-colons h) call.flat-looped (λ i h. call.whiles-angle h) (call.whiles-mark c.args.st.class e) c.requires.angled.begun c.requires.angled.angle c.advance-d.ensures in
-    let d2 = law.then-function-name d1 c.name-inner.ensures c.in-Next.is in
-    let d3 = then-eats d2 (omega arith) c.eat-angle.ensures c.in-Next-angle.is (sign-mark kind.Call class.RAngle tt) in
-    then-passed d3 (refusal c.in_default-rest.is) (enters call.whiles-rule y e o) c.args-rest.ensures
+    let d2 = angle.whiles₂ c.args.tree.now y o e c.requires.angled c.advance-d.ensures c.name-inner.ensures c.in-Next.is in
+    let f2 = further y o d2 (omega arith) in
+    (omega (arith, f2.ahead, f2.within, c.decreases), law.near f2.ready)
 
 pub c::loops-returns : goal.c::loops-returns
 c::loops-returns t c =
     let y = c.requires.ready in
     let e = c.requires.class_value in
     let o = opens y refl in
-    let d1 = law.angled y o (call.for-whiles c.args.st.class e) AnyN (nt n-function_name ∷ tok class.RAngle ∷ nt n-arguments ∷ []) c.args.tree.now call.flat-whiles (λ i h. call.whiles-colons h) call.flat-looped (λ i h. call.whiles-angle h) (call.whiles-mark c.args.st.class e) c.requires.angled.begun c.requires.angled.angle c.advance-d.ensures in
-    let d2 = law.then-function-name d1 c.name-inner.ensures c.in-Next.is in
-    let d3 = then-eats d2 (omega arith) c.eat-angle.ensures c.in-Next-angle.is (sign-mark kind.Call class.RAngle tt) in
-    let d4 = law.then-args d3 c.args-rest.ensures c.in-Next-rest.is in
-    as-nonterminal call.whiles-rule y e (read (shut ForWhileShape tt y o d4.amid (omega (arith, d4.one)) (call.whiles-low (call.whiles-head d4.amid) (call.at-whiles c.args.st.class e)) tt ExprKind call.call-kind (rw c.of_call.ensures at c.close.ensures)))
+    let d2 = angle.whiles₂ c.args.tree.now y o e c.requires.angled c.advance-d.ensures c.name-inner.ensures c.in-Next.is in
+    ends.angle-shut call.whiles-rule y e o tt d2 (λ W h ms m z l d. call.whiles-head d) c.close_angled.ensures
 
 pub c::named-returns-in_default : goal.c::named-returns-in_default
 c::named-returns-in_default t c =
@@ -791,7 +614,7 @@ c::of_type-ty-inner-requires t c =
     let y = c.requires.ready in
     let e = c.requires.class_value in
     let o = opens y refl in
-    let d1 = law.angled y o (call.for-typed c.args.st.class e) AnyN (nt n-type ∷ tok class.RAngle ∷ nt n-arguments ∷ []) c.args.tree.now call.flat-typed (λ i h. call.typed-colons h) call.flat-of-type (λ i h. call.typed-angle h) (call.typed-mark c.args.st.class e) c.requires.angled.begun c.requires.angled.angle c.advance-d.ensures in
+    let d1 = angle.typed₁ c.args.tree.now y o e c.requires.angled c.advance-d.ensures in
     let f1 = further y o d1 (omega arith) in
     f1.ready
 
@@ -800,49 +623,25 @@ c::of_type-returns-in_default t c =
     let y = c.requires.ready in
     let e = c.requires.class_value in
     let o = opens y refl in
-    let d1 = law.angled y o (call.for-typed c.args.st.class e) AnyN (nt n-type ∷ tok class.RAngle ∷ nt n-arguments ∷ []) c.args.tree.now call.flat-typed (λ i h. call.typed-colons h) call.flat-of-type (λ i h. call.typed-angle h) (call.typed-mark c.args.st.class e) c.requires.angled.begun c.requires.angled.angle c.advance-d.ensures in
+    let d1 = angle.typed₁ c.args.tree.now y o e c.requires.angled c.advance-d.ensures in
     then-passed d1 (refusal c.in_default.is) (enters call.typed-rule y e o) c.ty-inner.ensures
 
-pub c::of_type-returns-in_default-angle : goal.c::of_type-returns-in_default-angle
-c::of_type-returns-in_default-angle t c =
+pub c::of_type-close_angled-requires : goal.c::of_type-close_angled-requires
+c::of_type-close_angled-requires t c =
     let y = c.requires.ready in
     let e = c.requires.class_value in
     let o = opens y refl in
-    let d1 = law.angled y o (call.for-typed c.args.st.class e) AnyN (nt n-type ∷ tok class.RAngle ∷ nt n-arguments ∷ []) c.args.tree.now call.flat-typed (λ i h. call.typed-colons h) call.flat-of-type (λ i h. call.typed-angle h) (call.typed-mark c.args.st.class e) c.requires.angled.begun c.requires.angled.angle c.advance-d.ensures in
-    let d2 = then-node d1 c.ty-inner.ensures c.in-Next.is in
-    then-lacks d2.amid (refusal c.in_default-angle.is) (enters call.typed-rule y e o) c.eat-angle.ensures
-
-pub c::of_type-args-rest-requires : goal.c::of_type-args-rest-requires
-c::of_type-args-rest-requires t c =
-    let y = c.requires.ready in
-    let e = c.requires.class_value in
-    let o = opens y refl in
-    let d1 = law.angled y o (call.for-typed c.args.st.class e) AnyN (nt n-type ∷ tok class.RAngle ∷ nt n-arguments ∷ []) c.args.tree.now call.flat-typed (λ i h. call.typed-colons h) call.flat-of-type (λ i h. call.typed-angle h) (call.typed-mark c.args.st.class e) c.requires.angled.begun c.requires.angled.angle c.advance-d.ensures in
-    let d2 = then-node d1 c.ty-inner.ensures c.in-Next.is in
-    let d3 = then-eats d2.amid (omega arith) c.eat-angle.ensures c.in-Next-angle.is (sign-mark kind.Call class.RAngle tt) in
-    let f3 = further y o d3 (omega arith) in
-    (omega (arith, f3.ahead, f3.within, c.decreases), law.near f3.ready)
-
-pub c::of_type-returns-in_default-rest : goal.c::of_type-returns-in_default-rest
-c::of_type-returns-in_default-rest t c =
-    let y = c.requires.ready in
-    let e = c.requires.class_value in
-    let o = opens y refl in
-    let d1 = law.angled y o (call.for-typed c.args.st.class e) AnyN (nt n-type ∷ tok class.RAngle ∷ nt n-arguments ∷ []) c.args.tree.now call.flat-typed (λ i h. call.typed-colons h) call.flat-of-type (λ i h. call.typed-angle h) (call.typed-mark c.args.st.class e) c.requires.angled.begun c.requires.angled.angle c.advance-d.ensures in
-    let d2 = then-node d1 c.ty-inner.ensures c.in-Next.is in
-    let d3 = then-eats d2.amid (omega arith) c.eat-angle.ensures c.in-Next-angle.is (sign-mark kind.Call class.RAngle tt) in
-    then-passed d3 (refusal c.in_default-rest.is) (enters call.typed-rule y e o) c.args-rest.ensures
+    let d2 = angle.typed₂ c.args.tree.now y o e c.requires.angled c.advance-d.ensures c.ty-inner.ensures c.in-Next.is in
+    let f2 = further y o d2.amid (omega arith) in
+    (omega (arith, f2.ahead, f2.within, c.decreases), law.near f2.ready)
 
 pub c::of_type-returns : goal.c::of_type-returns
 c::of_type-returns t c =
     let y = c.requires.ready in
     let e = c.requires.class_value in
     let o = opens y refl in
-    let d1 = law.angled y o (call.for-typed c.args.st.class e) AnyN (nt n-type ∷ tok class.RAngle ∷ nt n-arguments ∷ []) c.args.tree.now call.flat-typed (λ i h. call.typed-colons h) call.flat-of-type (λ i h. call.typed-angle h) (call.typed-mark c.args.st.class e) c.requires.angled.begun c.requires.angled.angle c.advance-d.ensures in
-    let d2 = then-node d1 c.ty-inner.ensures c.in-Next.is in
-    let d3 = then-eats d2.amid (omega arith) c.eat-angle.ensures c.in-Next-angle.is (sign-mark kind.Call class.RAngle tt) in
-    let d4 = law.then-args d3 c.args-rest.ensures c.in-Next-rest.is in
-    as-nonterminal call.typed-rule y e (read (shut TypedShape tt y o d4.amid (omega (arith, d4.one)) (call.call-low c.args.st.class (call.typed-head d4.amid) c.call.ensures) tt ExprKind call.call-kind (rw c.of_call.ensures at c.close.ensures)))
+    let d2 = angle.typed₂ c.args.tree.now y o e c.requires.angled c.advance-d.ensures c.ty-inner.ensures c.in-Next.is in
+    ends.angle-shut call.typed-rule y e o tt d2.amid (λ W h ms m z l d. call.typed-head d) c.close_angled.ensures
 
 pub c::path-returns-in_default : goal.c::path-returns-in_default
 c::path-returns-in_default t c =
@@ -856,6 +655,13 @@ c::path-returns-then-a-ne-LPAREN t c =
     let d1 = law.path-starts c.args.tree.now y in
     let d2 = chain2.then-names d1 c.names-inner.ensures c.in-Next.is law.names-kind in
     read (law.path-ends d2 c.if-a-ne-LPAREN.true)
+
+pub c::path-args-rest-requires : goal.c::path-args-rest-requires
+c::path-args-rest-requires t c =
+    let y = c.requires in
+    let d1 = law.path-starts c.args.tree.now y in
+    let d2 = chain2.then-names d1 c.names-inner.ensures c.in-Next.is law.names-kind in
+    (omega (arith, d2.amid.lays.few, d2.amid.lays.sized, c.decreases), law.near (onward y d2.amid))
 
 pub c::path-returns-in_default-rest : goal.c::path-returns-in_default-rest
 c::path-returns-in_default-rest t c =
@@ -874,23 +680,14 @@ c::path-returns t c =
     let d4 = law.then-args d3 c.args-rest.ensures c.in-Next-rest.is in
     read (law.path-called d2 d4)
 
-pub c::simple-args-inner-requires : goal.c::simple-args-inner-requires
-c::simple-args-inner-requires t c =
+pub c::simple-close_call-requires : goal.c::simple-close_call-requires
+c::simple-close_call-requires t c =
     let y = c.requires.ready in
     let e = c.requires.class_value in
     let o = opens y c.reserve.ensures in
     let p = call.simple-apart c.args.st.class e in
     let d1 = law.first-called y o (call.for-simple c.args.st.class e) AnyN (nt n-arguments ∷ []) p c.advance-a.ensures c.callee-b.ensures in
     (omega (arith, d1.ahead, d1.amid.lays.stands.within, o.at_is, c.decreases), law.nearly y o d1.amid)
-
-pub c::simple-returns-in_default : goal.c::simple-returns-in_default
-c::simple-returns-in_default t c =
-    let y = c.requires.ready in
-    let e = c.requires.class_value in
-    let o = opens y c.reserve.ensures in
-    let p = call.simple-apart c.args.st.class e in
-    let d1 = law.first-called y o (call.for-simple c.args.st.class e) AnyN (nt n-arguments ∷ []) p c.advance-a.ensures c.callee-b.ensures in
-    then-passed d1.amid (refusal c.in_default.is) (enters call.simple-rule y e o) c.args-inner.ensures
 
 pub c::simple-returns : goal.c::simple-returns
 c::simple-returns t c =
@@ -899,8 +696,7 @@ c::simple-returns t c =
     let o = opens y c.reserve.ensures in
     let p = call.simple-apart c.args.st.class e in
     let d1 = law.first-called y o (call.for-simple c.args.st.class e) AnyN (nt n-arguments ∷ []) p c.advance-a.ensures c.callee-b.ensures in
-    let d2 = law.then-args d1.amid c.args-inner.ensures c.in-Next.is in
-    as-nonterminal call.simple-rule y e (read (shut SimpleCallShape tt y o d2.amid (omega (arith, d2.one)) (call.call-low c.args.st.class (call.form-simple d2.amid ∙ call.unwrapped-is c.args.st.class d2.W p (call.simple-unwrapped c.args.st.class e) d2.commas) c.call.ensures) tt ExprKind call.call-kind (rw c.of_call.ensures at c.close.ensures)))
+    ends.call-shut call.simple-rule y e o tt d1.amid (λ W h ms m z l d. call.form-simple d ∙ call.unwrapped-is c.args.st.class W p (call.simple-unwrapped c.args.st.class e) h) c.close_call.ensures
 
 pub c::wrap-args-inner-requires : goal.c::wrap-args-inner-requires
 c::wrap-args-inner-requires t c =
@@ -929,8 +725,8 @@ c::wrap-returns-in_default t c =
     let a2 = then_turns (nt n-arguments ∷ []) a1 call.flat-named (call.named-args (sym a1.lays.stands.class_is ∙ k)) in
     then-passed a2 (refusal c.in_default.is) (enters call.named_rule y e o) c.args-inner.ensures
 
-pub c::wrap-returns-then-lone-eq1 : goal.c::wrap-returns-then-lone-eq1
-c::wrap-returns-then-lone-eq1 t c =
+pub c::wrap-returns-then-lone-eq-LONE : goal.c::wrap-returns-then-lone-eq-LONE
+c::wrap-returns-then-lone-eq-LONE t c =
     let y = c.requires.ready in
     let w = c.requires.wraps.0 in
     let e = rule.wrapper-chosen c.args.st.class w in
@@ -942,7 +738,7 @@ c::wrap-returns-then-lone-eq1 t c =
     let b1 = law.first-mark y o z (kind_number c.args.kind) AnyN (nt n-named-optional ∷ []) c.args.tree.now mv (keeping-mark (kind_number c.args.kind) c.args.st.class (call.wrapper-keeps c.args.st.class w c.requires.wraps.1)) in
     let b2 = then_turns (nt n-arguments ∷ []) b1 call.flat-named (call.named-args (sym b1.lays.stands.class_is ∙ k)) in
     let b3 = law.then-args b2 c.args-inner.ensures c.in-Next.is in
-    as-nonterminal call.named_rule y e (read (shut NamedShape tt y o b3.amid (omega (arith, b3.one)) (call.form-named b3.amid ∙ call.wrapper-is c.args.st.class w c.requires.wraps.1 b3.W p b3.commas b3.lone_is c.if-lone-eq1.true) (call.wrapper-unturned c.args.st.class w c.requires.wraps.1) ExprKind (call.wrapper-kind c.args.st.class w c.requires.wraps.1) (rw c.plain.ensures at c.close.ensures)))
+    as-nonterminal call.named_rule y e (read (shut NamedShape tt y o b3.amid (omega (arith, b3.one)) (call.form-named b3.amid ∙ call.wrapper-is c.args.st.class w c.requires.wraps.1 b3.W p b3.commas b3.lone_is c.if-lone-eq-LONE.true) (call.wrapper-unturned c.args.st.class w c.requires.wraps.1) ExprKind (call.wrapper-kind c.args.st.class w c.requires.wraps.1) (rw c.plain.ensures at c.close.ensures)))
 
 pub c::wrap-returns : goal.c::wrap-returns
 c::wrap-returns t c =
@@ -961,7 +757,7 @@ c::wrap-returns t c =
     let d1 = law.first-name y o z kind.Call AnyN (nt n-named-optional ∷ []) mv (law.put-before n g c.name-z.ensures.put c.name-z.ensures.value c.exchange.ensures) refl (call.called-role c.args.st.class (call.wrapper-named c.args.st.class w)) in
     let d2 = then_turns (nt n-arguments ∷ []) d1 call.flat-named (call.named-args (sym d1.lays.stands.class_is ∙ law.reserved-class c.args.a (reserved c.args.a) refl ∙ k)) in
     let d3 = law.then-args d2 (read (law.behind n g c.name-z.ensures.put c.name-z.ensures.value c.exchange.ensures)) refl in
-    as-nonterminal call.named_rule y e (read (shut NamedShape tt y o d3.amid (omega (arith, d3.one)) (call.form-named d3.amid ∙ call.other-is c.args.st.class d3.W w p d3.commas d3.lone_is c.if-lone-eq1.false) tt ExprKind call.call-kind (rw c.of_call.ensures at c.close-2.ensures)))
+    as-nonterminal call.named_rule y e (read (shut NamedShape tt y o d3.amid (omega (arith, d3.one)) (call.form-named d3.amid ∙ call.other-is c.args.st.class d3.W w p d3.commas d3.lone_is c.if-lone-eq-LONE.false) tt ExprKind call.call-kind (rw c.of_call.ensures at c.close-2.ensures)))
 
 pub cases-expr-inner-requires : goal.cases-expr-inner-requires
 cases-expr-inner-requires t c =
@@ -1147,9 +943,7 @@ list-returns-in_default t c =
     let y = c.requires.ready in
     let e = c.requires.class_value in
     let o = opens y c.reserve.ensures in
-    let d0 = starts kind.List AnyN form.listed_rhs c.args.tree.now o.stands in
-    let k = o.class_is ∙ form.at_listed c.args.st.class e in
-    let d1 = advances d0 k (omega arith) c.advance-a.ensures (keeping-mark kind.List class.list! tt) in
+    let d1 = bracket.listed₁ c.args.tree.now o c.advance-a.ensures e in
     then-lacks d1 (refusal c.in_default.is) (enters form.listed-rule y e o) c.eat-open.ensures
 
 pub list-exprs-inner-requires : goal.list-exprs-inner-requires
@@ -1157,10 +951,7 @@ list-exprs-inner-requires t c =
     let y = c.requires.ready in
     let e = c.requires.class_value in
     let o = opens y c.reserve.ensures in
-    let d0 = starts kind.List AnyN form.listed_rhs c.args.tree.now o.stands in
-    let k = o.class_is ∙ form.at_listed c.args.st.class e in
-    let d1 = advances d0 k (omega arith) c.advance-a.ensures (keeping-mark kind.List class.list! tt) in
-    let d2 = then-eats d1 (omega arith) c.eat-open.ensures c.in-Next.is (sign-mark kind.List class.LBracket tt) in
+    let d2 = bracket.listed₂ c.args.tree.now o c.advance-a.ensures e c.eat-open.ensures c.in-Next.is in
     let f2 = further y o d2 (omega arith) in
     (omega (arith, f2.ahead, f2.within, c.decreases), f2.ready)
 
@@ -1169,10 +960,7 @@ list-returns-in_default-inner t c =
     let y = c.requires.ready in
     let e = c.requires.class_value in
     let o = opens y c.reserve.ensures in
-    let d0 = starts kind.List AnyN form.listed_rhs c.args.tree.now o.stands in
-    let k = o.class_is ∙ form.at_listed c.args.st.class e in
-    let d1 = advances d0 k (omega arith) c.advance-a.ensures (keeping-mark kind.List class.list! tt) in
-    let d2 = then-eats d1 (omega arith) c.eat-open.ensures c.in-Next.is (sign-mark kind.List class.LBracket tt) in
+    let d2 = bracket.listed₂ c.args.tree.now o c.advance-a.ensures e c.eat-open.ensures c.in-Next.is in
     then-passed d2 (refusal c.in_default-inner.is) (enters form.listed-rule y e o) c.exprs-inner.ensures
 
 pub list-returns-in_default-bracket : goal.list-returns-in_default-bracket
@@ -1180,10 +968,7 @@ list-returns-in_default-bracket t c =
     let y = c.requires.ready in
     let e = c.requires.class_value in
     let o = opens y c.reserve.ensures in
-    let d0 = starts kind.List AnyN form.listed_rhs c.args.tree.now o.stands in
-    let k = o.class_is ∙ form.at_listed c.args.st.class e in
-    let d1 = advances d0 k (omega arith) c.advance-a.ensures (keeping-mark kind.List class.list! tt) in
-    let d2 = then-eats d1 (omega arith) c.eat-open.ensures c.in-Next.is (sign-mark kind.List class.LBracket tt) in
+    let d2 = bracket.listed₂ c.args.tree.now o c.advance-a.ensures e c.eat-open.ensures c.in-Next.is in
     let d3 = elem.then-lone d2 c.exprs-inner.ensures c.in-Next-inner.is in
     then-lacks d3.amid (refusal c.in_default-bracket.is) (enters form.listed-rule y e o) c.eat-bracket.ensures
 
@@ -1192,10 +977,7 @@ list-returns t c =
     let y = c.requires.ready in
     let e = c.requires.class_value in
     let o = opens y c.reserve.ensures in
-    let d0 = starts kind.List AnyN form.listed_rhs c.args.tree.now o.stands in
-    let k = o.class_is ∙ form.at_listed c.args.st.class e in
-    let d1 = advances d0 k (omega arith) c.advance-a.ensures (keeping-mark kind.List class.list! tt) in
-    let d2 = then-eats d1 (omega arith) c.eat-open.ensures c.in-Next.is (sign-mark kind.List class.LBracket tt) in
+    let d2 = bracket.listed₂ c.args.tree.now o c.advance-a.ensures e c.eat-open.ensures c.in-Next.is in
     let d3 = elem.then-lone d2 c.exprs-inner.ensures c.in-Next-inner.is in
     let d4 = then-eats d3.amid (omega arith) c.eat-bracket.ensures c.in-Next-bracket.is (sign-mark kind.List class.RBracket tt) in
     as-nonterminal form.listed-rule y e (read (shut ListShape tt y o d4 (omega arith) (form.listed-head d4) tt ExprKind (form.expr-kind (omega arith, omega arith)) (rw c.plain.ensures at c.close.ensures)))

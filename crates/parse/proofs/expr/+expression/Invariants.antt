@@ -44,11 +44,14 @@ decreases-arm l = 8 * (length (text l.source.now).ts - l.st.at) + 4
 abbrev pub decreases-body : goal.decreases-body
 decreases-body l = 8 * (length (text l.source.now).ts - l.st.at) + 4
 
-abbrev pub decreases-c::arguments : goal.decreases-c::arguments
-decreases-c::arguments l = 8 * (length (text l.source.now).ts - l.st.at)
-
 abbrev pub decreases-c::args : goal.decreases-c::args
-decreases-c::args l = 8 * (length (text l.source.now).ts - l.st.at) + 1
+decreases-c::args l = 8 * (length (text l.source.now).ts - l.st.at)
+
+abbrev pub decreases-c::close_call : goal.decreases-c::close_call
+decreases-c::close_call l = 8 * (length (text l.source.now).ts - l.a.at) + 1
+
+abbrev pub decreases-c::close_angled : goal.decreases-c::close_angled
+decreases-c::close_angled l = 8 * (length (text l.source.now).ts - l.a.at)
 
 abbrev pub decreases-c::simple : goal.decreases-c::simple
 decreases-c::simple l = 8 * (length (text l.source.now).ts - l.st.at) + 1
@@ -70,9 +73,6 @@ decreases-c::built l = 8 * (length (text l.source.now).ts - l.st.at) + 1
 
 abbrev pub decreases-c::path : goal.decreases-c::path
 decreases-c::path l = 8 * (length (text l.source.now).ts - l.st.at) + 2
-
-abbrev pub decreases-c::bare : goal.decreases-c::bare
-decreases-c::bare l = 8 * (length (text l.source.now).ts - l.st.at) + 2
 
 abbrev pub decreases-c::generic : goal.decreases-c::generic
 decreases-c::generic l = 8 * (length (text l.source.now).ts - l.st.at) + 2

@@ -9,7 +9,7 @@ pub returns-then-st-ne-IDENT : goal.returns-then-st-ne-IDENT
 returns-then-st-ne-IDENT c = no-plain-name _ _ c.if-st-ne-IDENT.true
 
 pub returns-then-eq : goal.returns-then-eq
-returns-then-eq c = is-underscore _ _ _ c.part-t.ensures c.if-st-ne-IDENT.false (same_text _ _ (sym c.if-eq.true ∙ c.eq.ensures) ∙ c.as_slice.ensures)
+returns-then-eq c = is-underscore _ _ _ c.part.ensures c.if-st-ne-IDENT.false (same_text _ _ (sym c.if-eq.true ∙ c.eq.ensures) ∙ c.as_slice.ensures)
 
 pub returns : goal.returns
-returns c = is-other _ _ _ c.part-t.ensures c.if-st-ne-IDENT.false (λ e. other_text _ _ (sym c.if-eq.false ∙ c.eq.ensures) (e ∙ sym c.as_slice.ensures))
+returns c = is-other _ _ _ c.part.ensures c.if-st-ne-IDENT.false (λ e. other_text _ _ (sym c.if-eq.false ∙ c.eq.ensures) (e ∙ sym c.as_slice.ensures))

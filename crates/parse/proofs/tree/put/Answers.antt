@@ -1,19 +1,13 @@
--- The words that are written are those of the record. The search finds that too; written out, a wrong word is refused for its value.
+-- The words that are written are those of the record.
 -- Assumes nothing.
-use Rattle.std.proofs.Common.{◌*◌, [], ap, ◌∙◌, rules}
-use lib.Seq.{sets}
+use Rattle.std.proofs.Common.{◌*◌, [], ap, ◌∙◌, rules, arith}
 use Rattle.text.specs.Widths.{rec_wide}
 use Rattle.own.specs.Words.{rec_then}
-use Rattle.parse.proofs.tree.Words.{word-by-word}
+use Rattle.parse.proofs.tree.Words.{part-written}
 use Rattle.parse.proofs.tree.put.Goals as goal
 
 pub returns-then-base-tree : goal.returns-then-base-tree
 returns-then-base-tree c =
     let a = c.args in
-    let i = rec_wide * a.here in
-    record {
-      long = search rules;
-      put = λ w g.
-          word-by-word a.tree.now i c.from.result a.start a.end a.head.low a.head.high a.size
-          ∙ ap (λ k. sets a.tree.now i (rec_then k a.start a.end a.head.low a.head.high a.size [])) c.from.ensures;
-    }
+    let words = c.copy_from_slice.ensures.after ∙ ap (λ k. rec_then k a.start a.end a.head.low a.head.high a.size []) c.from.ensures in
+    record { long = search rules; put = λ w g. part-written a.tree.now (rec_wide * a.here) _ words (omega arith) (omega arith) }

@@ -1,19 +1,19 @@
 -- Assumes nothing.
-use Rattle.std.proofs.Common.{rules, [], ◌∷◌, sym, refl, ap, ◌∙◌, arith}
-use Rattle.theory.specs.Grammar.{tok, nt}
+use Rattle.std.proofs.Common.{rules, [], sym, refl, ap, ◌∙◌, arith}
 use Rattle.theory.specs.Walk.{k_nt}
 use Rattle.theory.specs.Machine.{expand}
 use Rattle.grammar.specs.Shapes.Tables.{table}
 use Rattle.parse.specs.Contract.{text, tok_at, read, stuck, TypeKind, value_at}
 use Rattle.parse.proofs.Rule.Amid.{starts, then_turns, then-passed}
 use Rattle.parse.proofs.Rule.Closing.{opens, opens-clean, as-nonterminal, enters}
-use Rattle.parse.proofs.Rule.Chain.{further, advances, then-eats, then-lacks, then-node}
+use Rattle.parse.proofs.Rule.Chain.{further, advances, then-eats, then-lacks}
 use Rattle.parse.proofs.Rule.Marks.{sign-mark, keeping-mark}
 use Rattle.parse.proofs.Rule.Commas.{AnyN, Lined}
 use Rattle.parse.proofs.Rule.Commas as lined
 use Rattle.parse.proofs.Rule.Heads.{judged-at, shut, shut-judged, number_at, value-is, value-text, first-is}
 use Rattle.parse.proofs.tree.Numbers.{array-numbered, list-numbered, put-number}
 use Rattle.parse.proofs.types.Forms as form
+use Rattle.parse.proofs.types.Steps as step
 use Rattle.lexer.specs.Classes as class
 use Rattle.own.specs.Kinds as kind
 use Rattle.grammar.specs.Shapes.TablesIndex.{n-type}
@@ -26,8 +26,7 @@ array-ty-inner-requires t c =
     let y = c.requires.ready in
     let e = c.requires.class_value in
     let o = opens-clean y c.clean.ensures c.reserve.ensures in
-    let d0 = starts kind.ArrayType AnyN form.array_rhs c.args.tree.now o.stands in
-    let d1 = advances d0 (o.class_is ∙ form.at-array c.args.st.class e) (omega arith) c.advance-a.ensures (sign-mark kind.ArrayType class.LBracket tt) in
+    let d1 = step.array₁ c.args.tree.now o e c.advance-a.ensures in
     let f1 = further y o d1 (omega arith) in
     (omega (arith, f1.ahead, f1.within, c.decreases), f1.ready)
 
@@ -36,8 +35,7 @@ array-returns-in_default t c =
     let y = c.requires.ready in
     let e = c.requires.class_value in
     let o = opens-clean y c.clean.ensures c.reserve.ensures in
-    let d0 = starts kind.ArrayType AnyN form.array_rhs c.args.tree.now o.stands in
-    let d1 = advances d0 (o.class_is ∙ form.at-array c.args.st.class e) (omega arith) c.advance-a.ensures (sign-mark kind.ArrayType class.LBracket tt) in
+    let d1 = step.array₁ c.args.tree.now o e c.advance-a.ensures in
     then-passed d1 (refusal c.in_default.is) (enters form.array-rule y e o) c.ty-inner.ensures
 
 pub array-returns-in_default-semi : goal.array-returns-in_default-semi
@@ -45,9 +43,7 @@ array-returns-in_default-semi t c =
     let y = c.requires.ready in
     let e = c.requires.class_value in
     let o = opens-clean y c.clean.ensures c.reserve.ensures in
-    let d0 = starts kind.ArrayType AnyN form.array_rhs c.args.tree.now o.stands in
-    let d1 = advances d0 (o.class_is ∙ form.at-array c.args.st.class e) (omega arith) c.advance-a.ensures (sign-mark kind.ArrayType class.LBracket tt) in
-    let d2 = then-node d1 c.ty-inner.ensures c.in-Next.is in
+    let d2 = step.array₂ c.args.tree.now o e c.advance-a.ensures c.ty-inner.ensures c.in-Next.is in
     then-lacks d2.amid (refusal c.in_default-semi.is) (enters form.array-rule y e o) c.eat-semi.ensures
 
 pub array-returns-in_default-decimal : goal.array-returns-in_default-decimal
@@ -55,10 +51,7 @@ array-returns-in_default-decimal t c =
     let y = c.requires.ready in
     let e = c.requires.class_value in
     let o = opens-clean y c.clean.ensures c.reserve.ensures in
-    let d0 = starts kind.ArrayType AnyN form.array_rhs c.args.tree.now o.stands in
-    let d1 = advances d0 (o.class_is ∙ form.at-array c.args.st.class e) (omega arith) c.advance-a.ensures (sign-mark kind.ArrayType class.LBracket tt) in
-    let d2 = then-node d1 c.ty-inner.ensures c.in-Next.is in
-    let d3 = then-eats d2.amid (omega arith) c.eat-semi.ensures c.in-Next-semi.is (sign-mark kind.ArrayType class.Semi tt) in
+    let d3 = step.array₃ c.args.tree.now o e c.advance-a.ensures c.ty-inner.ensures c.in-Next.is c.eat-semi.ensures c.in-Next-semi.is in
     then-lacks d3 (refusal c.in_default-decimal.is) (enters form.array-rule y e o) c.eat-decimal.ensures
 
 pub array-returns-in_default-bracket : goal.array-returns-in_default-bracket
@@ -66,11 +59,7 @@ array-returns-in_default-bracket t c =
     let y = c.requires.ready in
     let e = c.requires.class_value in
     let o = opens-clean y c.clean.ensures c.reserve.ensures in
-    let d0 = starts kind.ArrayType AnyN form.array_rhs c.args.tree.now o.stands in
-    let d1 = advances d0 (o.class_is ∙ form.at-array c.args.st.class e) (omega arith) c.advance-a.ensures (sign-mark kind.ArrayType class.LBracket tt) in
-    let d2 = then-node d1 c.ty-inner.ensures c.in-Next.is in
-    let d3 = then-eats d2.amid (omega arith) c.eat-semi.ensures c.in-Next-semi.is (sign-mark kind.ArrayType class.Semi tt) in
-    let d4 = then-eats d3 (omega arith) c.eat-decimal.ensures c.in-Next-decimal.is (keeping-mark kind.ArrayType class.DecLiteral tt) in
+    let d4 = step.array₄ c.args.tree.now o e c.advance-a.ensures c.ty-inner.ensures c.in-Next.is c.eat-semi.ensures c.in-Next-semi.is c.eat-decimal.ensures c.in-Next-decimal.is in
     then-lacks d4 (refusal c.in_default-bracket.is) (enters form.array-rule y e o) c.eat-bracket.ensures
 
 pub array-returns : goal.array-returns
@@ -79,12 +68,8 @@ array-returns t c =
     let y = c.requires.ready in
     let e = c.requires.class_value in
     let o = opens-clean y c.clean.ensures c.reserve.ensures in
-    let d0 = starts kind.ArrayType AnyN form.array_rhs c.args.tree.now o.stands in
-    let d1 = advances d0 (o.class_is ∙ form.at-array c.args.st.class e) (omega arith) c.advance-a.ensures (sign-mark kind.ArrayType class.LBracket tt) in
-    let d2 = then-node d1 c.ty-inner.ensures c.in-Next.is in
-    let d3 = then-eats d2.amid (omega arith) c.eat-semi.ensures c.in-Next-semi.is (sign-mark kind.ArrayType class.Semi tt) in
-    let d4 = then-eats d3 (omega arith) c.eat-decimal.ensures c.in-Next-decimal.is (keeping-mark kind.ArrayType class.DecLiteral tt) in
-    let d5 = then-eats d4 (omega arith) c.eat-bracket.ensures c.in-Next-bracket.is (sign-mark kind.ArrayType class.RBracket tt) in
+    let d3 = step.array₃ c.args.tree.now o e c.advance-a.ensures c.ty-inner.ensures c.in-Next.is c.eat-semi.ensures c.in-Next-semi.is in
+    let d5 = step.array₅ c.args.tree.now o e c.advance-a.ensures c.ty-inner.ensures c.in-Next.is c.eat-semi.ensures c.in-Next-semi.is c.eat-decimal.ensures c.in-Next-decimal.is c.eat-bracket.ensures c.in-Next-bracket.is in
     let n = value-is c.args.source.now d3.lays.stands c.number-v.ensures in
     let z = form.wide_is (form.array_head d5) (number_at d5) refl refl in
     as-nonterminal form.array-rule y e (read (shut-judged ArrayTypeShape y o d5 (omega arith) z tt tt TypeKind (omega arith, omega arith) (put-number (value_at x c.in-Next-semi.c.at) n array-numbered c.close_number.ensures) (judged-at c.judged-f.ensures c.placed.ensures c.array_length.ensures d3.lays.stands.start_is)
@@ -106,99 +91,59 @@ either-ty-left-requires t c =
     let y = c.requires.ready in
     let e = c.requires.class_value in
     let o = opens y c.reserve.ensures in
-    let d0 = starts kind.EitherType AnyN form.either_rhs c.args.tree.now o.stands in
-    let k = o.class_is ∙ form.at-either c.args.st.class e in
-    let d1 = advances d0 k (omega arith) c.advance-a.ensures (keeping-mark kind.EitherType class.Either tt) in
-    let d2 = then_turns (tok class.LAngle ∷ nt n-type ∷ tok class.Comma ∷ nt n-type ∷ tok class.RAngle ∷ []) d1 form.flat-either (form.either-angle (sym d1.lays.stands.class_is ∙ c.if-a-ne-LANGLE.false)) in
-    let d3 = advances d2 c.if-a-ne-LANGLE.false (omega arith) c.advance-b.ensures (sign-mark kind.EitherType class.LAngle tt) in
-    let f3 = further y o d3 (omega arith) in
-    (omega (arith, f3.ahead, f3.within, c.decreases), f3.ready)
+    let d1 = step.either₁ c.args.tree.now o e c.advance-a.ensures c.if-a-ne-LANGLE.false c.advance-b.ensures in
+    let f1 = further y o d1 (omega arith) in
+    (omega (arith, f1.ahead, f1.within, c.decreases), f1.ready)
 
 pub either-returns-in_default : goal.either-returns-in_default
 either-returns-in_default t c =
     let y = c.requires.ready in
     let e = c.requires.class_value in
     let o = opens y c.reserve.ensures in
-    let d0 = starts kind.EitherType AnyN form.either_rhs c.args.tree.now o.stands in
-    let k = o.class_is ∙ form.at-either c.args.st.class e in
-    let d1 = advances d0 k (omega arith) c.advance-a.ensures (keeping-mark kind.EitherType class.Either tt) in
-    let d2 = then_turns (tok class.LAngle ∷ nt n-type ∷ tok class.Comma ∷ nt n-type ∷ tok class.RAngle ∷ []) d1 form.flat-either (form.either-angle (sym d1.lays.stands.class_is ∙ c.if-a-ne-LANGLE.false)) in
-    let d3 = advances d2 c.if-a-ne-LANGLE.false (omega arith) c.advance-b.ensures (sign-mark kind.EitherType class.LAngle tt) in
-    then-passed d3 (refusal c.in_default.is) (enters form.either-rule y e o) c.ty-left.ensures
+    let d1 = step.either₁ c.args.tree.now o e c.advance-a.ensures c.if-a-ne-LANGLE.false c.advance-b.ensures in
+    then-passed d1 (refusal c.in_default.is) (enters form.either-rule y e o) c.ty-left.ensures
 
 pub either-returns-in_default-comma : goal.either-returns-in_default-comma
 either-returns-in_default-comma t c =
     let y = c.requires.ready in
     let e = c.requires.class_value in
     let o = opens y c.reserve.ensures in
-    let d0 = starts kind.EitherType AnyN form.either_rhs c.args.tree.now o.stands in
-    let k = o.class_is ∙ form.at-either c.args.st.class e in
-    let d1 = advances d0 k (omega arith) c.advance-a.ensures (keeping-mark kind.EitherType class.Either tt) in
-    let d2 = then_turns (tok class.LAngle ∷ nt n-type ∷ tok class.Comma ∷ nt n-type ∷ tok class.RAngle ∷ []) d1 form.flat-either (form.either-angle (sym d1.lays.stands.class_is ∙ c.if-a-ne-LANGLE.false)) in
-    let d3 = advances d2 c.if-a-ne-LANGLE.false (omega arith) c.advance-b.ensures (sign-mark kind.EitherType class.LAngle tt) in
-    let d4 = then-node d3 c.ty-left.ensures c.in-Next.is in
-    then-lacks d4.amid (refusal c.in_default-comma.is) (enters form.either-rule y e o) c.eat-comma.ensures
+    let d2 = step.either₂ c.args.tree.now o e c.advance-a.ensures c.if-a-ne-LANGLE.false c.advance-b.ensures c.ty-left.ensures c.in-Next.is in
+    then-lacks d2.amid (refusal c.in_default-comma.is) (enters form.either-rule y e o) c.eat-comma.ensures
 
 pub either-ty-right-requires : goal.either-ty-right-requires
 either-ty-right-requires t c =
     let y = c.requires.ready in
     let e = c.requires.class_value in
     let o = opens y c.reserve.ensures in
-    let d0 = starts kind.EitherType AnyN form.either_rhs c.args.tree.now o.stands in
-    let k = o.class_is ∙ form.at-either c.args.st.class e in
-    let d1 = advances d0 k (omega arith) c.advance-a.ensures (keeping-mark kind.EitherType class.Either tt) in
-    let d2 = then_turns (tok class.LAngle ∷ nt n-type ∷ tok class.Comma ∷ nt n-type ∷ tok class.RAngle ∷ []) d1 form.flat-either (form.either-angle (sym d1.lays.stands.class_is ∙ c.if-a-ne-LANGLE.false)) in
-    let d3 = advances d2 c.if-a-ne-LANGLE.false (omega arith) c.advance-b.ensures (sign-mark kind.EitherType class.LAngle tt) in
-    let d4 = then-node d3 c.ty-left.ensures c.in-Next.is in
-    let d5 = then-eats d4.amid (omega arith) c.eat-comma.ensures c.in-Next-comma.is (sign-mark kind.EitherType class.Comma tt) in
-    let f5 = further y o d5 (omega arith) in
-    (omega (arith, f5.ahead, f5.within, c.decreases), f5.ready)
+    let d3 = step.either₃ c.args.tree.now o e c.advance-a.ensures c.if-a-ne-LANGLE.false c.advance-b.ensures c.ty-left.ensures c.in-Next.is c.eat-comma.ensures c.in-Next-comma.is in
+    let f3 = further y o d3 (omega arith) in
+    (omega (arith, f3.ahead, f3.within, c.decreases), f3.ready)
 
 pub either-returns-in_default-right : goal.either-returns-in_default-right
 either-returns-in_default-right t c =
     let y = c.requires.ready in
     let e = c.requires.class_value in
     let o = opens y c.reserve.ensures in
-    let d0 = starts kind.EitherType AnyN form.either_rhs c.args.tree.now o.stands in
-    let k = o.class_is ∙ form.at-either c.args.st.class e in
-    let d1 = advances d0 k (omega arith) c.advance-a.ensures (keeping-mark kind.EitherType class.Either tt) in
-    let d2 = then_turns (tok class.LAngle ∷ nt n-type ∷ tok class.Comma ∷ nt n-type ∷ tok class.RAngle ∷ []) d1 form.flat-either (form.either-angle (sym d1.lays.stands.class_is ∙ c.if-a-ne-LANGLE.false)) in
-    let d3 = advances d2 c.if-a-ne-LANGLE.false (omega arith) c.advance-b.ensures (sign-mark kind.EitherType class.LAngle tt) in
-    let d4 = then-node d3 c.ty-left.ensures c.in-Next.is in
-    let d5 = then-eats d4.amid (omega arith) c.eat-comma.ensures c.in-Next-comma.is (sign-mark kind.EitherType class.Comma tt) in
-    then-passed d5 (refusal c.in_default-right.is) (enters form.either-rule y e o) c.ty-right.ensures
+    let d3 = step.either₃ c.args.tree.now o e c.advance-a.ensures c.if-a-ne-LANGLE.false c.advance-b.ensures c.ty-left.ensures c.in-Next.is c.eat-comma.ensures c.in-Next-comma.is in
+    then-passed d3 (refusal c.in_default-right.is) (enters form.either-rule y e o) c.ty-right.ensures
 
 pub either-returns-in_default-angle : goal.either-returns-in_default-angle
 either-returns-in_default-angle t c =
     let y = c.requires.ready in
     let e = c.requires.class_value in
     let o = opens y c.reserve.ensures in
-    let d0 = starts kind.EitherType AnyN form.either_rhs c.args.tree.now o.stands in
-    let k = o.class_is ∙ form.at-either c.args.st.class e in
-    let d1 = advances d0 k (omega arith) c.advance-a.ensures (keeping-mark kind.EitherType class.Either tt) in
-    let d2 = then_turns (tok class.LAngle ∷ nt n-type ∷ tok class.Comma ∷ nt n-type ∷ tok class.RAngle ∷ []) d1 form.flat-either (form.either-angle (sym d1.lays.stands.class_is ∙ c.if-a-ne-LANGLE.false)) in
-    let d3 = advances d2 c.if-a-ne-LANGLE.false (omega arith) c.advance-b.ensures (sign-mark kind.EitherType class.LAngle tt) in
-    let d4 = then-node d3 c.ty-left.ensures c.in-Next.is in
-    let d5 = then-eats d4.amid (omega arith) c.eat-comma.ensures c.in-Next-comma.is (sign-mark kind.EitherType class.Comma tt) in
-    let d6 = then-node d5 c.ty-right.ensures c.in-Next-right.is in
-    then-lacks d6.amid (refusal c.in_default-angle.is) (enters form.either-rule y e o) c.eat-angle.ensures
+    let d4 = step.either₄ c.args.tree.now o e c.advance-a.ensures c.if-a-ne-LANGLE.false c.advance-b.ensures c.ty-left.ensures c.in-Next.is c.eat-comma.ensures c.in-Next-comma.is c.ty-right.ensures c.in-Next-right.is in
+    then-lacks d4.amid (refusal c.in_default-angle.is) (enters form.either-rule y e o) c.eat-angle.ensures
 
 pub either-returns : goal.either-returns
 either-returns t c =
     let y = c.requires.ready in
     let e = c.requires.class_value in
     let o = opens y c.reserve.ensures in
-    let d0 = starts kind.EitherType AnyN form.either_rhs c.args.tree.now o.stands in
-    let k = o.class_is ∙ form.at-either c.args.st.class e in
-    let d1 = advances d0 k (omega arith) c.advance-a.ensures (keeping-mark kind.EitherType class.Either tt) in
-    let d2 = then_turns (tok class.LAngle ∷ nt n-type ∷ tok class.Comma ∷ nt n-type ∷ tok class.RAngle ∷ []) d1 form.flat-either (form.either-angle (sym d1.lays.stands.class_is ∙ c.if-a-ne-LANGLE.false)) in
-    let d3 = advances d2 c.if-a-ne-LANGLE.false (omega arith) c.advance-b.ensures (sign-mark kind.EitherType class.LAngle tt) in
-    let d4 = then-node d3 c.ty-left.ensures c.in-Next.is in
-    let d5 = then-eats d4.amid (omega arith) c.eat-comma.ensures c.in-Next-comma.is (sign-mark kind.EitherType class.Comma tt) in
-    let d6 = then-node d5 c.ty-right.ensures c.in-Next-right.is in
-    let d7 = then-eats d6.amid (omega arith) c.eat-angle.ensures c.in-Next-angle.is (sign-mark kind.EitherType class.RAngle tt) in
-    let z = form.wide_is (form.either-head d7) (number_at d7 ∙ form.no_value (text c.args.source.now).draft) form.zero-low form.zero_high in
-    as-nonterminal form.either-rule y e (read (shut EitherTypeShape tt y o d7 (omega arith) z tt TypeKind (omega arith, omega arith) (rw c.plain-2.ensures at c.close-2.ensures)))
+    let d5 = step.either₅ c.args.tree.now o e c.advance-a.ensures c.if-a-ne-LANGLE.false c.advance-b.ensures c.ty-left.ensures c.in-Next.is c.eat-comma.ensures c.in-Next-comma.is c.ty-right.ensures c.in-Next-right.is c.eat-angle.ensures c.in-Next-angle.is in
+    let z = form.wide_is (form.either-head d5) (number_at d5 ∙ form.no_value (text c.args.source.now).draft) form.zero-low form.zero_high in
+    as-nonterminal form.either-rule y e (read (shut EitherTypeShape tt y o d5 (omega arith) z tt TypeKind (omega arith, omega arith) (rw c.plain-2.ensures at c.close-2.ensures)))
 
 pub list-returns-then-a-ne-LANGLE : goal.list-returns-then-a-ne-LANGLE
 list-returns-then-a-ne-LANGLE t c =
@@ -217,67 +162,41 @@ list-ty-inner-requires t c =
     let y = c.requires.ready in
     let e = c.requires.class_value in
     let o = opens-clean y c.clean.ensures c.reserve.ensures in
-    let d0 = starts kind.ListType AnyN form.list_rhs c.args.tree.now o.stands in
-    let k = o.class_is ∙ form.at-list c.args.st.class e in
-    let d1 = advances d0 k (omega arith) c.advance-a.ensures (keeping-mark kind.ListType class.List tt) in
-    let d2 = then_turns (tok class.LAngle ∷ nt n-type ∷ tok class.Comma ∷ tok class.DecLiteral ∷ tok class.RAngle ∷ []) d1 form.flat_list (form.list-angle (sym d1.lays.stands.class_is ∙ c.if-a-ne-LANGLE.false)) in
-    let d3 = advances d2 c.if-a-ne-LANGLE.false (omega arith) c.advance-b.ensures (sign-mark kind.ListType class.LAngle tt) in
-    let f3 = further y o d3 (omega arith) in
-    (omega (arith, f3.ahead, f3.within, c.decreases), f3.ready)
+    let d1 = step.list₁ c.args.tree.now o e c.advance-a.ensures c.if-a-ne-LANGLE.false c.advance-b.ensures in
+    let f1 = further y o d1 (omega arith) in
+    (omega (arith, f1.ahead, f1.within, c.decreases), f1.ready)
 
 pub list-returns-in_default : goal.list-returns-in_default
 list-returns-in_default t c =
     let y = c.requires.ready in
     let e = c.requires.class_value in
     let o = opens-clean y c.clean.ensures c.reserve.ensures in
-    let d0 = starts kind.ListType AnyN form.list_rhs c.args.tree.now o.stands in
-    let k = o.class_is ∙ form.at-list c.args.st.class e in
-    let d1 = advances d0 k (omega arith) c.advance-a.ensures (keeping-mark kind.ListType class.List tt) in
-    let d2 = then_turns (tok class.LAngle ∷ nt n-type ∷ tok class.Comma ∷ tok class.DecLiteral ∷ tok class.RAngle ∷ []) d1 form.flat_list (form.list-angle (sym d1.lays.stands.class_is ∙ c.if-a-ne-LANGLE.false)) in
-    let d3 = advances d2 c.if-a-ne-LANGLE.false (omega arith) c.advance-b.ensures (sign-mark kind.ListType class.LAngle tt) in
-    then-passed d3 (refusal c.in_default.is) (enters form.list-rule y e o) c.ty-inner.ensures
+    let d1 = step.list₁ c.args.tree.now o e c.advance-a.ensures c.if-a-ne-LANGLE.false c.advance-b.ensures in
+    then-passed d1 (refusal c.in_default.is) (enters form.list-rule y e o) c.ty-inner.ensures
 
 pub list-returns-in_default-comma : goal.list-returns-in_default-comma
 list-returns-in_default-comma t c =
     let y = c.requires.ready in
     let e = c.requires.class_value in
     let o = opens-clean y c.clean.ensures c.reserve.ensures in
-    let d0 = starts kind.ListType AnyN form.list_rhs c.args.tree.now o.stands in
-    let k = o.class_is ∙ form.at-list c.args.st.class e in
-    let d1 = advances d0 k (omega arith) c.advance-a.ensures (keeping-mark kind.ListType class.List tt) in
-    let d2 = then_turns (tok class.LAngle ∷ nt n-type ∷ tok class.Comma ∷ tok class.DecLiteral ∷ tok class.RAngle ∷ []) d1 form.flat_list (form.list-angle (sym d1.lays.stands.class_is ∙ c.if-a-ne-LANGLE.false)) in
-    let d3 = advances d2 c.if-a-ne-LANGLE.false (omega arith) c.advance-b.ensures (sign-mark kind.ListType class.LAngle tt) in
-    let d4 = then-node d3 c.ty-inner.ensures c.in-Next.is in
-    then-lacks d4.amid (refusal c.in_default-comma.is) (enters form.list-rule y e o) c.eat-comma.ensures
+    let d2 = step.list₂ c.args.tree.now o e c.advance-a.ensures c.if-a-ne-LANGLE.false c.advance-b.ensures c.ty-inner.ensures c.in-Next.is in
+    then-lacks d2.amid (refusal c.in_default-comma.is) (enters form.list-rule y e o) c.eat-comma.ensures
 
 pub list-returns-in_default-decimal : goal.list-returns-in_default-decimal
 list-returns-in_default-decimal t c =
     let y = c.requires.ready in
     let e = c.requires.class_value in
     let o = opens-clean y c.clean.ensures c.reserve.ensures in
-    let d0 = starts kind.ListType AnyN form.list_rhs c.args.tree.now o.stands in
-    let k = o.class_is ∙ form.at-list c.args.st.class e in
-    let d1 = advances d0 k (omega arith) c.advance-a.ensures (keeping-mark kind.ListType class.List tt) in
-    let d2 = then_turns (tok class.LAngle ∷ nt n-type ∷ tok class.Comma ∷ tok class.DecLiteral ∷ tok class.RAngle ∷ []) d1 form.flat_list (form.list-angle (sym d1.lays.stands.class_is ∙ c.if-a-ne-LANGLE.false)) in
-    let d3 = advances d2 c.if-a-ne-LANGLE.false (omega arith) c.advance-b.ensures (sign-mark kind.ListType class.LAngle tt) in
-    let d4 = then-node d3 c.ty-inner.ensures c.in-Next.is in
-    let d5 = then-eats d4.amid (omega arith) c.eat-comma.ensures c.in-Next-comma.is (sign-mark kind.ListType class.Comma tt) in
-    then-lacks d5 (refusal c.in_default-decimal.is) (enters form.list-rule y e o) c.eat-decimal.ensures
+    let d3 = step.list₃ c.args.tree.now o e c.advance-a.ensures c.if-a-ne-LANGLE.false c.advance-b.ensures c.ty-inner.ensures c.in-Next.is c.eat-comma.ensures c.in-Next-comma.is in
+    then-lacks d3 (refusal c.in_default-decimal.is) (enters form.list-rule y e o) c.eat-decimal.ensures
 
 pub list-returns-in_default-angle : goal.list-returns-in_default-angle
 list-returns-in_default-angle t c =
     let y = c.requires.ready in
     let e = c.requires.class_value in
     let o = opens-clean y c.clean.ensures c.reserve.ensures in
-    let d0 = starts kind.ListType AnyN form.list_rhs c.args.tree.now o.stands in
-    let k = o.class_is ∙ form.at-list c.args.st.class e in
-    let d1 = advances d0 k (omega arith) c.advance-a.ensures (keeping-mark kind.ListType class.List tt) in
-    let d2 = then_turns (tok class.LAngle ∷ nt n-type ∷ tok class.Comma ∷ tok class.DecLiteral ∷ tok class.RAngle ∷ []) d1 form.flat_list (form.list-angle (sym d1.lays.stands.class_is ∙ c.if-a-ne-LANGLE.false)) in
-    let d3 = advances d2 c.if-a-ne-LANGLE.false (omega arith) c.advance-b.ensures (sign-mark kind.ListType class.LAngle tt) in
-    let d4 = then-node d3 c.ty-inner.ensures c.in-Next.is in
-    let d5 = then-eats d4.amid (omega arith) c.eat-comma.ensures c.in-Next-comma.is (sign-mark kind.ListType class.Comma tt) in
-    let d6 = then-eats d5 (omega arith) c.eat-decimal.ensures c.in-Next-decimal.is (keeping-mark kind.ListType class.DecLiteral tt) in
-    then-lacks d6 (refusal c.in_default-angle.is) (enters form.list-rule y e o) c.eat-angle.ensures
+    let d4 = step.list₄ c.args.tree.now o e c.advance-a.ensures c.if-a-ne-LANGLE.false c.advance-b.ensures c.ty-inner.ensures c.in-Next.is c.eat-comma.ensures c.in-Next-comma.is c.eat-decimal.ensures c.in-Next-decimal.is in
+    then-lacks d4 (refusal c.in_default-angle.is) (enters form.list-rule y e o) c.eat-angle.ensures
 
 pub list-returns : goal.list-returns
 list-returns t c =
@@ -285,19 +204,12 @@ list-returns t c =
     let y = c.requires.ready in
     let e = c.requires.class_value in
     let o = opens-clean y c.clean.ensures c.reserve.ensures in
-    let d0 = starts kind.ListType AnyN form.list_rhs c.args.tree.now o.stands in
-    let k = o.class_is ∙ form.at-list c.args.st.class e in
-    let d1 = advances d0 k (omega arith) c.advance-a.ensures (keeping-mark kind.ListType class.List tt) in
-    let d2 = then_turns (tok class.LAngle ∷ nt n-type ∷ tok class.Comma ∷ tok class.DecLiteral ∷ tok class.RAngle ∷ []) d1 form.flat_list (form.list-angle (sym d1.lays.stands.class_is ∙ c.if-a-ne-LANGLE.false)) in
-    let d3 = advances d2 c.if-a-ne-LANGLE.false (omega arith) c.advance-b.ensures (sign-mark kind.ListType class.LAngle tt) in
-    let d4 = then-node d3 c.ty-inner.ensures c.in-Next.is in
-    let d5 = then-eats d4.amid (omega arith) c.eat-comma.ensures c.in-Next-comma.is (sign-mark kind.ListType class.Comma tt) in
-    let d6 = then-eats d5 (omega arith) c.eat-decimal.ensures c.in-Next-decimal.is (keeping-mark kind.ListType class.DecLiteral tt) in
-    let d7 = then-eats d6 (omega arith) c.eat-angle.ensures c.in-Next-angle.is (sign-mark kind.ListType class.RAngle tt) in
-    let n = value-is c.args.source.now d5.lays.stands c.number-v.ensures in
-    let z = form.wide_is (form.list-head d7) (number_at d7) refl refl in
-    as-nonterminal form.list-rule y e (read (shut-judged ListTypeShape y o d7 (omega arith) z tt tt TypeKind (omega arith, omega arith) (put-number (value_at x c.in-Next-comma.d.at) n list-numbered c.close_number.ensures) (judged-at c.judged-g.ensures c.placed.ensures c.bound.ensures d5.lays.stands.start_is)
-    (λ is u v. form.list-fault x.draft is c.number-v.result (tok_at x c.in-Next-comma.d.at) u (first-is is u v) (value-text c.args.source.now d5.lays.stands c.number-v.ensures))))
+    let d3 = step.list₃ c.args.tree.now o e c.advance-a.ensures c.if-a-ne-LANGLE.false c.advance-b.ensures c.ty-inner.ensures c.in-Next.is c.eat-comma.ensures c.in-Next-comma.is in
+    let d5 = step.list₅ c.args.tree.now o e c.advance-a.ensures c.if-a-ne-LANGLE.false c.advance-b.ensures c.ty-inner.ensures c.in-Next.is c.eat-comma.ensures c.in-Next-comma.is c.eat-decimal.ensures c.in-Next-decimal.is c.eat-angle.ensures c.in-Next-angle.is in
+    let n = value-is c.args.source.now d3.lays.stands c.number-v.ensures in
+    let z = form.wide_is (form.list-head d5) (number_at d5) refl refl in
+    as-nonterminal form.list-rule y e (read (shut-judged ListTypeShape y o d5 (omega arith) z tt tt TypeKind (omega arith, omega arith) (put-number (value_at x c.in-Next-comma.d.at) n list-numbered c.close_number.ensures) (judged-at c.judged-g.ensures c.placed.ensures c.bound.ensures d3.lays.stands.start_is)
+    (λ is u v. form.list-fault x.draft is c.number-v.result (tok_at x c.in-Next-comma.d.at) u (first-is is u v) (value-text c.args.source.now d3.lays.stands c.number-v.ensures))))
 
 pub option-returns-then-a-ne-LANGLE : goal.option-returns-then-a-ne-LANGLE
 option-returns-then-a-ne-LANGLE t c =
@@ -315,53 +227,34 @@ option-ty-inner-requires t c =
     let y = c.requires.ready in
     let e = c.requires.class_value in
     let o = opens y c.reserve.ensures in
-    let d0 = starts kind.OptionType AnyN form.option_rhs c.args.tree.now o.stands in
-    let k = o.class_is ∙ form.at_option c.args.st.class e in
-    let d1 = advances d0 k (omega arith) c.advance-a.ensures (keeping-mark kind.OptionType class.Option tt) in
-    let d2 = then_turns (tok class.LAngle ∷ nt n-type ∷ tok class.RAngle ∷ []) d1 form.flat-option (form.option-angle (sym d1.lays.stands.class_is ∙ c.if-a-ne-LANGLE.false)) in
-    let d3 = advances d2 c.if-a-ne-LANGLE.false (omega arith) c.advance-b.ensures (sign-mark kind.OptionType class.LAngle tt) in
-    let f3 = further y o d3 (omega arith) in
-    (omega (arith, f3.ahead, f3.within, c.decreases), f3.ready)
+    let d1 = step.option₁ c.args.tree.now o e c.advance-a.ensures c.if-a-ne-LANGLE.false c.advance-b.ensures in
+    let f1 = further y o d1 (omega arith) in
+    (omega (arith, f1.ahead, f1.within, c.decreases), f1.ready)
 
 pub option-returns-in_default : goal.option-returns-in_default
 option-returns-in_default t c =
     let y = c.requires.ready in
     let e = c.requires.class_value in
     let o = opens y c.reserve.ensures in
-    let d0 = starts kind.OptionType AnyN form.option_rhs c.args.tree.now o.stands in
-    let k = o.class_is ∙ form.at_option c.args.st.class e in
-    let d1 = advances d0 k (omega arith) c.advance-a.ensures (keeping-mark kind.OptionType class.Option tt) in
-    let d2 = then_turns (tok class.LAngle ∷ nt n-type ∷ tok class.RAngle ∷ []) d1 form.flat-option (form.option-angle (sym d1.lays.stands.class_is ∙ c.if-a-ne-LANGLE.false)) in
-    let d3 = advances d2 c.if-a-ne-LANGLE.false (omega arith) c.advance-b.ensures (sign-mark kind.OptionType class.LAngle tt) in
-    then-passed d3 (refusal c.in_default.is) (enters form.option-rule y e o) c.ty-inner.ensures
+    let d1 = step.option₁ c.args.tree.now o e c.advance-a.ensures c.if-a-ne-LANGLE.false c.advance-b.ensures in
+    then-passed d1 (refusal c.in_default.is) (enters form.option-rule y e o) c.ty-inner.ensures
 
 pub option-returns-in_default-angle : goal.option-returns-in_default-angle
 option-returns-in_default-angle t c =
     let y = c.requires.ready in
     let e = c.requires.class_value in
     let o = opens y c.reserve.ensures in
-    let d0 = starts kind.OptionType AnyN form.option_rhs c.args.tree.now o.stands in
-    let k = o.class_is ∙ form.at_option c.args.st.class e in
-    let d1 = advances d0 k (omega arith) c.advance-a.ensures (keeping-mark kind.OptionType class.Option tt) in
-    let d2 = then_turns (tok class.LAngle ∷ nt n-type ∷ tok class.RAngle ∷ []) d1 form.flat-option (form.option-angle (sym d1.lays.stands.class_is ∙ c.if-a-ne-LANGLE.false)) in
-    let d3 = advances d2 c.if-a-ne-LANGLE.false (omega arith) c.advance-b.ensures (sign-mark kind.OptionType class.LAngle tt) in
-    let d4 = then-node d3 c.ty-inner.ensures c.in-Next.is in
-    then-lacks d4.amid (refusal c.in_default-angle.is) (enters form.option-rule y e o) c.eat-angle.ensures
+    let d2 = step.option₂ c.args.tree.now o e c.advance-a.ensures c.if-a-ne-LANGLE.false c.advance-b.ensures c.ty-inner.ensures c.in-Next.is in
+    then-lacks d2.amid (refusal c.in_default-angle.is) (enters form.option-rule y e o) c.eat-angle.ensures
 
 pub option-returns : goal.option-returns
 option-returns t c =
     let y = c.requires.ready in
     let e = c.requires.class_value in
     let o = opens y c.reserve.ensures in
-    let d0 = starts kind.OptionType AnyN form.option_rhs c.args.tree.now o.stands in
-    let k = o.class_is ∙ form.at_option c.args.st.class e in
-    let d1 = advances d0 k (omega arith) c.advance-a.ensures (keeping-mark kind.OptionType class.Option tt) in
-    let d2 = then_turns (tok class.LAngle ∷ nt n-type ∷ tok class.RAngle ∷ []) d1 form.flat-option (form.option-angle (sym d1.lays.stands.class_is ∙ c.if-a-ne-LANGLE.false)) in
-    let d3 = advances d2 c.if-a-ne-LANGLE.false (omega arith) c.advance-b.ensures (sign-mark kind.OptionType class.LAngle tt) in
-    let d4 = then-node d3 c.ty-inner.ensures c.in-Next.is in
-    let d5 = then-eats d4.amid (omega arith) c.eat-angle.ensures c.in-Next-angle.is (sign-mark kind.OptionType class.RAngle tt) in
-    let z = form.wide_is (form.option-head d5) (number_at d5 ∙ form.no_value (text c.args.source.now).draft) form.zero-low form.zero_high in
-    as-nonterminal form.option-rule y e (read (shut OptionTypeShape tt y o d5 (omega arith) z tt TypeKind (omega arith, omega arith) (rw c.plain-2.ensures at c.close-2.ensures)))
+    let d3 = step.option₃ c.args.tree.now o e c.advance-a.ensures c.if-a-ne-LANGLE.false c.advance-b.ensures c.ty-inner.ensures c.in-Next.is c.eat-angle.ensures c.in-Next-angle.is in
+    let z = form.wide_is (form.option-head d3) (number_at d3 ∙ form.no_value (text c.args.source.now).draft) form.zero-low form.zero_high in
+    as-nonterminal form.option-rule y e (read (shut OptionTypeShape tt y o d3 (omega arith) z tt TypeKind (omega arith, omega arith) (rw c.plain-2.ensures at c.close-2.ensures)))
 
 pub tuple-types-inner-requires : goal.tuple-types-inner-requires
 tuple-types-inner-requires t c =

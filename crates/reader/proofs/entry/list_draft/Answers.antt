@@ -1,8 +1,20 @@
--- No byte is used only where the lines do not fit.
+-- The array has room for as many tokens as the draft has bytes, or as any may have. No byte is used only where the lines do not fit.
 -- Assumes nothing.
 use Rattle.std.specs.Prelude.{length}
+use Rattle.std.proofs.Common.{arith, rules}
+use Rattle.reader.proofs.EntryLaws.{roomy_is}
 use Rattle.reader.proofs.Fits.{nothing-only}
 use Rattle.reader.proofs.entry.list_draft.Goals as goal
 
+pub returns-clause-used : goal.returns-clause-used
+returns-clause-used c =
+    let h = c.with_words.ensures in
+    (roomy_is c.args.draft.now c.with_words.result (omega (arith, h.1, c.saturating_mul-words.ensures)) h.2 h.3.zeros h.3.lent h.3.left (search rules)).0
+
+pub returns-clause-bytes : goal.returns-clause-bytes
+returns-clause-bytes c =
+    let h = c.with_words.ensures in
+    (roomy_is c.args.draft.now c.with_words.result (omega (arith, h.1, c.saturating_mul-words.ensures)) h.2 h.3.zeros h.3.lent h.3.left (search rules)).1
+
 pub returns-clause-nothing : goal.returns-clause-nothing
-returns-clause-nothing c = nothing-only c.args.draft.now (length c.args.out.now) c.list_sized.ensures.used
+returns-clause-nothing c = nothing-only c.args.draft.now (length c.args.out.now) (returns-clause-used c)

@@ -1,4 +1,4 @@
--- The pairs are equal exactly when the lists are.
+-- Each pair is tested alike, by its two bytes; the pairs are equal exactly when the lists are.
 -- Assumes nothing.
 use Rattle.std.proofs.Common.{Bool, true, false, List, ℕ, ◌≡◌, refl, sym, ◌∙◌, rules}
 use Rattle.std.proofs.lemmas.Iterator.{YieldsList-from_slice, YieldsList-from_zip, same_from_all}
@@ -22,4 +22,4 @@ pub returns : goal.returns
 returns c =
     decided _ _ _
     (same_from_all c.all.new.self _ _ _ _ c.all.ensures.ran (YieldsList-from_zip (YieldsList-from_slice c.args.p.now cc) (YieldsList-from_slice c.args.w.now cc)) c.requires
-    (λ x q k. search (rules, tests)) (λ x q k. search (rules, tests)))
+    (λ x q k. (refl, search (rules, tests))) (λ x q k. search (rules, tests)))

@@ -1,20 +1,16 @@
--- The loop keeps where the run ends.
+-- A run ends at the first byte that is not of it, or at the end.
 -- Assumes nothing.
-use Rattle.std.proofs.Common.{◌≡◌, length, ◌∙◌, arith}
-use Rattle.lexer.proofs.Runs.{run_in, run_out, run-over}
-use Rattle.lexer.proofs.ByteClasses.{class-in, class-below, class-above}
+use Rattle.std.proofs.Common.{drop, rules, tests, not, ◌∙◌, arith}
+use Rattle.std.proofs.lemmas.List.{take_all, length-drop}
+use Rattle.std.proofs.lemmas.Iterator.{YieldsList-from_slice}
+use Rattle.std.proofs.lemmas.Iterator.Search.{position_from_yields_List}
+use Rattle.lexer.specs.Bytes.{in_classes}
+use Rattle.lexer.proofs.Runs.{run_placed}
 use Rattle.lexer.proofs.chars.Classes.run_end.Goals as goal
 
-pub returns-then-c-least : goal.returns-then-c-least
-returns-then-c-least c = run_out _ _ _ (omega arith) (class-below _ _ _ _ c.of-c.ensures c.if-c-least.true) ∙ c.loop-j.invariant
-
-pub returns-then-c-most : goal.returns-then-c-most
-returns-then-c-most c = run_out _ _ _ (omega arith) (class-above _ _ _ _ c.of-c.ensures c.if-c-most.true) ∙ c.loop-j.invariant
-
-pub loop-j-preserved : goal.loop-j-preserved
-loop-j-preserved c = run_in _ _ _ (omega arith) (class-in _ _ _ _ c.of-c.ensures c.if-c-least.false c.if-c-most.false) ∙ c.loop-j.invariant
-
 pub returns : goal.returns
+unfolding in_classes
 returns c =
-    let e : length c.args.s.now ≡ c.loop-j.j = omega arith in
-    e ∙ run-over _ _ _ c.loop-j-test.false ∙ c.loop-j.invariant
+    let test = in_classes c.args.least c.args.most in
+    let found = position_from_yields_List (λ b. not (test b)) _ _ c.position.result c.position.ensures.ran (YieldsList-from_slice (drop c.args.i c.args.s.now) (c.iter.ensures.rest ∙ take_all _ (drop c.args.i c.args.s.now) (omega (arith, length-drop c.args.i c.args.s.now)))) (λ x b q k. search (rules, tests)) in
+    run_placed test c.args.i c.args.s.now c.map_or.result c.requires found c.map_or.ensures (λ n k. search (rules, tests))

@@ -6,13 +6,11 @@ use Rattle.lexer.specs.Classes as t
 use Rattle.lexer.specs.declared.Step.TheVariants.{Token}
 use Rattle.lexer.proofs.ByteClasses.{starts_run}
 use Rattle.lexer.proofs.Bytes.{at-decimal}
+use Rattle.lexer.proofs.Runs.{run_in}
 use Rattle.lexer.proofs.scan.Scanner.plain_number.Goals as goal
-
-pub rest_end-e-requires : goal.rest_end-e-requires
-rest_end-e-requires c = (c.args.self.within, starts_run _ c.requires)
 
 pub returns : goal.returns
 returns c =
     let n = c.if-self-eq48.false in
-    ap (Token t.DecLiteral) c.rest_end-e.ensures
+    ap (Token t.DecLiteral) (c.run_end-e.ensures ∙ run_in _ _ _ c.args.self.within (starts_run _ c.requires))
     ∙ at-decimal _ _ c.args.self.within c.requires (simp (ne_eqb _ _ n)) (simp (ne_eqb _ _ n))

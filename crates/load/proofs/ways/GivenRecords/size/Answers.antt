@@ -5,4 +5,4 @@ use Rattle.load.proofs.WaysLaws.{size-at}
 use Rattle.load.proofs.ways.GivenRecords.size.Goals as goal
 
 pub returns : goal.returns
-returns c = size-at _ _ _ c.requires (omega arith) c.number.ensures
+returns c = size-at _ _ _ c.requires (omega arith) c.place.ensures

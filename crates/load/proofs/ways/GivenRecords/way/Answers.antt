@@ -5,4 +5,4 @@ use Rattle.load.proofs.WaysLaws.{up-at}
 use Rattle.load.proofs.ways.GivenRecords.way.Goals as goal
 
 pub returns : goal.returns
-returns c = up-at _ _ _ c.requires (omega arith) c.number.ensures
+returns c = up-at _ _ _ c.requires (omega arith) c.place.ensures

@@ -1,6 +1,6 @@
 -- One candidate decides.
 -- Assumes nothing.
-use Rattle.std.proofs.Common.{length, ap, sym, ◌∙◌, arith, rules, refl}
+use Rattle.std.proofs.Common.{length, ap, ap₂, sym, ◌∙◌, arith, rules, refl}
 use Rattle.std.specs.Bool.{then_some}
 use Rattle.text.specs.Same.{same}
 use Rattle.text.specs.Ascii.{ascii, ascii_from}
@@ -18,7 +18,7 @@ bounds-self-slot c = rw c.slot.ensures (omega arith)
 
 pub returns-then-k-self : goal.returns-then-k-self
 returns-then-k-self c =
-    sym (is_plain _ _ (past _ _ _ (only_at _ _ c.requires c.slot.ensures c.from-k.ensures) (omega (arith, c.if-k-self.true, listed-length c.args.self.now c.requires.within))))
+    sym (is_plain _ _ (past _ _ _ (only_at _ _ c.requires c.slot.ensures refl) (omega (arith, c.if-k-self.true, listed-length c.args.self.now c.requires.within))))
 
 pub overflow_add-self : goal.overflow_add-self
 overflow_add-self c = omega (arith, entry_in _ c.requires _ c.if-k-self.false)
@@ -29,11 +29,11 @@ text_of-w-requires c = (refl, entry_in _ c.requires _ (omega arith))
 
 pub returns-then-p-w : goal.returns-then-p-w
 returns-then-p-w c =
-    let w = c.text_of-w.ensures ∙ sym (listed-at c.args.self.now _ c.if-k-self.false) in
-    sym (is_plain _ _ (other _ _ _ (only_at _ _ c.requires c.slot.ensures c.from-k.ensures) (λ e. c.if-p-w.true (ap length (e ∙ sym w)))))
+    let w = c.text_of-w.ensures ∙ sym (listed-at c.args.self.now c.from.result (omega (arith, c.from.ensures, c.if-k-self.false))) in
+    sym (is_plain _ _ (other _ _ _ (only_at _ _ c.requires c.slot.ensures c.from.ensures) (λ e. c.if-p-w.true (ap length (e ∙ sym w)))))
 
 pub returns : goal.returns
 returns c =
-    let w = c.text_of-w.ensures ∙ sym (listed-at c.args.self.now _ c.if-k-self.false) in
-    c.then_some.ensures ∙ ap (λ b. then_some b c.from-k.result) (c.spells.ensures ∙ ap (same _) w)
-    ∙ settled _ _ _ (only_at _ _ c.requires c.slot.ensures c.from-k.ensures) (omega (arith, c.if-k-self.false, listed-length c.args.self.now c.requires.within))
+    let w = c.text_of-w.ensures ∙ sym (listed-at c.args.self.now c.from.result (omega (arith, c.from.ensures, c.if-k-self.false))) in
+    c.then_some.ensures ∙ ap₂ (λ b k. then_some b k) (c.spells.ensures ∙ ap (same _) w) (sym c.from.ensures)
+    ∙ settled _ _ _ (only_at _ _ c.requires c.slot.ensures c.from.ensures) (omega (arith, c.from.ensures, c.if-k-self.false, listed-length c.args.self.now c.requires.within))

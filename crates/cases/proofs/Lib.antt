@@ -1,0 +1,2 @@
+mod AllZero
+mod Chunks

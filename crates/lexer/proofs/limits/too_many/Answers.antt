@@ -1,0 +1,27 @@
+-- A refusal of the bytes that are left, or, at the end, too many tokens.
+-- Assumes nothing.
+use Rattle.std.proofs.Common.{sym, ◌∙◌, arith}
+use Rattle.lexer.proofs.Filling.{leads-to, over-token, over-trivia, over-refused, over-end}
+use Rattle.lexer.proofs.limits.too_many.Goals as goal
+
+pub loop-end-smaller-in-Token : goal.loop-end-smaller-in-Token
+loop-end-smaller-in-Token c =
+    let m = leads-to _ _ _ (sym c.step_with.ensures ∙ c.in-Token.is) in
+    omega (arith, m.0, m.1)
+
+pub loop-end-preserved-in-Token : goal.loop-end-preserved-in-Token
+loop-end-preserved-in-Token c = c.loop-end.invariant ∙ over-token _ _ _ _ _ (sym c.step_with.ensures ∙ c.in-Token.is)
+
+pub loop-end-smaller : goal.loop-end-smaller
+loop-end-smaller c =
+    let m = leads-to _ _ _ (sym c.step_with.ensures ∙ c.in-Trivia.is) in
+    omega (arith, m.0, m.1)
+
+pub loop-end-preserved : goal.loop-end-preserved
+loop-end-preserved c = c.loop-end.invariant ∙ over-trivia _ _ _ _ (sym c.step_with.ensures ∙ c.in-Trivia.is)
+
+pub returns-in-Refused : goal.returns-in-Refused
+returns-in-Refused c = sym (c.loop-end.invariant ∙ over-refused _ _ _ _ (sym c.step_with.ensures ∙ c.in-Refused.is))
+
+pub returns-in-Nothing : goal.returns-in-Nothing
+returns-in-Nothing c = sym (c.loop-end.invariant ∙ over-end _ _ _ (sym c.step_with.ensures ∙ c.in-Nothing.is))
