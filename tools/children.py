@@ -246,7 +246,7 @@ def code():
             "// compute that both are right (proofs/Children).\nuse crate::begin::{Asked, Head};\nuse crate::walk::State;\n\n"
             f"// How many states there are.\npub(crate) const STATE_COUNT: usize = {COUNT};\n\n"
             "pub(crate) static STATES: [State; STATE_COUNT] = [\n" + "".join(map(state, ROWS)) + "];\n"
-            + "\n// How many kinds there are; and for each what it asks of low and high, and the states that the children begin in, by low.\n"
+            + "\n// How many rows there are, one for each number up to the last kind; and for each what it asks of low and high, and the states that the children\n// begin in, by low.\n"
             f"pub(crate) const KINDS: usize = {1 + LAST};\n\npub(crate) static HEADS: [Option<Head>; KINDS] = [\n" + "".join(map(head, range(1 + LAST))) + "];\n")
 
 

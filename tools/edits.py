@@ -15,7 +15,7 @@ ROOT = pathlib.Path(__file__).resolve().parent.parent
 OK = re.compile(r"rt: ok\b.*?\bmust-fail edits: (\d+) refused(.*)")
 SAID = re.compile(r"rt: must-fail (\w+)/(\S+)\.edit: (.*)")
 REFUSED = re.compile(r"refused, as it must be(?:: |$)")
-LIMIT = re.compile(r"\bgave up at one of its limits")
+LIMIT = re.compile(r"\bgave up\b")
 
 
 def main():

@@ -225,7 +225,8 @@ fn parts(kind: Kind) -> u32
     }
 }
 
-// Whether a record of the kind may own a token of the class.
+// Whether a record of the kind may own a token of the class. Both are numbers, as the kind that `category` takes: words of a lent buffer, for each of which
+// something is promised.
 #[tactic(auto, using(crate::proofs::Tables::owns_at, crate::proofs::Named::owns_none))]
 pub fn may_own(kind: u32, class: u32) -> bool
     ensures { result ≡ may_own kind class }

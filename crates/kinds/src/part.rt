@@ -27,7 +27,7 @@ impl From<Part> for u32 {
     }
 }
 
-// Their words, for sets.
+// Their words, so that a set in lib.rt is spelled without a cast for each group. Each is that of its `Part`, so that no number stands twice.
 pub(crate) const NAME: u32 = Part::Name as u32;
 
 pub(crate) const PARAMETER: u32 = Part::Parameter as u32;

@@ -19,8 +19,11 @@ use Rattle.std.specs.Prelude.{Some, None}
 use Rattle.std.specs.Prelude as std
 use Rattle.lexer.specs.Chars.{Range, among, whitespace, binary_digits, decimal_digits, hex_digits, underscore, name_starts, first, run, begins}
 use Rattle.lexer.specs.Classes as class
-use Rattle.lexer.specs.Lexemes.{Lexeme, token, trivia, refused, ◌or_else◌, space, checked, comment, line_comment, block, closing, block_comment, name_length, is_name, module_token, qualified, macro_token, macro, word_token, word, digits, hexadecimal, binary, decimal, Mark, marks, mark, no_lexeme, lexeme}
-use Rattle.lexer.proofs.Gaps.{solid, run-gap, run-swap, run-some, begins-keep, begins-short, begins-back, first-same, first-inside, Base, base-apart, decimal-base, binary-base, hex-base, bang-solid, colons-solid, hex-solid, binary-solid, line-solid, block-solid, solids, marks-solid, name-swap, name-inside, name-within, name-filled, name-starts, take_same, begins-there, begins-before}
+use Rattle.lexer.specs.Lexemes.{Lexeme, token, trivia, refused, ◌or_else◌, space, checked, comment, line_comment, block, closing, block_comment, name_length, is_name}
+use Rattle.lexer.specs.Lexemes.{module_token, qualified, macro_token, macro, word_token, word, digits, hexadecimal, binary, decimal, Mark, marks, mark, no_lexeme, lexeme}
+use Rattle.lexer.proofs.Gaps.{solid, run-gap, run-swap, run-some, begins-keep, begins-short, begins-back, first-same, first-inside, Base, base-apart, decimal-base}
+use Rattle.lexer.proofs.Gaps.{binary-base, hex-base, bang-solid, colons-solid, hex-solid, binary-solid, line-solid, block-solid, solids, marks-solid, name-swap}
+use Rattle.lexer.proofs.Gaps.{name-inside, name-within, name-filled, name-starts, take_same, begins-there, begins-before}
 use Rattle.lexer.proofs.Moves.{Moves, or_left, lexeme-moves}
 use Rattle.lexer.proofs.Trials.{both_left, both_right}
 use Rattle.lexer.specs.Texts.{OneToken, gap}

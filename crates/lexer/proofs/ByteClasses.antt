@@ -1,7 +1,6 @@
 -- The classes of bytes: the table's rule, and which classes each set of bytes has, each computed over all of them at once.
 -- Assumes nothing.
 use Rattle.std.specs.Bool.{beq}
-use Rattle.std.specs.Cmp.{booleans_Decides}
 use mathlib.Core.Bool.{Bool, true, false, ◌&&◌, ◌||◌, not, and-false, or-true}
 use mathlib.Core.List.{List, [], ◌∷◌}
 use mathlib.Core.Path.{◌≡◌, refl, sym, ◌∙◌, ap}
@@ -14,7 +13,7 @@ use Rattle.text.specs.Ascii.{ascii, ascii_from}
 use Rattle.text.specs.Same.{same}
 use Rattle.text.proofs.Same.{differ}
 use Rattle.text.specs.Table.{every, all}
-use Rattle.text.proofs.Table.{at, table_at, each, is_true}
+use Rattle.text.proofs.Table.{at, table_at, each, beq_same}
 use Rattle.lexer.specs.Chars.{among, whitespace, line_ends, plain_bytes, binary_digits, decimal_digits, hex_digits, underscore, name_starts, name_bytes, is}
 use Rattle.lexer.specs.Lexemes.{marks}
 use Rattle.lexer.proofs.Plain.{over-among}
@@ -28,10 +27,6 @@ pub table-rule : (l : List ℕ) → length l ≡ 256 → T (every (λ b c. eqb c
 table-rule l e h = record { gives = table_at byte_class l 256 e h }
 
 -- ---- sets of bytes by their classes: a test over the bytes up to 127, and no byte over 127 is in a set
-
--- two tests that answer alike
-beq_same : (a b : Bool) → T (beq a b) → a ≡ b
-beq_same a b t = (booleans_Decides a b).0 (is_true (beq a b) t)
 
 -- one of the tests passes
 abbrev pub any : List Bool → Bool

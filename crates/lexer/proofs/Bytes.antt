@@ -1,6 +1,6 @@
 -- What the functions on numbers, whitespace and bytes over 127 cite of the definition.
 -- Assumes nothing.
-use mathlib.Core.Bool.{Bool, true, false, ◌&&◌, ◌||◌}
+use mathlib.Core.Bool.{Bool, true, false, ◌&&◌, ◌||◌, and-false}
 use mathlib.Core.List.{List, [], ◌∷◌}
 use mathlib.Core.Option.{none}
 use mathlib.Core.Path.{◌≡◌, refl, sym, ◌∙◌, ap}
@@ -26,7 +26,7 @@ use Rattle.lexer.proofs.Plain.{over-among}
 use Rattle.lexer.specs.Step.{refused_step, step_from, lexeme_at}
 use Rattle.lexer.specs.declared.Step.TheVariants.{Token, Trivia}
 use Rattle.lexer.proofs.ByteClasses.{class-in, class-above, space-classes, plain-classes, decimal-run, hex-classes, hex-run, binary-classes, binary-run, digit-apart, not_digit, each-fails}
-use Rattle.lexer.proofs.Rest.{rest-first, rest-cons, rest-drop, begins-one}
+use Rattle.lexer.proofs.Rest.{rest-first, rest-cons, rest-drop, begins-one, there}
 use Rattle.lexer.proofs.Runs.{run-same}
 
 -- ---- numbers
@@ -66,11 +66,18 @@ module _ (s : List ℕ) (i : ℕ) (h : i < length s) (d : among decimal_digits (
   decimal-is : step_from (token t.DecLiteral (run (run_of decimal_digits) (drop i s))) i ≡ decimal_at s i
   decimal-is = ap (λ n. Token t.DecLiteral (i + n)) (sym (run-same (in_classes byte.Underscore byte.Digit) (run_of decimal_digits) decimal-run (drop i s)))
 
-  pub at-decimal : (eqb (get_or s i 0) 48 && eqb (get_or s (i + 1) 0) 120) ≡ false → (eqb (get_or s i 0) 48 && eqb (get_or s (i + 1) 0) 98) ≡ false → decimal_at s i ≡ lexeme_at s i
+  at-decimal : (eqb (get_or s i 0) 48 && eqb (get_or s (i + 1) 0) 120) ≡ false → (eqb (get_or s i 0) 48 && eqb (get_or s (i + 1) 0) 98) ≡ false → decimal_at s i ≡ lexeme_at s i
   unfolding hexadecimal binary ascii ascii_from
   at-decimal a b =
       let l : lexeme (drop i s) ≡ token t.DecLiteral (run (run_of decimal_digits) (drop i s)) = digits-at ∙ simp (prefix 119, prefix 97, a, b) in
       sym (ap (λ x. step_from x i) l ∙ decimal-is)
+
+  -- without a 0, or a base's letter behind it, a number is decimal
+  pub at-no-zero : (get_or s i 0 ≡ 48 → ⊥) → decimal_at s i ≡ lexeme_at s i
+  at-no-zero n = at-decimal (simp (ne_eqb _ _ n)) (simp (ne_eqb _ _ n))
+
+  pub at-no-base : (get_or s (i + 1) 0 ≡ 120 → ⊥) → (get_or s (i + 1) 0 ≡ 98 → ⊥) → decimal_at s i ≡ lexeme_at s i
+  at-no-base x b = at-decimal (simp (ne_eqb _ _ x, and-false)) (simp (ne_eqb _ _ b, and-false))
 
   -- a base by the classes of its digits
   based-is : (base : List Range) (kind most : ℕ) → ((b : ℕ) → in_classes byte.BinaryDigit most b ≡ among base b) → ((b : ℕ) → in_classes byte.Underscore most b ≡ run_of base b) → i + 2 ≤ length s → most ≤ byte.HexLetter
@@ -97,17 +104,19 @@ module _ (s : List ℕ) (i : ℕ) (h : i < length s) (d : among decimal_digits (
       not-true true n = absurd (n refl)
       not-true false n = refl
 
-  pub at-hex : get_or s i 0 ≡ 48 → get_or s (i + 1) 0 ≡ 120 → i + 2 ≤ length s → Based s i t.HexLiteral byte.HexLetter
+  pub at-hex : get_or s i 0 ≡ 48 → get_or s (i + 1) 0 ≡ 120 → Based s i t.HexLiteral byte.HexLetter
   unfolding hexadecimal binary ascii ascii_from
-  at-hex a x w =
+  at-hex a x =
+      let w = there s (i + 1) 119 x in
       let n : get_or s (i + 1) 0 ≡ 98 → ⊥ = (λ z. absurd (omega arith)) in
-      based-is hex_digits t.HexLiteral byte.HexLetter hex-classes hex-run w (omega arith) (digits-at ∙ simp (prefix 119, prefix 97, eq-eqb _ _ a, eq-eqb _ _ x, ne_eqb _ _ n))
+      based-is hex_digits t.HexLiteral byte.HexLetter hex-classes hex-run (omega arith) (omega arith) (digits-at ∙ simp (prefix 119, prefix 97, eq-eqb _ _ a, eq-eqb _ _ x, ne_eqb _ _ n))
 
-  pub at-binary : get_or s i 0 ≡ 48 → get_or s (i + 1) 0 ≡ 98 → i + 2 ≤ length s → Based s i t.BinLiteral byte.BinaryDigit
+  pub at-binary : get_or s i 0 ≡ 48 → get_or s (i + 1) 0 ≡ 98 → Based s i t.BinLiteral byte.BinaryDigit
   unfolding hexadecimal binary ascii ascii_from
-  at-binary a x w =
+  at-binary a x =
+      let w = there s (i + 1) 97 x in
       let n : get_or s (i + 1) 0 ≡ 120 → ⊥ = (λ z. absurd (omega arith)) in
-      based-is binary_digits t.BinLiteral byte.BinaryDigit binary-classes binary-run w (omega arith) (digits-at ∙ simp (prefix 119, prefix 97, eq-eqb _ _ a, eq-eqb _ _ x, ne_eqb _ _ n))
+      based-is binary_digits t.BinLiteral byte.BinaryDigit binary-classes binary-run (omega arith) (omega arith) (digits-at ∙ simp (prefix 119, prefix 97, eq-eqb _ _ a, eq-eqb _ _ x, ne_eqb _ _ n))
 
 -- ---- whitespace, and bytes over 127
 

@@ -21,7 +21,8 @@ use Rattle.std.specs.Prelude.{Some, None}
 use Rattle.std.specs.Prelude as std
 use Rattle.lexer.specs.Classes as t
 use Rattle.lexer.specs.Chars.{Range, among, whitespace, binary_digits, decimal_digits, hex_digits, underscore, name_starts, name_bytes, first, run, begins}
-use Rattle.lexer.specs.Lexemes.{Lexeme, token, trivia, refused, space, checked, comment, line_comment, closing, block, block_comment, name_length, is_name, module_token, qualified, macro_token, macro, word_token, word, digits, hexadecimal, binary, decimal, Mark, marks, mark, no_lexeme, trials, lexeme}
+use Rattle.lexer.specs.Lexemes.{Lexeme, token, trivia, refused, space, checked, comment, line_comment, closing, block, block_comment, name_length, is_name, module_token}
+use Rattle.lexer.specs.Lexemes.{qualified, macro_token, macro, word_token, word, digits, hexadecimal, binary, decimal, Mark, marks, mark, no_lexeme, trials, lexeme}
 use Rattle.lexer.proofs.Plain.{low, low-among, Low, run-plain, low_word, begins-plain, plain_then}
 use Rattle.lexer.proofs.Plain as plain
 use Rattle.lexer.specs.Rows.{NoneFinds, Comment, a_line_comment, a_block_comment}

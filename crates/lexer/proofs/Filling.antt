@@ -3,7 +3,7 @@
 use mathlib.Core.List.{List, [], ◌∷◌, ◌++◌, append-nil, append_assoc}
 use mathlib.Core.Option.{Option}
 use mathlib.Core.Path.{◌≡◌, refl, sym, ◌∙◌, ap, ap₂, subst}
-use Prim.Native.Nat.{ℕ, suc, ◌+◌, ◌*◌, ◌≤◌, ◌<◌}
+use Prim.Native.Nat.{ℕ, suc, ◌+◌, ◌-◌, ◌*◌, ◌≤◌, ◌<◌}
 use native.Mathlib.Omega.{arith}
 use borrow.Author.Tests.{lt-ltb, le-ltb}
 use lib.ListN.{length, get_or, drop, set, length-drop, length-append, length-set}
@@ -82,6 +82,13 @@ pub record Filling (s : List ℕ) (room : ℕ) (o : List ℕ) (i n : ℕ) (x : N
 -- where a step leads
 pub leads-to : (s : List ℕ) (i : ℕ) (t : Step) → step_of s i ≡ t → Leads i (length s) t
 leads-to s i t q = subst (Leads i (length s)) q (step-leads s i)
+
+-- and less is left behind it
+pub nearer-token : (s : List ℕ) (i k e : ℕ) → step_of s i ≡ S.Token k e → length s - e < length s - i
+nearer-token s i k e q = let m = leads-to s i (S.Token k e) q in omega (arith, m.0, m.1)
+
+pub nearer-trivia : (s : List ℕ) (i e : ℕ) → step_of s i ≡ S.Trivia e → length s - e < length s - i
+nearer-trivia s i e q = let m = leads-to s i (S.Trivia e) q in omega (arith, m.0, m.1)
 
 pub fill_start : (s : List ℕ) (room : ℕ) (o : List ℕ) (x : Nesting) → x ≡ outermost → Filling s room o 0 0 x o
 unfolding lexemes token_words

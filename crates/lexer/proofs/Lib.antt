@@ -3,6 +3,7 @@ pub mod ByteClasses
 pub mod Rest
 pub mod Closings
 pub mod Comments
+pub mod CommentWalks
 pub mod Names
 pub mod Marks
 pub mod Bytes

@@ -5,6 +5,7 @@ use mathlib.Core.List.{List, [], ◌∷◌}
 use mathlib.Core.Option.{some}
 use mathlib.Core.Path.{◌≡◌, refl, sym, ◌∙◌, ap, subst}
 use Prim.Native.Nat.{ℕ, suc, ◌+◌, ◌≤◌, ◌<◌}
+use native.Mathlib.Nat.{add-zero}
 use native.Mathlib.Numerals.{add-one}
 use native.Mathlib.Omega.{arith}
 use borrow.Author.Tests.{eq-eqb, ne_eqb, leb-true, leb-false, ltb-true, ltb-false}
@@ -24,7 +25,7 @@ use Rattle.lexer.specs.Chars.{among, whitespace, line_ends, plain_bytes, binary_
 use Rattle.lexer.specs.Lexemes.{Lexeme, token, refused, ◌or_else◌, space, line_comment, block_comment, qualified, macro, digits, hexadecimal, binary, decimal, word, marks, mark, no_lexeme, lexeme}
 use Rattle.lexer.specs.Places.{Rare}
 use Rattle.lexer.proofs.SameLexeme.{same_lexeme, same-lexeme}
-use Rattle.lexer.specs.Step.{step_from, lexeme_at}
+use Rattle.lexer.specs.Step.{refused_step, step_from, lexeme_at}
 use Rattle.lexer.specs.declared.Step.TheVariants.{Token}
 use Rattle.lexer.proofs.ByteClasses.{class-in, class-above, over-class, mark-apart, not_mark, each-fails}
 use Rattle.lexer.proofs.Rest.{rest-first, rest-cons, begins-one}
@@ -107,7 +108,7 @@ two_or_one false k l i = refl
 
 module _ (s : List ℕ) (i c n : ℕ) (h : i < length s) (q : c ≡ byte_class (get_or s i 0)) (f : n ≡ get_or s (i + 1) 0) (a : byte.Minus ≤ c) (b : c ≤ byte.Other) where
   -- the lexeme by the class of its first byte and the byte behind it
-  pub at_mark : step_from (by_class c (eqb n 62) (eqb n 58)) i ≡ lexeme_at s i
+  at_mark : step_from (by_class c (eqb n 62) (eqb n 58)) i ≡ lexeme_at s i
   at_mark =
       let x = get_or s i 0 in
       let k : in_classes byte.Minus byte.Other x ≡ true = class-in byte.Minus byte.Other x c q a b in
@@ -133,3 +134,18 @@ module _ (s : List ℕ) (i c n : ℕ) (h : i < length s) (q : c ≡ byte_class (
   at-eq e =
       two_or_one (eqb n 62) t.FatArrow t.Eq i
       ∙ (simp (ne_eqb c byte.Minus (λ z. absurd (omega arith)), ne_eqb c byte.Colon (λ z. absurd (omega arith)), eq-eqb c byte.Eq e) at at_mark)
+
+-- `-`, with `>` behind it or alone
+module _ (s : List ℕ) (i n : ℕ) (h : i < length s) (q : byte.Minus ≡ byte_class (get_or s i 0)) (f : n ≡ get_or s (i + 1) 0) where
+  pub at-arrow : n ≡ 62 → Token t.Arrow (i + 2) ≡ lexeme_at s i
+  at-arrow g = simp (eq-eqb n 62 g) at (at_mark s i byte.Minus n h q f (omega arith) (omega arith))
+
+  pub at-dash : (n ≡ 62 → ⊥) → refused_step refusal.NoLexeme i ≡ lexeme_at s i
+  at-dash g = ap (refused_step refusal.NoLexeme) (sym (add-zero i)) ∙ (simp (ne_eqb n 62 g) at (at_mark s i byte.Minus n h q f (omega arith) (omega arith)))
+
+-- a byte of no mark
+pub at-other : (s : List ℕ) (i c : ℕ) → i < length s → c ≡ byte_class (get_or s i 0) → c ≡ byte.Other → refused_step refusal.NoLexeme i ≡ lexeme_at s i
+at-other s i c h q o =
+    ap (refused_step refusal.NoLexeme) (sym (add-zero i))
+    ∙ (simp (ne_eqb c byte.Minus (λ z. absurd (omega arith)), ne_eqb c byte.Colon (λ z. absurd (omega arith)), ne_eqb c byte.Eq (λ z. absurd (omega arith)), eq-eqb c byte.Other o)
+    at (at_mark s i c (get_or s (i + 1) 0) h q refl (omega arith) (omega arith)))

@@ -21,7 +21,9 @@ use Rattle.std.specs.Prelude.{Some, None}
 use Rattle.std.specs.Prelude as std
 use Rattle.lexer.specs.Classes as t
 use Rattle.lexer.specs.Chars.{Range, among, whitespace, line_ends, binary_digits, decimal_digits, hex_digits, underscore, name_starts, name_bytes, first, run, begins}
-use Rattle.lexer.specs.Lexemes.{Lexeme, token, trivia, refused, space, checked, comment, line_comment, Inside, closed, within, inside, onward, closing, block, block_comment, name_length, is_name, module_token, qualified, macro_token, macro, word_token, word, digits, hexadecimal, binary, decimal, Mark, marks, mark, no_lexeme, trials, lexeme}
+use Rattle.lexer.specs.Lexemes.{Lexeme, token, trivia, refused, space, checked, comment, line_comment, Inside, closed, within, inside, onward, closing, block}
+use Rattle.lexer.specs.Lexemes.{block_comment, name_length, is_name, module_token, qualified, macro_token, macro, word_token, word, digits, hexadecimal, binary, decimal}
+use Rattle.lexer.specs.Lexemes.{Mark, marks, mark, no_lexeme, trials, lexeme}
 use Rattle.lexer.proofs.Trials.{Finds, nil, ◌&◌, cond-if, try-if, both_left, both_right, first_finds}
 
 -- what is found in m bytes goes on, and stays inside; or it is a refusal of the bytes' family at one of the bytes

@@ -4,7 +4,7 @@ use mathlib.Core.Bool.{Bool, true, false, cond, ◌&&◌, and-false}
 use mathlib.Core.List.{List, ◌∷◌}
 use mathlib.Core.Option.{none, some}
 use mathlib.Core.Path.{◌≡◌, refl, sym, ◌∙◌, ap}
-use Prim.Native.Nat.{ℕ, suc, ◌+◌, ◌-◌, ◌≤◌, ◌<◌}
+use Prim.Native.Nat.{ℕ, suc, ◌+◌, ◌-◌, ◌<◌}
 use native.Mathlib.Omega.{arith}
 use borrow.Author.Tests.{eq-eqb, ne_eqb}
 use lib.Dec.{eqb, ltb}
@@ -26,7 +26,7 @@ use Rattle.lexer.specs.Step.{refused_step, step_from, lexeme_at}
 use Rattle.lexer.proofs.TextLaws.{part-rest}
 use Rattle.lexer.specs.declared.Step.TheVariants.{Token}
 use Rattle.lexer.proofs.ByteClasses.{name-classes, name-apart, not_name, each-fails}
-use Rattle.lexer.proofs.Rest.{rest-first, rest-cons, rest-drop, begins-one, begins-two}
+use Rattle.lexer.proofs.Rest.{rest-first, rest-cons, rest-drop, begins-one, begins-two, there}
 use Rattle.lexer.proofs.Runs.{run-same, run-end-within}
 
 -- Where a name starts, only the trials on names are left.
@@ -51,7 +51,7 @@ module _ (s : List ℕ) (i e : ℕ) (v : Named s i e) where
   text : take (name_length (drop i s)) (drop i s) ≡ part_of s i e
   text = sym (part-rest s i (name_length (drop i s)) e (sym v.ends) v.within)
 
-  pub sliced : take (e - i) (drop i s) ≡ part_of s i e
+  sliced : take (e - i) (drop i s) ≡ part_of s i e
   sliced = let n : e - i ≡ name_length (drop i s) = (let z = v.ends in omega arith) in ap (λ n. take n (drop i s)) n ∙ text
 
   starts : is_name (drop i s) ≡ true
@@ -94,38 +94,50 @@ module _ (s : List ℕ) (i e : ℕ) (v : Named s i e) where
   pub not-path : (get_or s (e + 1) 0 ≡ 58 → ⊥) → qualified (drop i s) ≡ none
   not-path h = qualified-is ∙ simp (ne_eqb _ _ h, and-false)
 
-  pub not_named : among name_starts (get_or s (e + 2) 0) ≡ false → qualified (drop i s) ≡ none
+  not_named : among name_starts (get_or s (e + 2) 0) ≡ false → qualified (drop i s) ≡ none
   not_named h = qualified-is ∙ simp (h, and-false)
 
-  pub not-reserved : get_or s e 0 ≡ 58 → get_or s (e + 1) 0 ≡ 58 → among name_starts (get_or s (e + 2) 0) ≡ true → word_of MODULE_RESERVED (part_of s i e) ≡ None
-      → qualified (drop i s) ≡ none
-  not-reserved a b c d = qualified-is ∙ simp (eq-eqb _ _ a, eq-eqb _ _ b, c, d)
+  not-reserved : (get_or s e 0 ≡ 58) × (get_or s (e + 1) 0 ≡ 58) × (among name_starts (get_or s (e + 2) 0) ≡ true) → word_of MODULE_RESERVED (part_of s i e) ≡ None → qualified (drop i s) ≡ none
+  not-reserved h d = qualified-is ∙ simp (eq-eqb _ _ h.0, eq-eqb _ _ h.1, h.2, d)
 
   pub no-macro : (get_or s e 0 ≡ 33 → ⊥) → macro (drop i s) ≡ none
   no-macro h = macro-is ∙ simp (ne_eqb _ _ h)
 
-  pub plain-macro : get_or s e 0 ≡ 33 → e + 1 ≤ length s → word_of MACROS (part_of s i (e + 1)) ≡ None → macro (drop i s) ≡ none
-  plain-macro a h d =
-      let t : take (name_length (drop i s) + 1) (drop i s) ≡ part_of s i (e + 1) = sym (part-rest s i (name_length (drop i s) + 1) (e + 1) (let z = v.ends in omega arith) h) in
-      macro-is ∙ simp (eq-eqb _ _ a, t, d)
+  -- with the `!` behind it the name is a part of the draft
+  with-mark : get_or s e 0 ≡ 33 → take (name_length (drop i s) + 1) (drop i s) ≡ part_of s i (e + 1)
+  with-mark a = sym (part-rest s i (name_length (drop i s) + 1) (e + 1) (let z = v.ends in omega arith) (omega (arith, there s e 32 a)))
+
+  -- so the name is a word,
+  pub path-word : get_or s e 0 ≡ 58 → (get_or s (e + 1) 0 ≡ 58 → ⊥) → (qualified (drop i s) ≡ none) × (macro (drop i s) ≡ none)
+  path-word a b = (not-path b, no-macro (λ z. absurd (omega arith)))
+
+  pub unnamed-word : get_or s e 0 ≡ 58 → among name_starts (get_or s (e + 2) 0) ≡ false → (qualified (drop i s) ≡ none) × (macro (drop i s) ≡ none)
+  unnamed-word a b = (not_named b, no-macro (λ z. absurd (omega arith)))
+
+  pub unreserved-word : (get_or s e 0 ≡ 58) × (get_or s (e + 1) 0 ≡ 58) × (among name_starts (get_or s (e + 2) 0) ≡ true) → word_of MODULE_RESERVED (part_of s i e) ≡ None
+      → (qualified (drop i s) ≡ none) × (macro (drop i s) ≡ none)
+  unreserved-word h d = (not-reserved h d, no-macro (λ z. absurd (omega (arith, h.0))))
+
+  pub unmarked-word : get_or s e 0 ≡ 33 → word_of MACROS (part_of s i (e + 1)) ≡ None → (qualified (drop i s) ≡ none) × (macro (drop i s) ≡ none)
+  unmarked-word a d = (not-module (λ z. absurd (omega arith)), macro-is ∙ simp (eq-eqb _ _ a, with-mark a, d))
 
   -- ---- the lexeme
 
-  pub at-module : (k m : ℕ) → get_or s e 0 ≡ 58 → get_or s (e + 1) 0 ≡ 58 → among name_starts (get_or s (e + 2) 0) ≡ true
+  pub at-module : (k m : ℕ) → (get_or s e 0 ≡ 58) × (get_or s (e + 1) 0 ≡ 58) × (among name_starts (get_or s (e + 2) 0) ≡ true)
       → word_of MODULE_RESERVED (part_of s i e) ≡ Some k → m ≡ e + 2 + run (in_classes byte.Underscore byte.Letter) (drop (e + 2) s) → Token (t.Jet + k) m ≡ lexeme_at s i
   unfolding name_length
-  at-module k m a b c d q =
+  at-module k m h d q =
       let w : qualified (drop i s) ≡ some (token (t.Jet + k) (name_length (drop i s) + 2 + name_length (drop (e + 2) s))) =
-      qualified-is ∙ simp (eq-eqb _ _ a, eq-eqb _ _ b, c, d) in
+      qualified-is ∙ simp (eq-eqb _ _ h.0, eq-eqb _ _ h.1, h.2, d) in
       let n = run-same (in_classes byte.Underscore byte.Letter) (among name_bytes) name-classes (drop (e + 2) s) in
       let z : m ≡ i + (name_length (drop i s) + 2 + name_length (drop (e + 2) s)) = (let y = v.ends in omega arith) in
       let l : lexeme (drop i s) ≡ token (t.Jet + k) (name_length (drop i s) + 2 + name_length (drop (e + 2) s)) = lexeme-is ∙ simp w in
       ap (Token (t.Jet + k)) z ∙ sym (ap (λ x. step_from x i) l)
 
-  pub at-macro : (k : ℕ) → qualified (drop i s) ≡ none → get_or s e 0 ≡ 33 → e + 1 ≤ length s → word_of MACROS (part_of s i (e + 1)) ≡ Some k → Token t.Macro (e + 1) ≡ lexeme_at s i
-  at-macro k b a h d =
-      let x : take (name_length (drop i s) + 1) (drop i s) ≡ part_of s i (e + 1) = sym (part-rest s i (name_length (drop i s) + 1) (e + 1) (let z = v.ends in omega arith) h) in
-      let w : macro (drop i s) ≡ some (token t.Macro (name_length (drop i s) + 1)) = macro-is ∙ simp (eq-eqb _ _ a, x, d) in
+  pub at-macro : (k : ℕ) → get_or s e 0 ≡ 33 → word_of MACROS (part_of s i (e + 1)) ≡ Some k → Token t.Macro (e + 1) ≡ lexeme_at s i
+  at-macro k a d =
+      let b = not-module (λ z. absurd (omega arith)) in
+      let w : macro (drop i s) ≡ some (token t.Macro (name_length (drop i s) + 1)) = macro-is ∙ simp (eq-eqb _ _ a, with-mark a, d) in
       let z : e + 1 ≡ i + (name_length (drop i s) + 1) = (let y = v.ends in omega arith) in
       let l : lexeme (drop i s) ≡ token t.Macro (name_length (drop i s) + 1) = lexeme-is ∙ simp (b, w) in
       ap (Token t.Macro) z ∙ sym (ap (λ x. step_from x i) l)
@@ -135,11 +147,11 @@ module _ (s : List ℕ) (i e : ℕ) (v : Named s i e) where
       let l : lexeme (drop i s) ≡ word_token (word_of KEYWORDS (part_of s i e)) (name_length (drop i s)) = lexeme-is ∙ simp (a, b) in
       ap (λ x. step_from x i) l
 
-  pub at_plain : qualified (drop i s) ≡ none → macro (drop i s) ≡ none → word_of KEYWORDS (part_of s i e) ≡ None → Token t.Ident e ≡ lexeme_at s i
-  at_plain a b d = sym (word-is a b ∙ ap (λ f. step_from (word_token f (name_length (drop i s))) i) d ∙ ap (Token t.Ident) (sym v.ends))
+  pub at_plain : qualified (drop i s) ≡ none → macro (drop i s) ≡ none → word_of KEYWORDS (take (e - i) (drop i s)) ≡ None → Token t.Ident e ≡ lexeme_at s i
+  at_plain a b d = sym (word-is a b ∙ ap (λ f. step_from (word_token f (name_length (drop i s))) i) (ap (word_of KEYWORDS) (sym sliced) ∙ d) ∙ ap (Token t.Ident) (sym v.ends))
 
-  pub at-keyword : (k : ℕ) → qualified (drop i s) ≡ none → macro (drop i s) ≡ none → word_of KEYWORDS (part_of s i e) ≡ Some k → keyword_at k i e ≡ lexeme_at s i
-  at-keyword k a b d = sym (word-is a b ∙ ap (λ f. step_from (word_token f (name_length (drop i s))) i) d ∙ go (eqb (t.Pub + k) t.Simc) (ltb t.Simc (t.Pub + k)))
+  pub at-keyword : (k : ℕ) → qualified (drop i s) ≡ none → macro (drop i s) ≡ none → word_of KEYWORDS (take (e - i) (drop i s)) ≡ Some k → keyword_at k i e ≡ lexeme_at s i
+  at-keyword k a b d = sym (word-is a b ∙ ap (λ f. step_from (word_token f (name_length (drop i s))) i) (ap (word_of KEYWORDS) (sym sliced) ∙ d) ∙ go (eqb (t.Pub + k) t.Simc) (ltb t.Simc (t.Pub + k)))
     where
       go : (a b : Bool)
           → step_from (cond a (refused (refusal_number refusal.Simc) 0) (cond b (token t.Bool (name_length (drop i s))) (token (t.Pub + k) (name_length (drop i s))))) i

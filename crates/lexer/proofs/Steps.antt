@@ -85,11 +85,11 @@ module _ (s : List ℕ) (i : ℕ) where
   pub here : i < length s → Moves (length (drop i s)) (lexeme (drop i s))
   here h = subst (λ l. Moves (length l) (lexeme l)) (sym (drop-cons s i 0 h)) (lexeme-moves (get_or s i 0) (drop (suc i) s))
 
-  step_in : i < length s → step_of s i ≡ step_from (lexeme (drop i s)) i
+  pub step_in : i < length s → step_of s i ≡ step_from (lexeme (drop i s)) i
   unfolding step_of
   step_in h = simp (lt-ltb _ _ h)
 
-  step-out : length s ≤ i → step_of s i ≡ Nothing
+  pub step-out : length s ≤ i → step_of s i ≡ Nothing
   unfolding step_of
   step-out h = simp (le-ltb _ _ h)
 

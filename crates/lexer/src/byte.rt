@@ -25,7 +25,7 @@ pub(crate) const EQ: u8 = class::EQ as u8;
 
 pub(crate) const OTHER: u8 = 28;
 
-// Whitespace is SPACE to LINE_END.
+// Whitespace is SPACE to LINE_END. A byte over 127 is what is left, 31.
 pub(crate) const SPACE: u8 = 29;
 
 pub(crate) const LINE_END: u8 = 30;

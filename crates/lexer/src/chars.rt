@@ -24,7 +24,8 @@ impl Classes {
         self.of[usize::from(b)]
     }
 
-    // Where the run of bytes of the classes from least to most that starts at i ends.
+    // Where the run of bytes of the classes from least to most that starts at i ends. Least and most are two numbers: a `RangeInclusive` also says whether it
+    // is used up, which the contract would have to exclude, as that of `utf8::second` does.
     pub(crate) fn run_end(&self, s: &[u8], i: usize, least: u8, most: u8) -> usize
         requires { i ≤ length s.now }
         ensures { result ≡ i + run (in_classes least most) (drop i s.now) }

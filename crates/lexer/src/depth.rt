@@ -98,8 +98,8 @@ impl Nest {
         Nest::Within(Counts { depth: 0, row: 0 })
     }
 
-    // Behind a token that only ends a row. Once a limit is passed, the place alone is handed on: where `self` was, the lexing loop kept the row beside it,
-    // and names took 2 percent more instructions.
+    // Behind a token that only ends a row. Once a limit is passed, the place alone is handed on: with `other => other` in its place the lexing loop
+    // kept the row beside it, and names took 2 percent more instructions.
     fn ended(self) -> Nest
         ensures { (k : ℕ) → (i : ℕ) → Uncounted k → known result ≡ nest_after (known self) k i }
     {

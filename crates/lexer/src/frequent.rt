@@ -72,7 +72,8 @@ impl Scanner<'_> {
         }
     }
 
-    // A mark other than `->`.
+    // A mark other than `->`. That the class is `Rare` where the answer is `None` is a clause and no ghost field: a scanner is made before
+    // that is known.
     #[inline(always)]
     fn plain_mark(self) -> Option<Step>
         requires { (byte.Letter < self.class) × (self.class < byte.Space) }

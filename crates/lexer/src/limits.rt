@@ -1,4 +1,4 @@
-// The tokens of a draft within its limits: refusals 2 to 7 in their order.
+// The tokens of a draft within its limits: refusals 2 to 7 and 21 in their order.
 ghost use Rattle.std.specs.Prelude.{◌≡◌, ◌*◌, ◌≤◌, ◌<◌, ◌^◌, length, drop};
 ghost use Rattle.text.specs.Front.{Held};
 ghost use Rattle.text.specs.Refusals.{refused_by};
@@ -26,6 +26,8 @@ fn count(n: usize, nest: Nest) -> Result<usize, Refused>
 }
 
 // The refusal of a draft where the token at `over` is one too many: what is left is lexed for a refusal of its bytes, which comes first.
+// It lexes that token again: begun at the token's end it would take two places of one type, to save one step of a refused draft. Tokens and trivia are two
+// arms, since each has a law of its own (`over-token`, `over-trivia`): with one arm, tried, the check left the kept invariant open.
 #[inline(never)]
 fn too_many(classes: &Classes, draft: &[u8], over: usize) -> Refused
     ensures { refused_by result ≡ too_many (lexemes_from (drop over draft.now) over 0) over }
@@ -73,7 +75,7 @@ pub(crate) fn fill(draft: &[u8], out: &mut [u32], room: usize) -> Result<usize, 
                     return Err(too_many(&classes, draft, at));
                 }
                 nest = nest.after(kind, at);
-                // Both are less than 2 ^ 32, as is required: `u32::try_from` would have an answer that cannot be.
+                // Both are less than 2 ^ 32, as is required: `u32::try_from` would have an `Err` that never comes.
                 buffer::put(out, n, kind, at as u32, end as u32);
                 n += 1;
                 at = end;

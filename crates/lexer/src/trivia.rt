@@ -18,7 +18,7 @@ pub(crate) enum Edge {
 }
 
 // Whether a byte in a comment is a sequence of its own and none of the two that mean something there: CR and LF in a line comment, `/` and `*` in a block.
-// Almost every byte is past both, and each loop asks this first: by `&&` of the three comparisons a block comment of one letter took 31 percent more
+// Most bytes are past both, and each loop asks this first: by `&&` of the three comparisons a block comment of one letter took 31 percent more
 // instructions, a line comment 21 and stars 9; only Greek letters took 13 less.
 fn plain<const LARGER: u8, const SMALLER: u8>(b: u8) -> bool
     requires { (SMALLER < LARGER) × (LARGER ≤ 127) }
@@ -54,14 +54,14 @@ pub(crate) enum Walked {
     Bad { place: usize, depth: usize },
 }
 
-// For `SEQUENCES`: a walk that looks for bad sequences, and one behind the first of them.
+// For `SEQUENCES`: a walk that looks for bad sequences, and one from the first of them on. A const parameter cannot be an enum, so the two values have names.
 const BY_SEQUENCES: bool = true;
 
 const BY_BYTES: bool = false;
 
 // A walk over a block comment from a place on, with so many comments open within it, by sequences or by single bytes. The last byte of the draft alone closes
 // nothing, so the loop leaves it out and always has two bytes. Here `sequence`, inlined too, would look again at what is known of the byte: Greek letters
-// took 9 percent more instructions, Polish text 5. So `utf8::wide` is public, though it asks for a byte over 127.
+// took 9 percent more instructions, Polish text 5. So `utf8::wide` is public, and takes the byte, which must be over 127.
 fn walk<const SEQUENCES: bool>(s: &[u8], from: usize, inner: usize) -> Walked
     requires { (0 < length s.now) × (from ≤ length s.now) × (inner ≤ from) }
     ensures { WalkEnds SEQUENCES s.now from inner result }
@@ -105,7 +105,8 @@ fn walk<const SEQUENCES: bool>(s: &[u8], from: usize, inner: usize) -> Walked
 }
 
 // The block comment at i with a bad sequence at k, where so many comments are open within it: refused there if it is closed, else at its opening.
-// Inlined, its refusal was made ready at every byte: a comment of stars took 9 percent more instructions.
+// A walk by bytes never answers `Bad`, so the last arm is `Unclosed` alone. Inlined, its refusal was made ready at every byte: a comment of stars took 9
+// percent more instructions.
 #[inline(never)]
 fn broken(s: &[u8], i: usize, k: usize, inner: usize) -> Step
     requires { (k < length s.now) × (inner ≤ k) }
@@ -120,7 +121,8 @@ fn broken(s: &[u8], i: usize, k: usize, inner: usize) -> Step
 
 impl Scanner<'_> {
     // The line comment here: it runs to before CR, LF or the end. The loops over comments step by sequences and marks of one to four bytes, so they count the
-    // place themselves. Inlined, this one's refusal was made ready at every sequence.
+    // place themselves. This is a loop of its own beside `walk`: one byte ends it, nothing nests, and the draft's last byte is of it too. Inlined, its refusal
+    // was made ready at every sequence.
     #[inline(never)]
     fn line(self) -> Step
         requires { CommentAt self.draft.now self.at 47 }
@@ -137,7 +139,7 @@ impl Scanner<'_> {
             if b <= utf8::LAST_ASCII {
                 return Step::Trivia { end: j };
             }
-            let Some(n) = utf8::sequence(s, j) else {
+            let Some(n) = utf8::wide(s, j, b) else {
                 return Step::Refused(Refused {
                     refusal: Refusal::NotUtf8,
                     place: j,

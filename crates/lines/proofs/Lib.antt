@@ -1,3 +1,5 @@
+pub mod Part
+pub mod Rows
 pub mod TwoDigits
 pub mod Fields
 pub mod Listing

@@ -3,7 +3,7 @@
 use mathlib.Core.Bool.{cond}
 use mathlib.Core.List.{List, [], ◌∷◌, ◌++◌, append_assoc, append-nil}
 use mathlib.Core.Path.{◌≡◌, refl, sym, ap, ◌∙◌}
-use Prim.Native.Nat.{ℕ, zero, suc, ◌+◌, ◌-◌, ◌*◌, ◌/◌, ◌≤◌, ◌<◌}
+use Prim.Native.Nat.{ℕ, suc, ◌+◌, ◌-◌, ◌*◌, ◌/◌, ◌≤◌, ◌<◌}
 use native.Mathlib.Omega.{arith}
 use native.Mathlib.Nat.{mul-suc, mul-zero}
 use borrow.Author.Tests.{lt-ltb, le-ltb}
@@ -19,14 +19,9 @@ use Rattle.up.proofs.Laws.{rows-length}
 use Rattle.lines.specs.Form.{line_of, wide}
 use Rattle.lines.specs.Lines.{widths, line_bytes, lines_of}
 use Rattle.lines.proofs.Lines.{lines-wide}
+use Rattle.lines.proofs.Rows.{rows-taken}
 use Rattle.lines.specs.Written.{used, padded, held, lines_in}
 use Rattle.text.proofs.Sets.{sets-next}
-
--- The records of a buffer are its words, seven by seven.
-rows-held : (n k : ℕ) (w : List ℕ) → n ≤ k → take n (first_chunks rec_wide k w) ≡ rows_in n w
-rows-held zero k w h = refl
-rows-held (suc n) zero w h = absurd (omega arith)
-rows-held (suc n) (suc k) w h = ap (λ (vs : List (List ℕ)). take rec_wide w ∷ vs) (rows-held n k (drop rec_wide w) (omega arith))
 
 -- Lines side by side.
 lines-beside : (ws : List ℕ) (us vs : List (List ℕ)) → lines_of ws (us ++ vs) ≡ lines_of ws us ++ lines_of ws vs
@@ -98,7 +93,7 @@ unfolding lines_in
 in-room w o m {n} {a} {l} {ys} e h eh ev eb el ll z =
     let t = lines_of widths (rows_in (held w m) w) in
     let k : length t ≡ line_bytes * n = text-long w m e in
-    let v = ev ∙ ap (take n) eh ∙ rows-held n (length w / rec_wide) w (omega arith) in
+    let v = ev ∙ ap (take n) eh ∙ rows-taken rec_wide n (length w / rec_wide) w (omega arith) in
     let ea = eb ∙ ap (λ (us : List (List ℕ)). line_bytes * length us) v ∙ ap (λ (j : ℕ). line_bytes * j) (rows-length n w) in
     let f : l ≡ sets o 0 t = el ∙ ap (λ (us : List (List ℕ)). sets o 0 (lines_of widths us)) v ∙ ap (λ (j : ℕ). sets o 0 (lines_of widths (rows_in j w))) e in
     let b = le-ltb (length o) (length t) (omega (arith, k, h)) in

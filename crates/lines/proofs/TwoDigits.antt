@@ -6,8 +6,8 @@ use Prim.Native.Nat.{ℕ, zero, suc, ◌+◌, ◌-◌, ◌*◌, ◌/◌, ◌%◌
 use native.Mathlib.Omega.{arith}
 use native.Mathlib.Numerals.{add-one}
 use borrow.Rule.Slice.PartMut.{put_mid, mid_of}
-use lib.ListN.{length, get_or, set, take, drop, replicate, length-drop}
-use lib.Seq.{sets, sets-eq, drop-drop, length-take-le}
+use lib.ListN.{length, get_or, set, drop, replicate, length-drop}
+use lib.Seq.{sets, length-take-le}
 use Rattle.std.proofs.Math.Nat.{div-one, div-div-eq-div-mul}
 use Rattle.std.proofs.lemmas.List.{replicate_more}
 use Rattle.text.specs.Ascii.{ascii, ascii_from}
@@ -17,20 +17,13 @@ use Rattle.text.specs.Same.{same}
 use Rattle.text.proofs.SameLaws.{same_true}
 use Rattle.lines.specs.Hex.{upper_hex, hex, power}
 use Rattle.lines.proofs.Hex.{hex-length, last_digits, power-more}
+use Rattle.lines.proofs.Part.{part-written}
 use Rattle.lines.specs.declared.pairs.TheConstants.{PAIRS}
 
 -- The rows of the table are the digits of their numbers, computed over all of them.
 rows-held : (k : ℕ) → k < power 2 → get_or PAIRS k [] ≡ hex 2 k
 unfolding hex upper_hex ascii ascii_from same
 rows-held k h = same_true (get_or PAIRS k []) (hex 2 k) (is_true (same (get_or PAIRS k []) (hex 2 k)) (at (λ i row. same row (hex 2 i)) PAIRS [] tt k (omega (arith, h))))
-
--- A run of bytes in the place of as many.
-pub written : (at k : ℕ) (o : List ℕ) {ys vs : List ℕ} → ys ≡ vs → k ≡ length vs → at + k ≤ length o → put_mid at k o ys ≡ sets o at vs
-written at k o {ys} {vs} e n h =
-    ap (put_mid at k o) e
-    ∙ ap (λ (m : List ℕ). take at o ++ (vs ++ m)) (drop-drop k at o ∙ ap (λ (j : ℕ). drop (at + j) o) n)
-    ∙ sym (append_assoc (take at o) vs (drop (at + length vs) o))
-    ∙ sym (sets-eq vs o at (omega arith))
 
 -- The two bytes of a number's row are its last two digits.
 pub pair-written : (v : ℕ) (o : List ℕ) (at : ℕ) → let row = get_or PAIRS (v % power 2) [] in set (set o at (get_or row 0 0)) (at + 1) (get_or row 1 0) ≡ sets o at (hex 2 v)
@@ -95,4 +88,4 @@ pub zeros-written : (n : ℕ) (o : List ℕ) (at : ℕ) {v k : ℕ} {ys : List �
 zeros-written n o at {v} {k} z e h y =
     let d = length-drop at o in
     let m : length (mid_of at k o) ≡ n = length-take-le k (drop at o) (omega arith) ∙ e in
-    written at k o (y ∙ ap (λ (j : ℕ). replicate j 48) m ∙ sym (zeros n) ∙ ap (hex n) (sym z)) (e ∙ sym (hex-length n v)) (omega arith)
+    part-written at k o (y ∙ ap (λ (j : ℕ). replicate j 48) m ∙ sym (zeros n) ∙ ap (hex n) (sym z)) (e ∙ sym (hex-length n v)) (omega arith)

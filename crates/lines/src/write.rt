@@ -33,7 +33,8 @@ fn field<const N: usize>(out: &mut [u8], at: usize, v: u32, after: u8) -> usize
 
 // Writes the line of a record, and returns where it ends. Each field has a call of its own, so that its width is known where it is compiled; the
 // variables say where the fields begin.
-// By single digits and a loop over the widths a line took 172 instructions, and takes 55.
+// digits.rt says what a line took by a loop over the widths. The words are taken by index: their names (start, end
+// and so on) say here where the fields begin.
 #[inline(always)]
 fn line(out: &mut [u8], at: usize, words: &[u32; RECORD_WORDS]) -> usize
     requires { at + line_bytes ≤ length out.old }

@@ -11,7 +11,7 @@ use lib.Count.{ones}
 use lib.ListN.{get_or, length}
 use Rattle.text.specs.Lists.{has, all, count, span}
 use Rattle.text.proofs.ListLaws.{all-count}
-use Rattle.text.proofs.Table.{first-of, second-of}
+use Rattle.text.proofs.Table.{first-of, second-of, beq_same}
 use Rattle.std.specs.Int.{is_power_of_two}
 use Rattle.std.specs.Prelude.{Option, Some, None, MatchOption}
 use Rattle.load.specs.declared.begin.Head.{Head}
@@ -20,7 +20,7 @@ use Rattle.std.specs.Slice.{IsItemAt}
 use denote.Ref.{Bor}
 use Rattle.load.specs.Children.Table.{state_count}
 use Rattle.load.specs.Children.Cues.{kinds_end}
-use Rattle.load.proofs.Children.Cues.{beq_same, has-none}
+use Rattle.load.proofs.Children.Cues.{has-none}
 use Rattle.load.specs.Children.Begin as begin
 use Rattle.load.specs.Children.Begin.{which, besides, agrees, asked_of, lows_of, state_of, start}
 use Rattle.load.proofs.Children.Begins.{start-below}
@@ -78,13 +78,8 @@ all-heads rows t =
       each = λ k h. row-head k (get_or rows k None) (all-count row kinds_end 0 k (second-of long each t) (omega arith) (omega arith));
     }
 
--- The row that is looked up, where there is one.
+-- Past the table there is no row.
 module _ {rows : List (Option Head)} (its : AllHeads rows) (k : ℕ) {r : Option (Bor (Option Head))} (g : IsItemAt rows k r) where
-  pub head-there : (x : Bor (Option Head)) → r ≡ Some x → HeadOf k x.now
-  head-there x e =
-      let at = subst (IsItemAt rows k) e g in
-      subst (HeadOf k) (sym (at.3.1 None)) (its.each k (omega (arith, at.3.0, its.as_many)))
-
   pub head-not : r ≡ None → HeadOf k None
   unfolding asked_of lows_of
   head-not e =
@@ -100,9 +95,11 @@ started : (r k low high : ℕ) → r ≡ start k low high → Started r k low hi
 started r k low high e = (e, subst (λ (q : ℕ). q < state_count) (sym e) (start-below k low high))
 
 -- A kind that there is not has no lows, and asks nothing of the numbers of children.
-pub start-without : (k low high : ℕ) → HeadOf k None → Started 0 k low high
+pub start-without : (k low high : ℕ) {o : Option Head} → o ≡ None → HeadOf k o → Started 0 k low high
 unfolding start
-start-without k low high its = started 0 k low high (simp (le-ltb (which (asked_of k) low) (lows_of k) (omega (arith, its.1))))
+start-without k low high none row =
+    let its = subst (HeadOf k) none row in
+    started 0 k low high (simp (le-ltb (which (asked_of k) low) (lows_of k) (omega (arith, its.1))))
 
 agrees-without : (k low high names parameters patterns : ℕ) → HeadOf k None → true ≡ agrees (asked_of k) low high names parameters patterns
 unfolding agrees
@@ -113,7 +110,10 @@ pub agrees-by-row : (k low high names parameters patterns : ℕ) (o : Option Hea
 agrees-by-row k low high names parameters patterns None its e f = e ∙ agrees-without k low high names parameters patterns its
 agrees-by-row k low high names parameters patterns (Some h) its e f = f h e ∙ ap (λ (a : ℕ). agrees a low high names parameters patterns) its.asked
 
-module _ (k low high : ℕ) {h : Head} (its : HeadOf k (Some h)) {i : ℕ} (at : i ≡ which (asked_number h.asked) low) where
+module _ (k low high : ℕ) {o : Option Head} {h : Head} (some : o ≡ Some h) (row : HeadOf k o) {i : ℕ} (at : i ≡ which (asked_number h.asked) low) where
+  its : HeadOf k (Some h)
+  its = subst (HeadOf k) some row
+
   there : i ≡ which (asked_of k) low
   there = at ∙ ap (λ (x : ℕ). which x low) its.asked
 

@@ -98,7 +98,7 @@ module _ {text : List ℕ} {ws : List ℕ} {p k : ℕ} (x : Forming text ws p k)
   pub forming-room : p + get_or ws k 0 + 1 + wide (drop (k + 1) ws) ≤ length text
   forming-room = omega (arith, ap wide (drop_more ws k 0 more), x.room)
 
-  pub forming-digits : list_all is_digit (take (p + get_or ws k 0 - p) (drop p text)) ≡ are_digits (get_or ws k 0) (drop p text)
+  forming-digits : list_all is_digit (take (p + get_or ws k 0 - p) (drop p text)) ≡ are_digits (get_or ws k 0) (drop p text)
   forming-digits = digits-part p (get_or ws k 0) text (omega (arith, forming-room))
 
   -- the test of the rest, by the digits of the next field and the byte after it
@@ -120,17 +120,17 @@ module _ {text : List ℕ} {ws : List ℕ} {p k : ℕ} (x : Forming text ws p k)
       (λ i. d i && ((sym f ∙ ap (eqb (get_or text (p + get_or ws k 0) 0)) e) i && in_form (drop (k + 1) ws) (drop (p + get_or ws k 0 + 1) text)))
       ∙ sym its-test
 
-  pub forming-no : false ≡ are_digits (get_or ws k 0) (drop p text) → false ≡ in_form ws text
-  forming-no d = its-verdict d refl refl
+  -- what the loop's test told of the bytes of the field
+  module _ {told : Bool} (its : told ≡ list_all is_digit (take (p + get_or ws k 0 - p) (drop p text))) where
+    pub forming-no : told ≡ false → false ≡ in_form ws text
+    forming-no d = its-verdict (sym d ∙ its ∙ forming-digits) refl refl
 
-  pub forming-other : {c : ℕ} → true ≡ are_digits (get_or ws k 0) (drop p text) → c ≡ after (length ws - (k + 1)) → (get_or text (p + get_or ws k 0) 0 ≡ c → ⊥)
-      → false ≡ in_form ws text
-  forming-other {c} d e f = its-verdict d e (ne_eqb (get_or text (p + get_or ws k 0) 0) c f)
+    pub forming-other : {c : ℕ} → told ≡ true → c ≡ after (length ws - (k + 1)) → (get_or text (p + get_or ws k 0) 0 ≡ c → ⊥) → false ≡ in_form ws text
+    forming-other {c} d e f = its-verdict (sym d ∙ its ∙ forming-digits) e (ne_eqb (get_or text (p + get_or ws k 0) 0) c f)
 
-  pub forming-more : {c : ℕ} → true ≡ are_digits (get_or ws k 0) (drop p text) → c ≡ after (length ws - (k + 1)) → get_or text (p + get_or ws k 0) 0 ≡ c
-      → Forming text ws (p + get_or ws k 0 + 1) (k + 1)
-  forming-more {c} d e f =
-      record { within = omega arith; room = forming-room; same = its-verdict d e (eq-eqb (get_or text (p + get_or ws k 0) 0) c f) }
+    pub forming-more : {c : ℕ} → told ≡ true → c ≡ after (length ws - (k + 1)) → get_or text (p + get_or ws k 0) 0 ≡ c → Forming text ws (p + get_or ws k 0 + 1) (k + 1)
+    forming-more {c} d e f =
+        record { within = omega arith; room = forming-room; same = its-verdict (sym d ∙ its ∙ forming-digits) e (eq-eqb (get_or text (p + get_or ws k 0) 0) c f) }
 
 pub forming-end : {text : List ℕ} {ws : List ℕ} {p k : ℕ} → Forming text ws p k → length ws ≤ k → true ≡ in_form ws text
 unfolding in_form

@@ -73,11 +73,7 @@ module _ (f : Form) (text : List ℕ) (room : ℕ) where
       pub load-records : n ≤ room / rec_wide → accepted 0 n ≡ load_as f text room
       load-records h = ap (accepted 0) long ∙ left yes (le-ltb room (rec_wide * length (lines_read (widths_of f) text)) (omega (arith, long, h)))
 
--- What is promised of the answer and the words, of those that are handed over.
-pub handed : (text : List ℕ) (room : ℕ) {a : Answer} {w : List ℕ} → a ≡ load_of text room → w ≡ words_of text room → Loads text room a w
-handed text room {w = w} e f = subst (λ (a : Answer). Loads text room a w) (sym e) (subst (Loads text room (load_of text room)) (sym f) (promised text room))
-
--- The answer in the form of the listing.
+-- The answer in the form of the listing is the answer.
 pub as-formed : (text : List ℕ) (room : ℕ) {f : Form} → f ≡ form_of text → {a : Answer} → a ≡ load_as f text room → a ≡ load_of text room
 as-formed text room e q = q ∙ ap (λ (g : Form). load_as g text room) e
 
@@ -110,29 +106,31 @@ loaded-is text room n e = go (ltb 0 bad) (is_right (form_of text) vs) (ltb room 
         (k ∙ lines-long (widths_of (form_of text)) text, omega arith)
 
 -- As many records as are handed over have their lines in the listing: those that are loaded, or none on a refusal.
-pub lines-held : (f : Form) (text : List ℕ) (room : ℕ) (x : Result ℕ NotLoaded) → f ≡ form_of text → meant x ≡ load_of text room
+pub lines-held : (f : Form) (text : List ℕ) (room : ℕ) (x : Result ℕ NotLoaded) → f ≡ form_of text → meant x ≡ load_as f text room
     → result_unwrap_or x 0 ≤ length (lines_read (widths_of f) text)
 lines-held f text room (Ok n) e q =
-    let k = (loaded-is text room n q).0 in
+    let k = (loaded-is text room n (as-formed text room e q)).0 in
     let w = lines-long (widths_of f) text ∙ ap (λ (g : Form). length text / wide (widths_of g)) e in
     omega (arith, k, w)
 lines-held f text room (Err r) e q = omega arith
 
 -- Their words fit.
-pub loaded-fits : (text : List ℕ) (room : ℕ) (x : Result ℕ NotLoaded) → meant x ≡ load_of text room → rec_wide * result_unwrap_or x 0 ≤ room
-loaded-fits text room (Ok n) e = (loaded-is text room n e).1
-loaded-fits text room (Err r) e = omega arith
+pub loaded-fits : (text : List ℕ) (room : ℕ) {f : Form} (x : Result ℕ NotLoaded) → f ≡ form_of text → meant x ≡ load_as f text room → rec_wide * result_unwrap_or x 0 ≤ room
+loaded-fits text room (Ok n) e q = (loaded-is text room n (as-formed text room e q)).1
+loaded-fits text room (Err r) e q = omega arith
 
 -- The words when all behind those of n records is cleared: those of the records, each with its way up, or zeros alone on a refusal.
 module _ (text o l : List ℕ) {t w : List ℕ} (f : Form) (g : f ≡ form_of text) (ll : length l ≡ length o) (lt : length t ≡ length o) where
-  pub words-handed : (x : Result ℕ NotLoaded) {n : ℕ} → meant x ≡ load_of text (length o) → n ≡ result_unwrap_or x 0 → recs n l ≡ map rec_of (rows_from (widths_of f) n text)
+  pub words-handed : (x : Result ℕ NotLoaded) {n : ℕ} → meant x ≡ load_as f text (length o) → n ≡ result_unwrap_or x 0 → recs n l ≡ map rec_of (rows_from (widths_of f) n text)
       → t ≡ upward n l → w ≡ take (rec_wide * n) t ++ replicate (length t - rec_wide * n) 0 → w ≡ words_of text (length o)
   unfolding words_of lines_read
-  words-handed (Err r) {n} a z are up c =
+  words-handed (Err r) {n} q z are up c =
+      let a = as-formed text (length o) g q in
       let none : rec_wide * n ≡ 0 = omega (arith, z) in
       let all : length t - rec_wide * n ≡ length o = omega (arith, z, lt) in
       c ∙ (λ i. take (none i) t ++ replicate (all i) 0) ∙ zeroed r (records_of text) (length o) ∙ ap (λ (b : Answer). contents b (records_of text) (length o)) a
-  words-handed (Ok m) {n} a e are up c =
+  words-handed (Ok m) {n} q e are up c =
+      let a = as-formed text (length o) g q in
       let (k, fit) = loaded-is text (length o) m a in
       let rs = records_of text in
       let held : recs n l ≡ rs = are ∙ (λ i. map rec_of (rows_from (ap widths_of g i) ((e ∙ k) i) text)) in
@@ -144,3 +142,8 @@ module _ (text o l : List ℕ) {t w : List ℕ} (f : Form) (g : f ≡ form_of te
       ∙ (λ i. take (rec_wide * n) (words i) ++ replicate (rest i) 0)
       ∙ ap (λ (y : List ℕ). y ++ replicate (length o - rec_wide * length rs) 0) (take_at (up_words rs) (drop (rec_wide * n) l) (rec_wide * n) long)
       ∙ ap (λ (b : Answer). contents b rs (length o)) a
+
+-- What is promised of the answer and the words, of those that are handed over.
+pub handed : (text : List ℕ) (room : ℕ) {f : Form} → f ≡ form_of text → {a : Answer} → a ≡ load_as f text room → {w : List ℕ} → w ≡ words_of text room → Loads text room a w
+handed text room e q {w} h =
+    subst (λ (a : Answer). Loads text room a w) (sym (as-formed text room e q)) (subst (Loads text room (load_of text room)) (sym h) (promised text room))

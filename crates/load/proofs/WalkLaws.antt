@@ -11,9 +11,8 @@ use mir.Val.{bool_byte}
 use lib.Dec.{T, eqb, ltb, eqb→eq, ltb→lt}
 use lib.ListN.{length, get_or}
 use Rattle.text.specs.Table.{every}
-use Rattle.text.proofs.Table.{at, first-of, second-of}
+use Rattle.text.proofs.Table.{at, first-of, second-of, beq_same}
 use Rattle.std.specs.Bool.{beq}
-use Rattle.load.proofs.Children.Cues.{beq_same}
 use Rattle.own.specs.Tree.{Rec}
 use Rattle.load.specs.declared.table.TheConstants.{STATES}
 use Rattle.load.specs.Children.Table.{state_count, steps}

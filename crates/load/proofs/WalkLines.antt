@@ -1,22 +1,21 @@
 -- The walk over a record's children, from line to line: that a line is read where the next child stands.
 -- Assumes nothing.
-use Rattle.std.specs.Prelude.{Option}
+use Rattle.std.specs.Prelude.{Option, Bool, true}
 use mathlib.Core.List.{List}
 use mathlib.Core.Path.{◌≡◌, sym, ap, ◌∙◌, subst}
 use Prim.Native.Nat.{ℕ, suc, ◌+◌, ◌*◌, ◌/◌, ◌<◌, ◌≤◌}
 use native.Mathlib.Omega.{arith}
 use native.Mathlib.Nat.{mul-suc, div-add-mod, div-le_self, mul-le-mul_left}
-use lib.Dec.{T}
 use lib.ListN.{length, get_or}
 use Rattle.lines.specs.Form.{wide}
 use Rattle.lines.specs.Lines.{six_widths}
-use Rattle.load.specs.Form.{Form, widths_of}
+use Rattle.load.specs.Meant.{as_form}
 use Rattle.load.proofs.Listing.LineForm.{held-form, first-six}
 use Rattle.load.proofs.Listing.LineLaws.{wide-front}
 use Rattle.own.specs.Tree.{Rec}
 use Rattle.own.specs.Flat.{blank}
 use Rattle.kinds.specs.Shape.{half_range}
-use Rattle.load.specs.Listing.Read.{lines_read, records_in}
+use Rattle.load.specs.Listing.Read.{records_in}
 use Rattle.load.specs.Listing.LineForm.{six_fields, LineForm}
 use Rattle.load.proofs.Listing.RecordLaws.{records-long, lines-long}
 use Rattle.load.specs.Children.Table.{state_count}
@@ -24,8 +23,11 @@ use Rattle.load.specs.Children.Cue.{cue}
 use Rattle.load.specs.Children.Run.{next}
 use Rattle.load.proofs.Children.Run.{cue-below}
 use Rattle.load.specs.Checks.Judge.{sits, past}
+use Rattle.load.specs.Checks.Listed.{fields, its_lines}
 use Rattle.load.proofs.Checks.Small.{sat}
+use Rattle.load.specs.declared.record.Listing.{Listing}
 use Rattle.load.specs.declared.walk.Seen.{Seen}
+use Rattle.load.proofs.Told.{told-so}
 use Rattle.load.proofs.WalkLaws.{entry-below}
 use Rattle.load.proofs.Walking.{Walking, walking-more}
 
@@ -48,26 +50,27 @@ pub in-listing : (ws text : List ℕ) (j n : ℕ) → j + n ≤ length (records_
 in-listing ws text j n h = omega (arith, records-long ws text, div-le_self (length text) (wide ws))
 
 -- What has been seen, one child more.
-pub walking_on : {rs : List Rec} {r : Rec} {whole : Option Seen} {i : ℕ} {s : Seen} → Walking rs r whole i s → 0 < s.left → (c : Rec) → c ≡ get_or rs i blank → T (sits s.left r c)
-    → {x : Seen} → x ≡ past s c → x.state < state_count → Walking rs r whole (i + c.size) x
-walking_on {rs} {r} {whole} {i} w h c its t {x} e q =
-    subst (Walking rs r whole (i + c.size)) (sym e) (walking-more w h c its t (subst (λ (y : Seen). y.state < state_count) e q))
+pub walking_on : {rs : List Rec} {r : Rec} {whole : Option Seen} {i : ℕ} {s : Seen} → Walking rs r whole i s → 0 < s.left → (c : Rec) → c ≡ get_or rs i blank
+    → {b : Bool} → b ≡ true → b ≡ sits s.left r c → {x : Seen} → x ≡ past s c → x.state < state_count → Walking rs r whole (i + c.size) x
+walking_on {rs} {r} {whole} {i} w h c its {b} p t {x} e q =
+    subst (Walking rs r whole (i + c.size)) (sym e) (walking-more w h c its (told-so b p t) (subst (λ (y : Seen). y.state < state_count) e q))
 
--- A child that sits counts itself, and no more than is left.
-pub child-small : (left : ℕ) (r c : Rec) → T (sits left r c) → (0 < c.size) × (c.size ≤ left)
-child-small left r c t = let x = sat left r c t in (x.some, x.fit)
+-- A child that sits, as the call of `sits` told, counts itself, and no more than is left.
+pub child-small : (left : ℕ) (r c : Rec) {b : Bool} → b ≡ true → b ≡ sits left r c → (0 < c.size) × (c.size ≤ left)
+child-small left r c {b} p t = let x = sat left r c (told-so b p t) in (x.some, x.fit)
 
 -- The line behind it has a number.
-pub child-room : {rs : List Rec} {r : Rec} {whole : Option Seen} {i : ℕ} {s : Seen} → Walking rs r whole i s → (c : Rec) → T (sits s.left r c) → i + c.size < half_range * half_range
-child-room {r = r} {s = s} w c t = let x = sat s.left r c t in omega (arith, x.fit, w.fits)
+pub child-room : {rs : List Rec} {r : Rec} {whole : Option Seen} {i : ℕ} {s : Seen} → Walking rs r whole i s → (c : Rec)
+    → {b : Bool} → b ≡ true → b ≡ sits s.left r c → i + c.size < half_range * half_range
+child-room {r = r} {s = s} w c p t = omega (arith, (child-small s.left r c p t).1, w.fits)
 
 -- Past it less is left.
-pub past-less : (s : Seen) (r c : Rec) → T (sits s.left r c) → {x : Seen} → x ≡ past s c → x.left < s.left
+pub past-less : (s : Seen) (r c : Rec) {b : Bool} → b ≡ true → b ≡ sits s.left r c → {x : Seen} → x ≡ past s c → x.left < s.left
 unfolding past
-past-less s r c t e =
-    let y = sat s.left r c t in
+past-less s r c p t e =
+    let (some, fit) = child-small s.left r c p t in
     let l = ap (λ (x : Seen). x.left) e in
-    omega (arith, l, y.some, y.fit)
+    omega (arith, l, some, fit)
 
 -- The state past a child is one of the table's.
 pub past-state : (s : Seen) (c : Rec) → s.state < state_count → {x : Seen} → x ≡ past s c → x.state < state_count
@@ -78,8 +81,9 @@ past-state s c h e =
     omega (arith, l, b)
 
 -- The first six fields of a line are there.
-module _ (f : Form) (text : List ℕ) {step : ℕ} (b : step ≡ wide (widths_of f)) (i : ℕ) where
-  pub its-line : i < length (lines_read (widths_of f) text) → step * i + wide six_widths ≤ length text
-  its-line h =
-      let k = ap wide (first-six f) in
-      omega (arith, line-in (widths_of f) text (held-form f b) i (omega (arith, h, records-long (widths_of f) text, lines-long (widths_of f) text)), wide-front six_fields (widths_of f), k)
+pub its-line : (l : Listing) (i : ℕ) {step : ℕ} → step ≡ wide (fields l) → i < length (its_lines l) → step * i + wide six_widths ≤ length l.text.now
+its-line l i b h =
+    let f = as_form l.form in
+    let text = l.text.now in
+    let k = ap wide (first-six f) in
+    omega (arith, line-in (fields l) text (held-form f b) i (omega (arith, h, records-long (fields l) text, lines-long (fields l) text)), wide-front six_fields (fields l), k)

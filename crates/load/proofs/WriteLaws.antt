@@ -2,7 +2,6 @@
 -- Assumes nothing.
 use Rattle.std.specs.Prelude.{List, [], ◌∷◌, ◌++◌, map, ◌≡◌, refl, ℕ, zero, suc, ◌+◌, ◌*◌, ◌<◌, ◌≤◌, length, get_or, set, take, drop}
 use Rattle.std.proofs.Common.{sym, ap, ◌∙◌, arith, append-nil, append_assoc, mul-zero, mul-suc, length-set, length-take-le, take-append-drop, drop_of_length-le, drop-drop}
-use borrow.Rule.Slice.PartMut.{put_mid}
 use Rattle.std.proofs.lemmas.List.{drop_more, map-append}
 use Rattle.std.proofs.Math.Seq.{length-sets}
 use Rattle.std.proofs.lemmas.List.Edits.{sets, sets-eq}
@@ -62,14 +61,6 @@ module _ {ws text l : List ℕ} {p k : ℕ} (x : Filling ws text l p k) where
 
 pub six-numbers : (bs : List ℕ) → length (values_of six_widths bs) ≡ six_fields
 six-numbers bs = values-long six_widths bs
-
--- Numbers that stand in the place of as many words are written there.
-pub numbers-put : (at k : ℕ) (l : List ℕ) {ys vs : List ℕ} → ys ≡ vs → k ≡ length vs → at + k ≤ length l → put_mid at k l ys ≡ sets l at vs
-numbers-put at k l {ys} {vs} e n h =
-    ap (put_mid at k l) e
-    ∙ ap (λ (m : List ℕ). take at l ++ (vs ++ m)) (drop-drop k at l ∙ ap (λ (j : ℕ). drop (at + j) l) n)
-    ∙ sym (append_assoc (take at l) vs (drop (at + length vs) l))
-    ∙ sym (sets-eq vs l at (omega arith))
 
 -- The first records of a buffer are those of its first words, and those behind them.
 recs-split : (i k m : ℕ) (a b : List ℕ) → m ≡ i + k → length a ≡ rec_wide * i → recs m (a ++ b) ≡ recs i a ++ recs k b

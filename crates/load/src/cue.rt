@@ -7,8 +7,8 @@ use kinds::part::Part;
 use own::arm::MatchPattern;
 
 // A cue is a number, since it is an index into the next states. An enum of cues would be 21 cases here, 21 rows in specs/ that give their numbers and a match
-// of the six arms, for 15 constants and one sum that stand once each.
-// A kind that is no child's; one of each category, in their order; an arm of a low that no rule names is ARM, the number 0 is ZERO.
+// of the six arms, in place of 15 constants and one sum.
+// OTHER is that of a kind that is no child's; then there is one for each category, in their order. ARM is an arm whose low no rule names, ZERO the number 0.
 const OTHER: usize = 0;
 
 pub(crate) const NAME: usize = 1;

@@ -61,7 +61,7 @@ impl<'a> Listing<'a> {
         self.text.len() / self.form.bytes()
     }
 
-    // The first six numbers of line i, whatever its form. Laid out where it is called, as `values` is: else 1,200,542 instructions in place of 850,111.
+    // The first six numbers of line i, whatever its form. Laid out where it is called, as `values` is: else loading took 41 percent more instructions.
     #[inline(always)]
     fn numbers(&self, i: usize) -> [u32; SIX_FIELDS]
         requires { i < length (its_lines self.now) }
@@ -71,7 +71,7 @@ impl<'a> Listing<'a> {
         line::values(&WIDTHS[..SIX_FIELDS], &self.text[at..])
     }
 
-    // The record of line i. Laid out too: with a call for each of them that takes 1,106,347 instructions.
+    // The record of line i. Laid out too: with a call for each of them loading took 30 percent more.
     #[inline(always)]
     pub(crate) fn record(&self, i: usize) -> Record
         requires { i < length (its_records self.now) }

@@ -177,7 +177,8 @@ pub(crate) static STATES: [State; STATE_COUNT] = [
     },
 ];
 
-// How many kinds there are; and for each what it asks of low and high, and the states that the children begin in, by low.
+// How many rows there are, one for each number up to the last kind; and for each what it asks of low and high, and the states that the children
+// begin in, by low.
 pub(crate) const KINDS: usize = 43;
 
 pub(crate) static HEADS: [Option<Head>; KINDS] = [

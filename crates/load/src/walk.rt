@@ -82,8 +82,9 @@ fn past(seen: Seen, child: Record) -> Seen
 }
 
 // What is seen of all children of the record at line j; nothing, if one of them does not sit. The line of the next child is known when the one before it has
-// been read, so no range and no iterator of the library has their lines. An iterator of its own would have the ghost members `next_gives` and `remaining`, and
-// answer a `Result` for a child that does not sit, which would be taken apart here again.
+// been read, so no range has their lines. `successors` ends with `None`, both behind the last child and at one that does not sit, so it would have to be
+// asked again which of the two it was. An iterator of its own would have the ghost members `next_gives` and `remaining`, and answer a `Result` for a child
+// that does not sit, to be taken apart here again.
 pub(crate) fn walk(listing: &Listing, j: usize, parent: Record) -> Option<Seen>
     requires parent_value { as_rec parent ≡ get_or (its_records listing.now) j blank }
     requires size_nonzero { 0 < parent.size }

@@ -30,13 +30,21 @@ module _ (run : List ℕ) where
     count : length (take n out) ≡ n
     count = length-take-le n out (omega (arith, a.long))
 
-    pub ends : length run ≤ i → (Some n ≡ answer_of (plain run) m) × (out ≡ buffer_of (plain run) m)
-    unfolding answer_of buffer_of
-    ends h =
-        let f : take n out ≡ plain run = rw (over run i h, append-nil) at a.front in
-        let k : length (plain run) ≡ n = sym (ap length f) ∙ count in
-        let t = le-leb n m a.room in
-        (rw (k, t) refl, rw (k, t, ← f, ← a.back) (sym (take-append-drop n out)))
+    -- at the end of the run the digits are all there
+    module _ (h : length run ≤ i) where
+      whole : take n out ≡ plain run
+      whole = rw (over run i h, append-nil) at a.front
+
+      all : length (plain run) ≡ n
+      all = sym (ap length whole) ∙ count
+
+      pub end_answer : Some n ≡ answer_of (plain run) m
+      unfolding answer_of
+      end_answer = rw (all, le-leb n m a.room) refl
+
+      pub end_buffer : out ≡ buffer_of (plain run) m
+      unfolding buffer_of
+      end_buffer = rw (all, le-leb n m a.room, ← whole, ← a.back) (sym (take-append-drop n out))
 
     module _ (h : i < length run) where
       pub passes : get_or run i 0 ≡ 95 → Filled run out (i + 1) n m
@@ -47,21 +55,27 @@ module _ (run : List ℕ) where
         next : take n out ++ get_or run i 0 ∷ plain (drop (i + 1) run) ≡ plain run
         next = rw (kept run i h e) at a.front
 
-        pub stores : n < m → Filled run (set out n (get_or run i 0)) (i + 1) (n + 1) m
+        pub stores : (n ≡ length out → ⊥) → Filled run (set out n (get_or run i 0)) (i + 1) (n + 1) m
         stores l =
-            let s : n < length out = omega (arith, a.long) in
-            let k : m - n ≡ suc (m - (n + 1)) = omega arith in
+            let s : n < length out = omega (arith, a.long, a.room, l) in
+            let k : m - n ≡ suc (m - (n + 1)) = omega (arith, a.long) in
             record {
               within = omega arith;
-              room = omega arith;
+              room = omega (arith, a.long);
               long = length-set out n (get_or run i 0) ∙ a.long;
               front = rw (add-one n, take-suc-set out n (get_or run i 0) s, append_snoc) next;
               back = drop-set-lt (n + 1) out n (get_or run i 0) (omega arith) ∙ sym (drop-drop 1 n out) ∙ ap (drop 1) (a.back ∙ ap (λ j. replicate j 0) k);
             }
 
-        pub overflows : n ≡ m → (None ≡ answer_of (plain run) m) × (replicate m 0 ≡ buffer_of (plain run) m)
-        unfolding answer_of buffer_of
-        overflows l =
-            let k = sym (ap length next) ∙ length-append (take n out) (get_or run i 0 ∷ plain (drop (i + 1) run)) in
-            let t = lt-leb (length (plain run)) m (omega (arith, k, count)) in
-            (rw t refl, rw t refl)
+        -- a digit more than the buffer has room for
+        module _ (l : n ≡ length out) where
+          more : m < length (plain run)
+          more = omega (arith, a.long, count, sym (ap length next) ∙ length-append (take n out) (get_or run i 0 ∷ plain (drop (i + 1) run)))
+
+          pub over_answer : None ≡ answer_of (plain run) m
+          unfolding answer_of
+          over_answer = rw (lt-leb (length (plain run)) m more) refl
+
+          pub over_buffer : replicate (length out) 0 ≡ buffer_of (plain run) m
+          unfolding buffer_of
+          over_buffer = rw (lt-leb (length (plain run)) m more, a.long) refl

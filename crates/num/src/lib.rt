@@ -17,6 +17,7 @@ fn digit(b: u8) -> u8
 // One more digit after those of v, None where 64 bits don't hold it, by shifts and differences: eight times v, twice v and the digit are taken, one after the
 // other, from the room that 64 bits have. The crate must not multiply, by `checked_mul` either: on cores of 32 bits that is a call (docs/requests/04.md). The
 // plain sum of the shifts the optimiser turns into a multiply.
+#[tactic(auto, using(crate::proofs::Reading::too_large, crate::proofs::Room::pushed))]
 fn push_digit(v: u64, d: u8) -> Option<u64>
     ensures { result ≡ fitted (v * 10 + d) }
 {
@@ -30,6 +31,7 @@ fn push_digit(v: u64, d: u8) -> Option<u64>
 }
 
 // The number of a run; a run is left at the digit that makes it too large.
+#[tactic(auto, using(crate::proofs::Reading::passes, crate::proofs::Reading::pushes, crate::proofs::Reading::stops, crate::proofs::Reading::ends))]
 fn run_number(run: &[u8]) -> Option<u64>
     ensures { result ≡ number_of run.now }
 {
@@ -53,6 +55,7 @@ pub fn number(draft: &[u8], start: usize, end: usize) -> Option<u64>
 
 // The bytes of a run without `_`, then zeros; how many there are, None where the buffer is too short for them.
 // `n` is the answer too, so it is counted here.
+#[tactic(auto, using(crate::proofs::Fill::passes, crate::proofs::Fill::stores, crate::proofs::Fill::end_answer, crate::proofs::Fill::end_buffer, crate::proofs::Fill::over_answer, crate::proofs::Fill::over_buffer))]
 fn write_plain(run: &[u8], out: &mut [u8]) -> Option<usize>
     ensures answer { result ≡ answer_of (plain run.now) (length out.old) }
     ensures buffer { out.new ≡ buffer_of (plain run.now) (length out.old) }
@@ -85,6 +88,7 @@ fn after_base(token: &[u8]) -> &[u8]
 
 // The digit text of the token from start to end into out, with zeros after it, and how many digits were written; all zeros and None if it does not fit.
 // Start and end may be any numbers here too, as above.
+#[tactic(auto, unfolding(crate::specs::Digits::digits_of))]
 pub fn digits(draft: &[u8], start: usize, end: usize, out: &mut [u8]) -> Option<usize>
     ensures answer { result ≡ answer_of (digits_of (part_of draft.now start end)) (length out.old) }
     ensures buffer { out.new ≡ buffer_of (digits_of (part_of draft.now start end)) (length out.old) }
@@ -94,6 +98,7 @@ pub fn digits(draft: &[u8], start: usize, end: usize, out: &mut [u8]) -> Option<
 
 // A good bound has one bit set, and that is not the lowest. The count of ones is the test that document 01 names.
 // Like the two below it takes what `number` gives: one that is too large is none of them.
+#[tactic(auto, using(crate::proofs::Ones::bits_no_bound, crate::proofs::Ones::one_no_bound, crate::proofs::Ones::no_bound))]
 pub fn is_bound(v: Option<u64>) -> bool
     ensures { result ≡ bound_ok v }
 {

@@ -25,7 +25,8 @@ impl<'a> Run<'a> {
     }
 }
 
-// The runs of a list, one behind the other; `start` is where the next begins, and none is left where it is beyond the list's end.
+// The runs of a list, one behind the other; `start` is where the next begins, and none is left where it is beyond the list's end: `get` gives `None` there by
+// itself, where an `Option` of the rest would have to be set to `None`.
 #[derive(Drop)]
 struct Runs<'a> {
     list: &'a [u8],

@@ -8,8 +8,8 @@ ghost use Rattle.num.specs.Value.{number_of};
 ghost use Rattle.num.specs.Digits.{digits_of, answer_of, buffer_of};
 ghost use Rattle.num_speed.specs.Said.{said_of, count_of};
 
-// What `num` says of the decimal run from start to end, in four numbers, since C has no `Option`: the number, or 0 if it is too large; whether it is a length,
-// a size and a bound.
+// What `num` says of the decimal run from start to end, in four words, as bench/num reads them: the number, or 0 if it is too large, since C has no `Option`;
+// and 1 or 0 for whether it is a length, a size and a bound.
 #[unsafe(no_mangle)]
 #[tactic(auto, unfolding(crate::specs::Said::said_of, crate::specs::Said::number_or_zero, crate::specs::Said::flag))]
 pub extern "C" fn num_speed_number(draft: &[u8], start: usize, end: usize, said: &mut [u64; 4])
@@ -24,8 +24,8 @@ pub extern "C" fn num_speed_number(draft: &[u8], start: usize, end: usize, said:
     ];
 }
 
-// The digit text of the token from start to end into out, with zeros after it, and how many digits it has; all zeros, and 0, if it does not fit: C has no
-// `Option`.
+// The digit text of the token from start to end into out, with zeros after it, and how many digits it has; all zeros, and 0, if it does not fit or has no
+// digits: C has no `Option`.
 #[unsafe(no_mangle)]
 #[tactic(auto, unfolding(crate::specs::Said::count_of))]
 pub extern "C" fn num_speed_digits(draft: &[u8], start: usize, end: usize, out: &mut [u8]) -> usize

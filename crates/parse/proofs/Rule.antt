@@ -6,8 +6,10 @@ pub mod Amid
 pub mod Steps
 pub mod Closing
 pub mod Chain
+pub mod Told
 pub mod Commas
 pub mod Heads
 pub mod Pieces
-pub mod SideBySide
 pub mod Refused
+pub mod Entered
+pub mod Brackets

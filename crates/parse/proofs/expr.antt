@@ -4,7 +4,9 @@ pub mod Elements
 pub mod CallRows
 pub mod CallForms
 pub mod CallLaws
+pub mod CallSteps
 pub mod CallEnd
+pub mod FoldForm
 pub mod NameRules
 pub mod ArmsLoop
 pub mod MatchForm

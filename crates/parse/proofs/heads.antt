@@ -1,3 +1,4 @@
 -- Heads of arms.
 pub mod PairForms
 pub mod Forms
+pub mod Steps

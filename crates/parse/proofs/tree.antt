@@ -1,4 +1,3 @@
 -- Words of records.
 pub mod Splice
-pub mod Words
 pub mod Numbers

@@ -121,7 +121,7 @@ pub(crate) fn kind(order: u32) -> Kind
 }
 
 // The refusal of a match with these arms, if there is one. Three arms answer `None`: as one (`ENUMS | PAIRED | TURNED`, or a range, or put first) they were
-// tried, and cost matches 0.5 percent.
+// tried, and the case `matches` of bench/reader took 0.5 percent more instructions, more than before the forms of today (docs/DESIGN-PASS.md).
 #[tactic(auto, unfolding(crate::specs::Infos::order_fault))]
 pub(crate) fn fault(order: u32) -> Option<Refusal>
     ensures { result ≡ order_fault order }

@@ -155,7 +155,8 @@ impl Choices {
     }
 }
 
-// Six functions, since each states its own row of grammar's table: a method of `Choices` knows its bytes alone (`entry_in`).
+// Six functions, since each states what its own table means: a row of grammar's table, `name_sort` or `head_sort`. A method of `Choices` knows its bytes alone
+// (`entry_in`), and a trait with that meaning as a ghost member would have six impls, each with a proof of its own.
 pub(crate) fn types(class: u32) -> u32
     ensures { result ≡ choose table n-type class }
 {

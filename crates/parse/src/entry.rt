@@ -19,7 +19,6 @@ pub(crate) fn too_many(most: usize, count: usize, words: usize) -> bool
 }
 
 // The draft with so many tokens: their rows are made here once, since a look at a token that made them would divide each time.
-// Refusal 6 speaks of the number and of the buffer's words (`too_many`), so both are asked for.
 pub(crate) fn source<'a>(draft: &'a [u8], tokens: &'a [u32], count: usize) -> Source<'a>
     requires { tok_wide * count ≤ length tokens.now }
     ensures draft { result.draft.now ≡ draft.now }
@@ -105,6 +104,7 @@ pub(crate) fn too_long(what: ReadAs, bytes: usize) -> bool
 }
 
 // Reads a whole draft: a file, or one function. `ReadAs` is part of what `parse` promises (`entry_of`), and the refusals differ by it.
+#[tactic(auto, using(crate::proofs::entry::Ends::at_file, crate::proofs::entry::Ends::at_function, crate::proofs::entry::Ends::short_file))]
 pub(crate) fn whole(source: &Source, tree: &mut [u32], st: State, what: ReadAs) -> Step
     requires ready { Ready (text source.now) st }
     requires draft_value { too_long (entry_of what) (length source.now.draft.now) ≡ false }

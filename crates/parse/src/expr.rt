@@ -1,5 +1,5 @@
-// The cycle of expressions: an expression may hold a block, a block statements, a statement an expression again. docs/DECISIONS.md says
-// which file of the Rust each function comes from.
+// The cycle of expressions, which document 01 names: an expression may hold a block, a block statements, a statement an expression again. docs/DECISIONS.md
+// says which file of the Rust each function comes from.
 // What is read most often is inlined where it is called. The rest stands apart, and takes no room in the frames of the others.
 ghost use Rattle.std.specs.Prelude.{◌≡◌, ◌<◌, if◌then◌else◌, nat_eq};
 ghost use Rattle.lexer.specs.Classes as t;
@@ -92,7 +92,7 @@ pub(crate) fn block(source: &Source, tree: &mut [u32], st: State) -> Step
     Step::Next(z, 0, 0)
 }
 
-// A block's low where its last element is an expression without `;`, a word of its record.
+// A block's low, a word of its record: this where its last element is an expression without `;`, else 0.
 const LAST_EXPRESSION: u32 = 1;
 
 // What stands between the braces of a block, and its low. `split_block_body`, `Statement::parser`.
@@ -162,7 +162,8 @@ fn assign(source: &Source, tree: &mut [u32], st: State) -> Step
 }
 
 // An expression that is no block. `SingleExpression::parser`. What a function that stands apart answers has a variable of its own: so the
-// other answers stay in registers.
+// other answers stay in registers. Each function called here asks that the class chooses its own alternatives, so that is a clause of each and no
+// fact of a state.
 #[cycle(expression)]
 #[inline(always)]
 pub(crate) fn single(source: &Source, tree: &mut [u32], st: State) -> Step

@@ -6,8 +6,8 @@ ghost use Rattle.parse.specs.Entry.{as_refused};
 use crate::State;
 use text::refusal::{Refusal, Refused};
 
-// A refusal, and the byte where it stands, as a word: with `Refused`, whose place is a `usize`, in the state the case `matches` of bench/reader took 5 percent
-// more instructions, `statements` 2.
+// A refusal, and the byte where it stands, as a word, as all places in a state are. With a `Refused` in the state, whose place is a `usize`, the case `matches`
+// of bench/reader took 5 percent more instructions and `statements` 2, both more than at the commit that docs/DESIGN-PASS.md begins with.
 #[derive(Clone, Copy, PartialEq, Eq, Debug)]
 pub(crate) struct Fault {
     pub(crate) refusal: Refusal,
@@ -42,7 +42,7 @@ pub(crate) fn clean(st: State) -> State
 }
 
 // Of two refusals the earlier; the first if they are at one place, and the other one if one is none. `a.into_iter().chain(b).min_by_key(|f| f.place)` was
-// tried: what it promises is said by the runs of the chain and the keys that were given, and no search closes that; of the match it finds all.
+// tried: what it promises is said by the runs of the chain and the keys that were given, and no search closes that; of the match below it closes every goal.
 #[tactic(auto, unfolding(crate::specs::Contract::fault, grammar::specs::Records::Faults::earlier))]
 fn earlier(a: Option<Fault>, b: Option<Fault>) -> Option<Fault>
     ensures { fault result ≡ sooner (fault a) (fault b) }
@@ -53,7 +53,7 @@ fn earlier(a: Option<Fault>, b: Option<Fault>) -> Option<Fault>
     }
 }
 
-// The second state with the earliest refusal: of the first state, this one, of the second state.
+// The second state with the earliest refusal: of the first state, `own`, of the second state.
 pub(crate) fn judged(outer: State, inner: State, own: Option<Fault>) -> State
     ensures { Judged outer inner (fault own) result }
 {

@@ -41,6 +41,7 @@ fn type_item(source: &Source, tree: &mut [u32], st: State) -> Step
 }
 
 // A type item where `type` stands, otherwise a function.
+#[tactic(auto, using(crate::proofs::file::Forms::as_type_item, crate::proofs::file::Forms::as_function))]
 fn item(source: &Source, tree: &mut [u32], st: State) -> Step
     requires { Ready (text source.now) st }
     ensures { Parses (item_at st.class) (Node ItemKind) (text source.now) st tree.old tree.new result }
@@ -87,7 +88,7 @@ pub(crate) fn file(source: &Source, tree: &mut [u32], st: State) -> Step
         return step;
     };
     let all = tree::reserve(z);
-    // Its length is a word, as `too_long` has seen: `u32::try_from` again would have an answer here that cannot be.
+    // Its length is a word, as `too_long` has seen: `u32::try_from` again would have an `Err` here that never comes.
     tree::top(tree, source.draft.len() as u32, all.out);
     Step::Next(all, 0, 0)
 }

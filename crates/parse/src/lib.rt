@@ -59,7 +59,7 @@ pub enum ReadAs {
     File,
 }
 
-// Writes the records of a draft and says how many: one with so many tokens, `RECORD_WORDS` words each, and zeros behind them; on a refusal every word
+// Writes the records of a draft that has so many tokens and says how many they are: `RECORD_WORDS` words each, and zeros behind them; on a refusal every word
 // is 0. The first record of a file is that of the whole file. The last word of each record, its way up, is 0 too: crate `up` fills it.
 // Refusal 6 speaks of the number and of the buffer's words (`too_many`), so both are asked for.
 pub fn parse(
@@ -89,6 +89,7 @@ pub fn parse_front(
     ensures answer { meant count result ≡ answer_of (entry_of what) draft_limits.tokens draft.now tokens.now count (length tree.old) }
     ensures held { Held (meant count result) (rec_words (records_in (reading_of (entry_of what) draft.now (tokens_in count tokens.now)))) tree.old tree.new }
 {
+    // Both places are 0: the first token too many may not be in the buffer, and the reader comes to neither refusal (docs/DECISIONS.md, "Parser").
     if entry::too_many(lexer::DRAFT_TOKENS, count, tokens.len()) {
         return Err(Refused {
             refusal: Refusal::TooMany,

@@ -48,8 +48,7 @@ pub(crate) fn name(source: &Source, tree: &mut [u32], st: State, sort: NameSort)
     Step::Next(b, 0, 0)
 }
 
-// Names joined by `::`, each a record, and how many.
-// They are joined by `::`, and no token closes them: no list of those that types.rt speaks of, so a loop of its own.
+// Names joined by `::`, each a record, and how many. No token closes them: no list of those that types.rt speaks of, so a loop of its own.
 pub(crate) fn names(source: &Source, tree: &mut [u32], st: State) -> Step
     requires { Ready (text source.now) st }
     ensures { Parsed (text source.now) (nt n-identifier ∷ nt n-path-many-DoubleColon ∷ []) as_items Names st tree.old tree.new result }

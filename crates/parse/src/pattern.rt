@@ -13,6 +13,7 @@ use crate::{State, Step, choice, names, token, tree};
 use lexer::classes as class;
 use own::kind::Kind;
 
+// A pattern. For the variable see `expr::single`.
 #[cycle(pattern)]
 #[inline(always)]
 pub(crate) fn pattern(source: &Source, tree: &mut [u32], st: State) -> Step

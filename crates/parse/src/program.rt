@@ -12,7 +12,7 @@ use crate::{State, Step, expr, names, tree, types};
 use lexer::classes as class;
 use own::kind::Kind;
 
-// What a function's low adds up, a word of its record: `pub`, and a result type.
+// A function's low, a word of its record, is the sum of these: for `pub`, and for a result type.
 const PUBLIC: u32 = 1;
 
 const RESULT: u32 = 2;

@@ -1,4 +1,4 @@
-// The tokens of a draft, one by one. All is inlined where it is called, so that a state stays in registers, but for the look-up of words.
+// The tokens of a draft, one by one. What every step calls is inlined, so that a state stays in registers.
 ghost use Rattle.std.specs.Prelude.{◌≡◌, ◌||◌, ◌==◌};
 ghost use Rattle.lexer.specs.Classes as t;
 ghost use Rattle.text.specs.Part.{part_of};
@@ -12,8 +12,8 @@ use text::TOKEN_WORDS;
 // The class past the last token, where none stands; its start and its end are 0 too.
 pub(crate) const END: u32 = 0;
 
-// A token. A state has these three words as fields of its own and no `Lexeme`: contracts and code say `st.class` at a hundred places, which would all be
-// `st.token.class`, and a state is made of a token in two functions only.
+// A token. A state has these three words as fields of its own and no `Lexeme`: contracts and code say `st.class`, `st.start` and `st.stop` at a
+// hundred places, which would all be `st.token.class` and kin, and a state is made of a token in two functions only.
 #[derive(Drop)]
 pub(crate) struct Lexeme {
     pub(crate) class: u32,
@@ -22,8 +22,8 @@ pub(crate) struct Lexeme {
 }
 
 // What is read: a draft and its tokens, three words each. It goes to each function beside the tree and the state. A struct that lends the tree too was tried
-// on `program::parameters`: a method by `&mut self` has to promise besides that the source stays, each answer behind a call to carry that over, and the
-// borrow checker does not cover one that reads the source by its field in a loop.
+// on `program::parameters`: a method by `&mut self` has to promise besides that the source stays, each answer behind a call to carry that over, and a
+// loop that reads the source by its field is refused as not covered.
 #[derive(Clone, Copy)]
 pub(crate) struct Source<'a> {
     pub(crate) draft: &'a [u8],

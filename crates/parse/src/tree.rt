@@ -1,4 +1,4 @@
-// The tree buffer: so many words a record, written where they fit.
+// The tree buffer: so many words a record, written where they fit. It stays words and no rows: std says nothing of what `as_chunks_mut` leaves.
 ghost use Rattle.std.specs.Prelude.{◌≡◌, ◌-◌};
 ghost use Rattle.grammar.specs.Records.Records.{low_half, high_half};
 ghost use Rattle.own.specs.Kinds as kind;
@@ -52,7 +52,7 @@ impl Head {
         Head::with_low(Kind::Call, u32::from(name))
     }
 
-    // Of a kind and the two halves of a number. Each half fits a word by the mask or the shift: `u32::try_from` would have an answer that cannot be.
+    // Of a kind and the two halves of a number. Each half fits a word by the mask or the shift: `u32::try_from` would have an `Err` that never comes.
     #[tactic(auto, unfolding(grammar::specs::Records::Records::low_half, grammar::specs::Records::Records::high_half))]
     fn of_number(kind: Kind, n: u64) -> Head
         ensures { result ≡ record { kind = kind; low = low_half n; high = high_half n } }
@@ -65,7 +65,7 @@ impl Head {
     }
 }
 
-// Writes the record of this number, if it fits.
+// Writes the record of this number, if it fits: by a test and no `get_mut`, and `text::clear_from` says why.
 fn put(tree: &mut [u32], here: u32, head: Head, start: u32, end: u32, size: u32)
     ensures { Put tree.old here (kind_number head.kind) start end head.low head.high size tree.new }
 {
@@ -84,8 +84,8 @@ fn put(tree: &mut [u32], here: u32, head: Head, start: u32, end: u32, size: u32)
     }
 }
 
-// Writes the record that was reserved at the first state, over all that was read up to the second. This and the functions below take the buffer and two states:
-// a struct of the states would be made at each call and taken apart here at once, as lib.rt says of a cursor.
+// Writes the record that was reserved at the first state, over all that was read up to the second. This, `close_number`, `child`, `name` and `decimal` take the
+// buffer and two states: a struct of the states would be made at each call and taken apart here at once, as lib.rt says of a cursor.
 pub(crate) fn close(tree: &mut [u32], from: State, to: State, head: Head)
     ensures { Put tree.old from.out (kind_number head.kind) from.start to.end head.low head.high (to.out - from.out) tree.new }
 {
@@ -146,13 +146,9 @@ pub(crate) fn exchange(tree: &mut [u32], from: u32, mid: u32, to: u32)
     let a = from as usize;
     let m = mid as usize;
     let b = to as usize;
-    if b <= tree.len() / RECORD_WORDS {
-        if a <= m {
-            if m <= b {
-                let start = RECORD_WORDS * a;
-                let end = RECORD_WORDS * b;
-                turn::rotate(&mut tree[start..end], RECORD_WORDS * (m - a));
-            }
-        }
+    if a <= m && m <= b && b <= tree.len() / RECORD_WORDS {
+        let start = RECORD_WORDS * a;
+        let end = RECORD_WORDS * b;
+        turn::rotate(&mut tree[start..end], RECORD_WORDS * (m - a));
     }
 }

@@ -12,6 +12,7 @@ use crate::{State, Step, choice, fault, names, tree};
 use lexer::classes as class;
 use own::kind::Kind;
 
+// A type. For the variable see `expr::single`.
 #[cycle(types)]
 #[inline(always)]
 pub(crate) fn ty(source: &Source, tree: &mut [u32], st: State) -> Step

@@ -7,6 +7,7 @@ use Rattle.std.specs.Prelude.{min}
 use native.Mathlib.Omega.{arith}
 use lib.ListN.{length, replicate, drop, length-append, length-replicate}
 use Rattle.lexer.specs.Limits.{Limits, draft_limits}
+use Rattle.lexer.proofs.Fits.{lexed-few}
 use Rattle.text.specs.Front.{front}
 use Rattle.text.specs.Widths.{tok_wide, rec_wide}
 use Rattle.up.specs.Ways.{rows_in, up_words}
@@ -21,6 +22,7 @@ use Rattle.grammar.proofs.Answers.OutcomeLaws.{read-faultless}
 use Rattle.grammar.proofs.Answers.Laws.{law-1}
 use Rattle.grammar.specs.Answers.Lines.{listed, listing}
 use Rattle.reader.specs.Listed.{HandsOver, listing_by, used_of, bytes_of}
+use Rattle.reader.specs.declared.lexed.Lexed.{Lexed}
 use Rattle.reader.proofs.LineLaws.{all_held, same_is}
 use Rattle.reader.proofs.Short.{roomy_listing}
 
@@ -56,6 +58,10 @@ accepted-is en draft old {tree} tw n m e h =
     let many : m ≡ length rs = a.records_number ∙ ap length (sym (were-read en draft_limits draft tw (length old) n m a)) in
     let fit : rec_wide * m ≤ length tree = omega (arith, a.fits, a.records_number, ap length h, length-append (up_words rs) (drop (length (up_words rs)) old), long, many) in
     all_held tree m fit ∙ ap (λ (w : List ℕ). lines_of widths (rows_in m w)) h ∙ accepted-listing en draft_limits draft old tw (length old) n m a
+
+-- No more tokens were lexed than a draft may have.
+pub few-lexed : (x : Lexed) → x.count ≤ draft_limits.tokens
+few-lexed x = lexed-few draft_limits x.draft.now (length x.words.now) x.count x.counted
 
 -- What a call hands over that was lent an array of so many words and a buffer is handed over by way of so many words, in that buffer;
 pub lent_is : (text : ℕ → List ℕ) (count : ℕ) {words out old left new : List ℕ} {r : ℕ} → words ≡ replicate count 0 → out ≡ old → left ≡ new → HandsOver (text (length words)) (length out) r left

@@ -9,7 +9,7 @@ use borrow.Author.Tests.{le-ltb, lt-leb}
 use lib.Dec.{ltb}
 use lib.ListN.{length, replicate, take, drop}
 use Rattle.std.specs.Prelude.{Result, Ok, Err}
-use Rattle.std.specs.Result.{result_unwrap_or}
+use Rattle.std.specs.Result.{ResultUnwrapsOrElse, result_unwrap_or}
 use Rattle.text.specs.Front.{front, Held}
 use Rattle.text.proofs.Front.{front-cleared}
 use Rattle.lexer.specs.Lexemes.{Token, lexemes}
@@ -34,7 +34,13 @@ use Rattle.grammar.proofs.Answers.Laws.{law-1, token-buffer-lexed, law-4-refused
 use Rattle.parse.specs.Contract.{u32_count}
 use Rattle.parse.specs.Entry.{too_many, too_long, reading_of, answer_of}
 use Rattle.reader.specs.declared.Counts.{Counts}
+use Rattle.reader.specs.declared.lexed.Lexed.{Lexed}
 use Rattle.reader.specs.Read.{meant}
+
+-- The counts of a refusal are no token and no record.
+pub no-counts : (r : Result Counts Refused) {k : Counts} → ResultUnwrapsOrElse r (λ (d : Counts). (d.tokens ≡ 0) × (d.records ≡ 0)) k → k ≡ result_unwrap_or r (record { tokens = 0; records = 0 })
+no-counts (Ok c) h = h
+no-counts (Err e) h = ap₂ (λ (t n : ℕ). record { tokens = t; records = n }) h.0 h.1
 
 -- An accepted draft has as many records as were read.
 abbrev records_of : Answer → ℕ
@@ -55,50 +61,51 @@ tokens-held draft words old n e w =
     let ts = tokens_of (lexemes draft) in
     ap₂ (λ (k : ℕ) (u : List ℕ). tokens_in k u) (sym (lexed-fits draft_limits draft (length old) n e).0) w ∙ read-back ts (drop (length (token_words ts)) old)
 
-module _ (en : Entry) (draft words : List ℕ) (n rw : ℕ) (e : lexed_of draft_limits draft (length words) ≡ accepted n 0) (tokens_are : tokens_in n words ≡ tokens_of (lexemes draft)) where
-  not-many : too_many draft_limits.tokens n (length words) ≡ false
+-- The parser over the tokens that were lexed.
+module _ (en : Entry) (x : Lexed) (rw : ℕ) where
+  not-many : too_many draft_limits.tokens x.count (length x.words.now) ≡ false
   unfolding too_many room
   not-many =
-      let h = lexed-fits draft_limits draft (length words) n e in
+      let h = lexed-fits draft_limits x.draft.now (length x.words.now) x.count x.counted in
       let a = h.0 in
       let b = h.1 in
-      ap₂ (λ (u v : Bool). u || v) (le-ltb draft_limits.tokens n (omega arith)) (le-ltb (length words) (tok_wide * n) (omega arith))
+      ap₂ (λ (u v : Bool). u || v) (le-ltb draft_limits.tokens x.count (omega arith)) (le-ltb (length x.words.now) (tok_wide * x.count) (omega arith))
 
-  not-long : too_long en (length draft) ≡ false
+  not-long : too_long en (length x.draft.now) ≡ false
   unfolding too_long
   not-long = go en
     where
-      go : (en : Entry) → too_long en (length draft) ≡ false
+      go : (en : Entry) → too_long en (length x.draft.now) ≡ false
       go single_function = refl
-      go whole_file = lt-leb u32_count (length draft) (omega (arith, lexed-short draft_limits draft (length words) n e))
+      go whole_file = lt-leb u32_count (length x.draft.now) (omega (arith, lexed-short draft_limits x.draft.now (length x.words.now) x.count x.counted))
 
-  its-reading : reading en draft_limits draft (length words) ≡ reading_of en draft (tokens_in n words)
+  its-reading : reading en draft_limits x.draft.now (length x.words.now) ≡ reading_of en x.draft.now (tokens_in x.count x.words.now)
   unfolding reading reading_of
   its-reading =
-      ap (λ (x : Answer). lexed en x draft (tokens_of (lexemes draft))) e
-      ∙ ap (λ (ts : List Token). shaped en draft ts (shape_of en (classes_of (toks_of draft ts)))) (sym tokens_are)
+      ap (λ (a : Answer). lexed en a x.draft.now (tokens_of (lexemes x.draft.now))) x.counted
+      ∙ ap (λ (ts : List Token). shaped en x.draft.now ts (shape_of en (classes_of (toks_of x.draft.now ts)))) (sym x.held)
 
-  its-fitted : fitted rw (reading en draft_limits draft (length words)) ≡ answer en draft_limits draft (length words) rw
+  its-fitted : fitted rw (reading en draft_limits x.draft.now (length x.words.now)) ≡ answer en draft_limits x.draft.now (length x.words.now) rw
   unfolding answer
   its-fitted = refl
 
-  its-answer : answer en draft_limits draft (length words) rw ≡ fitted rw (reading_of en draft (tokens_in n words))
+  its-answer : answer en draft_limits x.draft.now (length x.words.now) rw ≡ fitted rw (reading_of en x.draft.now (tokens_in x.count x.words.now))
   unfolding answer
   its-answer = ap (fitted rw) its-reading
 
   -- The parser's answer is the definition's,
-  pub parsed-answer : answer_of en draft_limits.tokens draft words n rw ≡ answer en draft_limits draft (length words) rw
+  pub parsed-answer : answer_of en draft_limits.tokens x.draft.now x.words.now x.count rw ≡ answer en draft_limits x.draft.now (length x.words.now) rw
   unfolding answer_of
   parsed-answer =
-      ap₂ (λ (b c : Bool). cond b (refused (refusal_number refusal.TooMany) 0) (cond c (refused (refusal_number refusal.TooLong) 0) (fitted rw (reading_of en draft (tokens_in n words))))) not-many not-long ∙ sym its-answer
+      ap₂ (λ (b c : Bool). cond b (refused (refusal_number refusal.TooMany) 0) (cond c (refused (refusal_number refusal.TooLong) 0) (fitted rw (reading_of en x.draft.now (tokens_in x.count x.words.now))))) not-many not-long ∙ sym its-answer
 
   -- and where the draft is accepted its records, given their ways up, are at the front of the buffer.
-  pub parsed-raised : (old : List ℕ) {out : List ℕ} {k m : ℕ} → answer en draft_limits draft (length words) rw ≡ accepted k m
-      → out ≡ front (rec_words (records_in (reading_of en draft (tokens_in n words)))) old → upward m out ≡ front (up_words (records_read en draft_limits draft (length words))) old
+  pub parsed-raised : (old : List ℕ) {out : List ℕ} {k m : ℕ} → answer en draft_limits x.draft.now (length x.words.now) rw ≡ accepted k m
+      → out ≡ front (rec_words (records_in (reading_of en x.draft.now (tokens_in x.count x.words.now)))) old → upward m out ≡ front (up_words (records_read en draft_limits x.draft.now (length x.words.now))) old
   unfolding records_read
   parsed-raised old {out} {k} {m} a h =
-      let rs = records_in (reading en draft_limits draft (length words)) in
-      let many : m ≡ length rs = as-many rw (reading en draft_limits draft (length words)) (its-fitted ∙ a) in
+      let rs = records_in (reading en draft_limits x.draft.now (length x.words.now)) in
+      let many : m ≡ length rs = as-many rw (reading en draft_limits x.draft.now (length x.words.now)) (its-fitted ∙ a) in
       let long : length (rec_words rs) ≡ length (up_words rs) = record-words-length rs ∙ sym (up-words-long rs) in
       ap₂ upward many (h ∙ ap (λ (r : Reading). front (rec_words (records_in r)) old) (sym its-reading))
       ∙ raised-words rs (drop (length (rec_words rs)) old)

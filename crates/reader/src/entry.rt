@@ -13,7 +13,7 @@ use parse::ReadAs;
 use text::refusal::Refused;
 use text::{RECORD_WORDS, TOKEN_WORDS};
 
-// A file has no more records than tokens but one, that of the whole file.
+// A file has at most one record more than tokens, that of the whole file.
 const RECORDS_OVER: usize = 1;
 
 // Room for the lines of every draft.
@@ -25,7 +25,7 @@ const MOST_TOKENS: usize = TOKEN_WORDS * lexer::DRAFT_TOKENS;
 const MOST_RECORDS: usize = RECORD_WORDS * (lexer::DRAFT_TOKENS + RECORDS_OVER);
 
 // Lists a refusal: kind 0, the place twice, the number as low, high 0, size 1, way up 0. A line has digits for the low part of a place, which is less than
-// `PLACES`, so that `try_from` would have an answer that cannot be.
+// `PLACES`, so that `try_from` would have an `Err` that never comes.
 fn refusal(refused: Refused, out: &mut [u8]) -> usize
     ensures { HandsOver (lines (spec.listed (refused_by refused) [])) (length out.old) result out.new }
 {

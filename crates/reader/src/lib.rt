@@ -24,7 +24,7 @@ mod lexed;
 pub mod loading;
 
 // What is handed over of an accepted draft: how many tokens and records it has.
-#[derive(Clone, Copy, PartialEq, Eq, Debug)]
+#[derive(Clone, Copy, PartialEq, Eq, Debug, Default)]
 pub struct Counts {
     pub tokens: usize,
     pub records: usize,
@@ -41,8 +41,8 @@ pub fn read(draft: &[u8], tokens: &mut [u32], tree: &mut [u32]) -> Result<Counts
     read_as(draft, tokens, tree, ReadAs::Function)
 }
 
-// Reads a file, functions and type items: the same, and the first record is that of the whole file. Two functions, since both names are published (README.md,
-// docs/REFUSALS.md), and what a public function promises stays; `read_as` does the work of both.
+// Reads a file, functions and type items: the same, and the first record is that of the whole file. It is an entry of its own, as document 02 has it (order 3):
+// "The single-function entry answers as before". `read_as` does the work of both.
 pub fn read_file(draft: &[u8], tokens: &mut [u32], tree: &mut [u32]) -> Result<Counts, Refused>
     ensures answer { meant result ≡ answer whole_file draft_limits draft.now (length tokens.old) (length tree.old) }
     ensures values { returned result ≡ values (answer whole_file draft_limits draft.now (length tokens.old) (length tree.old)) }
@@ -66,10 +66,7 @@ fn read_as(
     ensures tree { tree.new ≡ tree_buffer (entry_of what) draft_limits draft.now (length tokens.old) (length tree.old) }
 {
     let reading = read_front(draft, tokens, tree, what);
-    let counts = reading.unwrap_or(Counts {
-        tokens: 0,
-        records: 0,
-    });
+    let counts = reading.unwrap_or_default();
     text::clear_from(tokens, TOKEN_WORDS * counts.tokens);
     text::clear_from(tree, RECORD_WORDS * counts.records);
     reading

@@ -8,7 +8,7 @@ use text::refusal::Refused;
 
 // Why a listing is refused: the number of the refusal, and the first bad line from 1, or 0. Both are 0 where it is loaded. c/togmelic.h has this layout.
 #[repr(C)]
-#[derive(Clone, Copy, PartialEq, Eq, Debug)]
+#[derive(Clone, Copy, PartialEq, Eq, Debug, Default)]
 pub struct LoadRefusal {
     pub number: usize,
     pub line: usize,
@@ -25,7 +25,7 @@ pub fn load_listing(listing: &[u8], words: &mut [u32], refusal: &mut LoadRefusal
 {
     match load::load(listing, words) {
         Ok(n) => {
-            *refusal = LoadRefusal { number: 0, line: 0 };
+            *refusal = LoadRefusal::default();
             n
         }
         Err(not_loaded) => {

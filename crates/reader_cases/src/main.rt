@@ -30,7 +30,8 @@ fn name(what: ReadAs) -> &'static str {
     }
 }
 
-// The answer of the entry that reads a draft as `what` says.
+// The answer of the entry that reads a draft as `what` says. What differs between the entries is asked at three places, here, in `name` and in `is_owned_as`:
+// closures would be three parameters of `write_reading`.
 fn read(
     what: ReadAs,
     draft: &[u8],
@@ -75,7 +76,8 @@ fn write_accepted(
     )
 }
 
-// The answer of an entry, and what is found of it; the words of the tree if the draft is accepted.
+// The answer of an entry, and what is found of it; the words of the tree if the draft is accepted. `out` and `alloc` are those of `main`: a struct of them
+// and a case would be made anew for each case.
 fn write_reading(
     out: &mut impl Write,
     alloc: Global,

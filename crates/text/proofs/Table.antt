@@ -1,6 +1,8 @@
 -- A rule of a table, proved at all of its entries by one test that antt computes.
 -- Assumes nothing.
 use Rattle.std.specs.Prelude.{Bool, true, false, ◌&&◌, ◌||◌, not, List, [], ◌∷◌, ◌⊎◌, ◌≡◌, refl, ℕ, zero, suc, ◌+◌, ◌<◌, T, eqb, length, get_or}
+use Rattle.std.specs.Bool.{beq}
+use Rattle.std.specs.Cmp.{booleans_Decides}
 use Rattle.std.proofs.Common.{inl, inr, ◌∙◌, subst, sym, add-zero, zero-add, add-suc, suc-add, le_of_suc-le-suc, not-suc-le-zero, eqb→eq}
 use Rattle.text.proofs.Same.{differ}
 use Rattle.text.specs.Table.{all, every}
@@ -17,6 +19,10 @@ is_false false f = refl
 pub not-true : (b : Bool) → T (not b) → b ≡ false
 not-true true t = absurd t
 not-true false t = refl
+
+-- two tests that answer alike are equal
+pub beq_same : (a b : Bool) → T (beq a b) → a ≡ b
+beq_same a b t = (booleans_Decides a b).0 (is_true (beq a b) t)
 
 -- both tests of a pair pass
 pub first-of : (a b : Bool) → T (a && b) → T a

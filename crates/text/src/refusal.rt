@@ -68,7 +68,8 @@ impl fmt::Display for Refusal {
     }
 }
 
-// Why a draft is refused, and where; the place is 0 where a refusal has none, as document 01 says of the numbers that callers see.
+// Why a draft or a listing is refused, and where: at a byte, or in a listing at a line; the place is 0 where a refusal has none, as document 01 says of the
+// numbers that callers see.
 #[derive(Clone, Copy, PartialEq, Eq, Debug)]
 pub struct Refused {
     pub refusal: Refusal,

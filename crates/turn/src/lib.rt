@@ -1,4 +1,4 @@
-// Rotating a slice in place: what puts a later part of a tree before an earlier one.
+// Rotating a slice in place, as document 01 names it: it puts a later part of a tree before an earlier one.
 #![tactic(auto)]
 
 ghost use Rattle.std.specs.Prelude.{◌≡◌, min, ◌≤◌, ◌-◌, ◌++◌, length, take, drop};
@@ -12,8 +12,8 @@ const THREE: usize = 3 * RECORD_WORDS;
 
 const FOUR: usize = 4 * RECORD_WORDS;
 
-// Moves all but the last c elements to the end; the first c stay where they are. The distance is known where it is compiled for one to four records: that is
-// a `memmove`. With the last arm alone the case `matches` of bench/reader took 20 percent more instructions, more than plain Rust.
+// Moves all but the last c elements to the end; the first c stay where they are. For one to four records the distance is known when this is compiled, and
+// the copy is one `memmove`. With `copy_within(..n, c)` alone the case `matches` of bench/reader took 20 percent more instructions, more than plain Rust.
 fn up_records(a: &mut [u32], c: usize)
     requires { c ≤ length a.old }
     ensures { a.new ≡ take c a.old ++ take (length a.old - c) a.old }

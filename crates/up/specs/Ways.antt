@@ -1,7 +1,8 @@
 -- The way up (document 02, order 7): "Give every record a seventh word: how many records back its parent begins, 0 for the top and on a refusal's
 -- line." It is found through the sizes of the records; Ups.antt has that of trees, and proofs/Parents.antt proves that both agree.
 -- Assumes nothing: these are definitions.
-use Rattle.std.specs.Prelude.{cond, List, [], ◌∷◌, ◌++◌, ℕ, zero, suc, ◌+◌, ◌-◌, ◌*◌, ◌/◌, ltb, length, get_or, take, drop}
+use Rattle.std.specs.Prelude.{cond, List, [], ◌∷◌, ◌++◌, ℕ, zero, suc, ◌+◌, ◌-◌, ◌*◌, ◌/◌, ltb, length, get_or, drop}
+use Rattle.std.specs.Simd.{first_chunks}
 use Rattle.text.specs.Widths.{rec_wide}
 use Rattle.own.specs.Tree.{Rec, concat}
 use Rattle.own.specs.Flat.{blank}
@@ -51,8 +52,7 @@ up_words rs = concat (rows rs)
 
 -- Of a buffer: the words of each of its first n records.
 abbrev pub rows_in : ℕ → List ℕ → List (List ℕ)
-rows_in zero w = []
-rows_in (suc n) w = take rec_wide w ∷ rows_in n (drop rec_wide w)
+rows_in = first_chunks rec_wide
 
 -- A buffer whose first n records are given their ways up, where it has so many; all other words are as they were.
 unfoldable pub upward : ℕ → List ℕ → List ℕ

@@ -15,10 +15,9 @@ const SIZE: usize = 5;
 pub const UP: usize = 6;
 
 // Records one after the other, of which each has a size and may have a way up: the words of a tree, or the lines of a listing.
-// `size` and `way` ask for a record that there is: with `get`, and 0 past the end, for the words of a tree alone, loading 1,167 lines took 862,923 instructions
-// in place of 850,111.
+// `size` and `way` ask for a record that there is: `above` looks at those before i alone, so an `Option` would be taken apart at each look and never be `None`.
 pub trait Records {
-    // How many there are, and what the place of each says.
+    // How many there are, and what each says. A way up is a number, 0 for a record that no other holds, as document 02 (order 7) has it in words and in lines.
     ghost count: { Self → ℕ };
 
     ghost sizes: { Self → ℕ → ℕ };
@@ -34,10 +33,11 @@ pub trait Records {
         ensures { result ≡ ways self.now i };
 }
 
-// The record that holds record i, where those before it have their ways up; i itself if none does. `before` is what holds the record
-// before it, or that record itself. If the record before holds i, there is no way to go; else from `before` on, from parent to parent, up to the first that
-// reaches over i. Each record is passed at most once in all, since it is no parent of what comes after.
-// `i` itself where none does, so that `i` less the answer is the way up.
+// The record that holds record i, where those before it have their ways up; i itself if none does, so that i less the answer is the way up. `before` is what
+// holds the record before it, or that record itself. If the record before holds i, there is no way to go; else from `before` on, from parent to parent, up to
+// the first that reaches over i. Each record is passed at most once in all, since it is no parent of what comes after.
+// It is public for `load`, and asks for what its two callers show: `way_up` has written the ways up of the records before i, and `load::ways::right` has
+// tested those that lines give. A form that asks for nothing could promise the way up only where these facts hold.
 pub fn above<R: Records>(records: &R, before: usize, i: usize) -> usize
     requires i_in_bounds { i ≤ R.count records.now }
     requires before_value { before ≡ i - 1 - way_up (R.sizes records.now) (i - 1) }
@@ -100,7 +100,7 @@ pub fn way_up(tree: &mut [u32], records: usize)
     let mut p = 0;
     for i in 1..records {
         p = above(&Tree { words: tree }, p, i);
-        // It fits a word, as `above` promises: `u32::try_from` would have an answer that cannot be.
+        // It fits a word, as `above` promises: `u32::try_from` would have an `Err` that never comes.
         tree[RECORD_WORDS * i + UP] = (i - p) as u32;
     }
 }

@@ -1,12 +1,12 @@
 -- The sequence at a place by its first byte: the alternatives that are left behind each byte over 127, computed over all of them at once.
 -- Assumes nothing.
-use mathlib.Core.Bool.{Bool, true, false, cond, ◌&&◌}
+use mathlib.Core.Bool.{Bool, true, false, cond, ◌&&◌, and-false}
 use mathlib.Core.List.{List, [], ◌∷◌}
 use mathlib.Core.Path.{◌≡◌, refl, sym, ◌∙◌, ap, ap₂}
 use Prim.Native.Nat.{ℕ, suc, ◌+◌, ◌-◌, ◌≤◌, ◌<◌}
 use native.Mathlib.Numerals.{add-one}
 use native.Mathlib.Omega.{arith}
-use borrow.Author.Tests.{lt-leb, lt-ltb, le-ltb, eqb-true, leb-true, leb-false}
+use borrow.Author.Tests.{lt-leb, lt-ltb, le-ltb, ltb-true, ltb-false, eqb-true, leb-true, leb-false}
 use lib.Dec.{T, eqb, leb, ltb}
 use lib.ListN.{length, get_or, drop, replicate, length-replicate, get_or-eq_default, drop_of_length-le}
 use lib.Seq.{drop-cons}
@@ -94,13 +94,40 @@ left-passes : T (every {A = ℕ} (λ k x. same_left (128 + k)) 0 (replicate 128 
 unfolding left utf8_char
 left-passes = tt
 
-left_at : (b : ℕ) → 128 ≤ b → b < 256 → left utf8_char b ≡ left_over b
-left_at b h l =
+by_table : (b : ℕ) → 128 ≤ b → b < 256 → left utf8_char b ≡ left_over b
+by_table b h l =
     let k = at {A = ℕ} (λ k x. same_left (128 + k)) (replicate 128 0) 0 left-passes (b - 128) (omega (arith, length-replicate {A = ℕ} 128 0)) in
     let e : 128 + (b - 128) ≡ b = omega arith in
     ap (left utf8_char) (sym e)
     ∙ equal-sound (equal same_range same-range) (equal-sound same_range same-range) (left utf8_char (128 + (b - 128))) (left_over (128 + (b - 128))) (is_true _ k)
     ∙ ap left_over e
+
+-- and behind any number over the last first byte: none is left
+beyond : (b : ℕ) → 0xF4 < b → left utf8_char b ≡ left_over b
+unfolding left utf8_char
+beyond b h =
+    simp (
+      lt-leb b 0x7F (omega arith),
+      lt-leb b 0xDF (omega arith),
+      lt-leb b 0xE0 (omega arith),
+      lt-leb b 0xEC (omega arith),
+      lt-leb b 0xED (omega arith),
+      lt-leb b 0xEF (omega arith),
+      lt-leb b 0xF0 (omega arith),
+      lt-leb b 0xF3 (omega arith),
+      lt-leb b 0xF4 h,
+      and-false,
+      le-ltb b 0xC2 (omega arith),
+      le-ltb b 0xE0 (omega arith),
+      lt-ltb 0xF4 b h,
+    )
+
+left_at : (b : ℕ) → 128 ≤ b → left utf8_char b ≡ left_over b
+left_at b h = go (ltb b 256) refl
+  where
+    go : (t : Bool) → ltb b 256 ≡ t → left utf8_char b ≡ left_over b
+    go true q = by_table b h (ltb-true b 256 q)
+    go false q = beyond b (let l = ltb-false b 256 q in omega arith)
 
 -- ---- one byte behind the other
 
@@ -137,40 +164,28 @@ found_if₃ true u v n = found_if₂ u v n
 found_if₃ false u v n = refl
 
 -- b is the byte at i, and over 127
-pub record Lead (s : List ℕ) (i b : ℕ) : Type 0 where
-  pub within : i < length s
-  pub first : b ≡ get_or s i 0
-  pub over : 128 ≤ b
-  pub byte : b < 256
-
-pub led : (s : List ℕ) (i b : ℕ) → (i < length s) × (b ≡ get_or s i 0) × (128 ≤ b) → b < 256 → Lead s i b
-led s i b p m = record { within = p.0; first = p.1; over = p.2; byte = m }
+abbrev Lead : List ℕ → ℕ → ℕ → Type 0
+Lead s i b = (i < length s) × (b ≡ get_or s i 0) × (128 ≤ b)
 
 module _ (s : List ℕ) (i b : ℕ) (w : Lead s i b) where
   base : char_length (drop i s) ≡ tried (left_over b) (drop (i + 1) s)
   unfolding utf8_char
   base =
-      ap (λ l. char_length l) (rest-cons s i b w.within (sym w.first)) ∙ first-apart utf8_char refl b (drop (suc i) s)
-      ∙ ap₂ (λ x n. tried x (drop n s)) (left_at b w.over w.byte) (sym (add-one i))
+      ap (λ l. char_length l) (rest-cons s i b w.0 (sym w.1)) ∙ first-apart utf8_char refl b (drop (suc i) s)
+      ∙ ap₂ (λ x n. tried x (drop n s)) (left_at b w.2) (sym (add-one i))
 
-  under-length : b < 0xC2 → char_length (drop i s) ≡ 0
+  under : b < 0xC2 → char_length (drop i s) ≡ 0
   unfolding tried
-  under-length x = base ∙ simp (lt-ltb b 0xC2 x)
+  under x = base ∙ simp (lt-ltb b 0xC2 x)
 
-  pub under : b < 0xC2 → None ≡ char_found (drop i s)
-  under x = ap if_any (sym (under-length x))
-
-  over-length : 0xF4 < b → char_length (drop i s) ≡ 0
+  over : 0xF4 < b → char_length (drop i s) ≡ 0
   unfolding tried
-  over-length x = base ∙ simp (le-ltb b 0xC2 (omega arith), le-ltb b 0xE0 (omega arith), lt-ltb 0xF4 b x)
-
-  pub over : 0xF4 < b → None ≡ char_found (drop i s)
-  over x = ap if_any (sym (over-length x))
+  over x = base ∙ simp (le-ltb b 0xC2 (omega arith), le-ltb b 0xE0 (omega arith), lt-ltb 0xF4 b x)
 
   -- a sequence that is cut off behind its first byte is none
-  cut-length : length s ≤ i + 1 → char_length (drop i s) ≡ 0
+  cut : length s ≤ i + 1 → char_length (drop i s) ≡ 0
   unfolding tried fits
-  cut-length h = base ∙ ap (tried (left_over b)) (drop_of_length-le s h) ∙ go (ltb b 0xC2) (ltb b 0xE0) (ltb 0xF4 b) (ltb b 0xF0)
+  cut h = base ∙ ap (tried (left_over b)) (drop_of_length-le s h) ∙ go (ltb b 0xC2) (ltb b 0xE0) (ltb 0xF4 b) (ltb b 0xF0)
     where
       go : (t u v w : Bool) → tried (cond t [] (cond u ((tail ∷ []) ∷ []) (cond v [] (cond w ((second b ∷ tail ∷ []) ∷ []) ((second b ∷ tail ∷ tail ∷ []) ∷ []))))) [] ≡ 0
       go true u v w = refl
@@ -178,9 +193,6 @@ module _ (s : List ℕ) (i b : ℕ) (w : Lead s i b) where
       go false false true w = refl
       go false false false true = refl
       go false false false false = refl
-
-  pub cut : length s ≤ i + 1 → None ≡ char_found (drop i s)
-  cut h = ap if_any (sym (cut-length h))
 
   -- the bytes behind the first, range by range
   one_more : (g : Range) → 1 ≤ g.least → fits (g ∷ []) (drop (i + 1) s) ≡ (of g (get_or s (i + 1) 0) && true)
@@ -206,7 +218,7 @@ module _ (s : List ℕ) (i b : ℕ) (w : Lead s i b) where
   unfolding tried
   two-length x y = base ∙ simp (le-ltb b 0xC2 x, lt-ltb b 0xE0 y, one_more tail (omega arith))
 
-  pub two : 0xC2 ≤ b → b < 0xE0 → then_some (of tail (get_or s (i + 1) 0)) 2 ≡ char_found (drop i s)
+  two : 0xC2 ≤ b → b < 0xE0 → then_some (of tail (get_or s (i + 1) 0)) 2 ≡ char_found (drop i s)
   two x y = found_if _ 1 ∙ ap if_any (sym (two-length x y))
 
   -- three
@@ -216,7 +228,7 @@ module _ (s : List ℕ) (i b : ℕ) (w : Lead s i b) where
       base ∙ simp (le-ltb b 0xC2 (omega arith), le-ltb b 0xE0 x, le-ltb 0xF4 b (omega arith), lt-ltb b 0xF0 y)
       (ap (λ t. cond t 3 0) (two-more (second b) (second-some b)))
 
-  pub three : 0xE0 ≤ b → b < 0xF0 → then_some (of (second b) (get_or s (i + 1) 0) && of tail (get_or s (i + 2) 0)) 3 ≡ char_found (drop i s)
+  three : 0xE0 ≤ b → b < 0xF0 → then_some (of (second b) (get_or s (i + 1) 0) && of tail (get_or s (i + 2) 0)) 3 ≡ char_found (drop i s)
   three x y = found_if₂ _ _ 2 ∙ ap if_any (sym (three-length x y))
 
   -- four
@@ -227,23 +239,32 @@ module _ (s : List ℕ) (i b : ℕ) (w : Lead s i b) where
       base ∙ simp (le-ltb b 0xC2 (omega arith), le-ltb b 0xE0 (omega arith), le-ltb 0xF4 b y, le-ltb b 0xF0 x)
       (ap (λ t. cond t 4 0) (three-more (second b) (second-some b)))
 
-  pub four : 0xF0 ≤ b → b ≤ 0xF4
+  four : 0xF0 ≤ b → b ≤ 0xF4
       → then_some (of (second b) (get_or s (i + 1) 0) && (of tail (get_or s (i + 2) 0) && of tail (get_or s (i + 3) 0))) 4 ≡ char_found (drop i s)
   four x y = found_if₃ (of (second b) (get_or s (i + 1) 0)) (of tail (get_or s (i + 2) 0)) (of tail (get_or s (i + 3) 0)) 3 ∙ ap if_any (sym (four-length x y))
 
 -- ---- the rows, by the bytes there
 
 module _ (s : List ℕ) (i : ℕ) (h : i < length s) where
-  there : 0xC2 ≤ get_or s i 0 → get_or s i 0 ≤ 0xF4 → Lead s i (get_or s i 0)
-  there x y = record { within = h; first = refl; over = omega arith; byte = omega arith }
+  there : 128 ≤ get_or s i 0 → Lead s i (get_or s i 0)
+  there x = (h, refl, x)
+
+  pub row_under : 128 ≤ get_or s i 0 → get_or s i 0 < 0xC2 → char_found (drop i s) ≡ None
+  row_under x y = ap if_any (under s i (get_or s i 0) (there x) y)
+
+  pub row_over : 0xF4 < get_or s i 0 → char_found (drop i s) ≡ None
+  row_over x = ap if_any (over s i (get_or s i 0) (there (omega arith)) x)
+
+  pub row_cut : 128 ≤ get_or s i 0 → length s ≤ i + 1 → char_found (drop i s) ≡ None
+  row_cut x y = ap if_any (cut s i (get_or s i 0) (there x) y)
 
   pub row_two : 0xC2 ≤ get_or s i 0 → get_or s i 0 < 0xE0 → char_found (drop i s) ≡ then_some (of tail (get_or s (i + 1) 0)) 2
-  row_two x y = sym (two s i (get_or s i 0) (there x (omega arith)) x y)
+  row_two x y = sym (two s i (get_or s i 0) (there (omega arith)) x y)
 
   pub row_three : 0xE0 ≤ get_or s i 0 → get_or s i 0 < 0xF0
       → char_found (drop i s) ≡ then_some (of (second (get_or s i 0)) (get_or s (i + 1) 0) && of tail (get_or s (i + 2) 0)) 3
-  row_three x y = sym (three s i (get_or s i 0) (there (omega arith) (omega arith)) x y)
+  row_three x y = sym (three s i (get_or s i 0) (there (omega arith)) x y)
 
   pub row_four : 0xF0 ≤ get_or s i 0 → get_or s i 0 ≤ 0xF4
       → char_found (drop i s) ≡ then_some (of (second (get_or s i 0)) (get_or s (i + 1) 0) && (of tail (get_or s (i + 2) 0) && of tail (get_or s (i + 3) 0))) 4
-  row_four x y = sym (four s i (get_or s i 0) (there (omega arith) y) x y)
+  row_four x y = sym (four s i (get_or s i 0) (there (omega arith)) x y)

@@ -40,12 +40,12 @@ const BEHIND_THREE: u8 = 0xa0;
 
 const BEHIND_FOUR: u8 = 0x90;
 
-// The first byte of a surrogate, and the most second byte behind it that writes none.
+// The first byte of a surrogate, and the largest second byte behind it that writes none.
 const SURROGATE: u8 = 0xed;
 
 const BEFORE_SURROGATES: u8 = 0x9f;
 
-// The most second byte behind LAST: a larger one would write a number over 10FFFF.
+// The largest second byte behind LAST: a larger one would write a number over 10FFFF.
 const LAST_SECOND: u8 = 0x8f;
 
 // The second bytes of a sequence of three or four whose first is b.
@@ -72,7 +72,9 @@ fn tail(b: u8) -> bool
 // How many bytes the sequence at i has, whose first byte b is over 127: `sequence` for a caller that has looked at the byte.
 // Byte by byte: `peek` gives 0 past the end, which is no tail, so a sequence that is cut off there needs no test of its own. The second byte comes by
 // `get`: by `peek`, Greek letters took 4 percent more instructions.
-#[tactic(auto, using(crate::proofs::Leads::row_two))]
+// It is public for the lexer's loops over comments, which have looked at the byte (crates/lexer/src/trivia.rt says what `sequence` took in one), and so asks
+// for what they know: with no `requires`, i + 1 could overflow.
+#[tactic(auto, using(crate::proofs::Leads::row_under, crate::proofs::Leads::row_two, crate::proofs::Leads::row_over, crate::proofs::Leads::row_cut))]
 pub fn wide(s: &[u8], i: usize, b: u8) -> Option<usize>
     requires { (i < length s.now) × (b ≡ get_or s.now i 0) × (128 ≤ b) }
     ensures { result ≡ char_found (drop i s.now) }
@@ -88,7 +90,9 @@ pub fn wide(s: &[u8], i: usize, b: u8) -> Option<usize>
     }
 }
 
-// How many bytes the sequence at i has, if one stands there: none does at the end of the text, or past it.
+// How many bytes the sequence at i has, if one stands there: none does at the end of the text, or past it. No crate here calls
+// it, since the lexer has looked at the byte and asks `wide`: it stays as a public function that README.md names.
+#[tactic(auto, using(crate::proofs::Founds::past, crate::proofs::Founds::ascii))]
 pub fn sequence(s: &[u8], i: usize) -> Option<usize>
     ensures answer { result ≡ char_found (drop i s.now) }
     ensures law { Told (drop i s.now) (unwrap_or result 0) }

@@ -104,10 +104,16 @@ module _ (e : ℕ) (h : e < 77) where
   entry-pass : (i : ℕ) → T (get_or (entry_tests e (get_or entries e [])) i true)
   entry-pass = each (entry_tests e (get_or entries e [])) (at (λ e w. all (entry_tests e w)) entries [] entries-pass e (omega (arith, entry-count)))
 
-  pub size-at : (get_or places e (0, 0)).1 ≡ length (get_or entries e [])
+  size-at : (get_or places e (0, 0)).1 ≡ length (get_or entries e [])
   size-at = eqb→eq _ _ (entry-pass 0)
 
-  pub start-at : Lies ((get_or places e (0, 0)).0) (get_or entries e [])
+  start-at : Lies ((get_or places e (0, 0)).0) (get_or entries e [])
   start-at =
       let i = leb→le ((get_or places e (0, 0)).0 + length (get_or entries e [])) 359 (entry-pass 1) in
       record { inside = omega (arith, letter-count); spelt = same_true _ _ (is_true _ (entry-pass 2)) }
+
+  pub stands : (get_or places e (0, 0)).0 + (get_or places e (0, 0)).1 ≤ 359
+  stands = omega (arith, start-at.inside, size-at, letter-count)
+
+  pub letters_of : take ((get_or places e (0, 0)).1) (drop ((get_or places e (0, 0)).0) letters) ≡ get_or entries e []
+  letters_of = ap (λ n. take n (drop ((get_or places e (0, 0)).0) letters)) size-at ∙ start-at.spelt

@@ -2,3 +2,4 @@ pub mod Constants
 pub mod Laws
 pub mod Members
 pub mod Right
+pub mod Held

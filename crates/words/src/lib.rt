@@ -36,7 +36,7 @@ impl Table {
     }
 }
 
-// Which word of the table p is: its place in the table. Every word has two bytes or more.
+// Which word of the table p is: its place in the table.
 #[inline(always)]
 pub fn which(table: Table, p: &[u8]) -> Option<u8>
     ensures { result ≡ word_of (words_of table) p.now }

@@ -21,6 +21,7 @@ pub(crate) struct Words {
 }
 
 // The letters of entry e, from where the letters of all words stand. These are a parameter: with the static in their place each goal would spell out all.
+#[tactic(auto, using(crate::proofs::Laws::stands, crate::proofs::Laws::letters_of), unfolding(crate::proofs::Constants::places))]
 fn text_of(bytes: &[u8; LETTERS], e: usize) -> &[u8]
     requires { (bytes.now ≡ letters) × (e < ENTRIES) }
     ensures { result.now ≡ get_or entries e [] }
@@ -54,6 +55,7 @@ impl Words {
 
     // Which word p is, by the only one that it can be.
     #[inline(always)]
+    #[tactic(auto, using(crate::proofs::Held::none_held, crate::proofs::Held::other_length, crate::proofs::Held::spelt))]
     pub(crate) fn which(&self, p: &[u8]) -> Option<u8>
         requires { Finds self.now }
         ensures { result ≡ word_of (listed self.now) p.now }

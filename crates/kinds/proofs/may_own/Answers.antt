@@ -1,4 +1,5 @@
--- The sets of a kind and a class meet where the kind may own the class; a number that names no kind owns nothing.
+-- The sets of a kind and a class meet where the kind may own the class; a number that names no kind owns nothing. The check finds this alone, but where the code
+-- tests otherwise it names this fact only for the answer.
 -- Assumes nothing.
 use Rattle.std.proofs.Common.{arith}
 use borrow.Author.Tests.{tests}

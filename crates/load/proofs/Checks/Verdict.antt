@@ -8,7 +8,7 @@ use Rattle.std.proofs.Math.Nat.{zero-add}
 use Rattle.std.proofs.Math.Dec.{T}
 use Rattle.text.specs.Lists.{has, all, count, span}
 use Rattle.text.specs.Table.{every}
-use Rattle.text.proofs.Table.{first-of, second-of, pair, at}
+use Rattle.text.proofs.Table.{first-of, second-of, pair, at, beq_same}
 use Rattle.own.specs.Tree.{Rec}
 use Rattle.own.specs.Lists.{All, nil, ◌&◌}
 use Rattle.own.specs.Kinds as kind
@@ -22,7 +22,6 @@ use Rattle.load.specs.Children.Table.{kind_cues, cue_kinds}
 use Rattle.load.specs.Children.Cue as cue
 use Rattle.load.specs.Children.Cue.{cues, cue, rep}
 use Rattle.load.specs.Children.Cues.{even}
-use Rattle.load.proofs.Children.Cues.{beq_same}
 use Rattle.load.proofs.Children.Even.{even-fits}
 use Rattle.load.specs.Children.Run.{run, ended}
 use Rattle.load.proofs.Children.Run.{cue-below}

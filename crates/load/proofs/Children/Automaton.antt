@@ -16,5 +16,8 @@ use Rattle.load.specs.Children.Automaton.{entry, reached, build, residuals, foun
 
 -- The table is right: one computation.
 pub table-right : T (all right residuals)
-unfolding right residuals build reached found entry even_in even named kind_cues cue_kinds cue_lows reaches states steps all some has count span number is_bound fits blank dead then either is_mark is_part after forms all_forms bare_part bare_shape laid part_label label first second equal same joined chain within added choice tidy
+unfolding
+    right residuals build reached found entry even_in even named kind_cues cue_kinds cue_lows reaches states steps all some has count span number
+    is_bound fits blank dead then either is_mark is_part after forms all_forms bare_part bare_shape laid part_label label first second equal same
+    joined chain within added choice tidy
 table-right = tt

@@ -81,7 +81,10 @@ form_right f =
     && all (λ i. ltb i (lows_of f.kind) && found (state_of f.kind i) (tidy (laid f))) (lows_for f.fields)
 
 pub forms-right : T (all form_right all_forms)
-unfolding form_right bits asked lows_for asked_of lows_of first_of state_of heads found residuals build reached reaches states cue_kinds cue_lows all some has count span number is_bound fits blank dead then either is_mark is_part after forms all_forms bare_part bare_shape laid part_label label first second equal same joined chain within added choice tidy
+unfolding
+    form_right bits asked lows_for asked_of lows_of first_of state_of heads found residuals build reached reaches states cue_kinds cue_lows all some
+    has count span number is_bound fits blank dead then either is_mark is_part after forms all_forms bare_part bare_shape laid part_label label first
+    second equal same joined chain within added choice tidy
 forms-right = tt
 
 -- and each state of a kind but the dead one is that of a form that has the low.
@@ -92,7 +95,10 @@ unfoldable pub kind_right : ℕ → Bool
 kind_right k = all (λ i. eqb (state_of k i) 0 || some (low_right k i) (forms_for k)) (count (lows_of k) 0)
 
 pub kinds-right : T (all kind_right (count kinds_end 0))
-unfolding kind_right low_right bits asked lows_for asked_of lows_of first_of state_of heads found residuals build reached reaches states cue_kinds cue_lows all some has count span number is_bound fits blank dead then either is_mark is_part after forms all_forms forms_for bare_part bare_shape laid part_label label first second equal same joined chain within added choice tidy
+unfolding
+    kind_right low_right bits asked lows_for asked_of lows_of first_of state_of heads found residuals build reached reaches states cue_kinds cue_lows
+    all some has count span number is_bound fits blank dead then either is_mark is_part after forms all_forms forms_for bare_part bare_shape laid
+    part_label label first second equal same joined chain within added choice tidy
 kinds-right = tt
 
 -- A form that asks no more than low and high are has the state that the children begin in,

@@ -2,13 +2,12 @@
 -- Assumes nothing.
 use Rattle.std.specs.Prelude.{Bool, true, false, ◌&&◌, cond, List, [], ◌∷◌, ◌≡◌, refl, ℕ, zero, suc, ◌+◌, ◌<◌, ◌≤◌, T, eqb, ltb, leb, get_or, length}
 use Rattle.std.specs.Bool.{beq}
-use Rattle.std.specs.Cmp.{booleans_Decides}
 use Rattle.std.proofs.Common.{sym, ap, ◌∙◌, subst, arith, eqb-true, ltb-true, ltb-false, ne_eqb, lt-ltb, eqb→eq, ltb→lt, leb→le}
 use Rattle.text.specs.Lists.{has, all, some, count, span}
 use Rattle.text.proofs.ListLaws.{all-has, all-count}
 use Rattle.text.proofs.Same.{differ}
 use Rattle.text.specs.Table.{every}
-use Rattle.text.proofs.Table.{is_true, is_false, first-of, second-of, at}
+use Rattle.text.proofs.Table.{is_true, is_false, beq_same, first-of, second-of, at}
 use Rattle.num.specs.Bound.{is_bound}
 use Rattle.own.specs.Kinds as kind
 use Rattle.own.specs.Arms as arm
@@ -18,10 +17,6 @@ use Rattle.load.specs.Children.Table.{kind_cues, cue_kinds, cue_lows}
 use Rattle.load.specs.Children.Cue as cue
 use Rattle.load.specs.Children.Cue.{place_from, kind_cue, arm_cue, number_cue, cue}
 use Rattle.load.specs.Children.Cues.{kinds_end, kind_of, named, Stand}
-
--- two tests that answer alike
-pub beq_same : (a b : Bool) → T (beq a b) → a ≡ b
-beq_same a b t = (booleans_Decides a b).0 (is_true (beq a b) t)
 
 -- past the last of a list of numbers
 pub has-none : (l : List ℕ) (n x : ℕ) → T (all (λ m. ltb m n) l) → n ≤ x → has l x ≡ false

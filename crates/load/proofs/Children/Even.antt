@@ -7,7 +7,7 @@ use Rattle.std.proofs.Common.{◌∙◌, eqb-true}
 use Rattle.std.proofs.Math.Dec.{T, eqb, ltb}
 use Rattle.text.specs.Lists.{has, all, count, span}
 use Rattle.text.specs.Table.{every}
-use Rattle.text.proofs.Table.{not-true, first-of, second-of}
+use Rattle.text.proofs.Table.{not-true, first-of, second-of, beq_same}
 use Rattle.num.specs.Bound.{is_bound}
 use Rattle.own.specs.Law.{child}
 use Rattle.own.specs.Kinds as kind
@@ -18,7 +18,7 @@ use Rattle.load.specs.Children.Table.{kind_cues, cue_kinds, cue_lows}
 use Rattle.load.specs.Children.Cue as cue
 use Rattle.load.specs.Children.Cue.{place_from, kind_cue, arm_cue, number_cue, refined, cue, rep}
 use Rattle.load.specs.Children.Cues.{kinds_end, even, even_in}
-use Rattle.load.proofs.Children.Cues.{beq_same, has-none, by_kind, arm-stands, number-kind, number-tests, arm-told, number-told}
+use Rattle.load.proofs.Children.Cues.{has-none, by_kind, arm-stands, number-kind, number-tests, arm-told, number-told}
 
 abbrev kind_of : ℕ → ℕ
 kind_of c = get_or cue_kinds c 0

@@ -6,7 +6,7 @@ use Rattle.std.proofs.Common.{sym, subst, arith, eqb→eq, ltb→lt, leb→le}
 use Rattle.text.specs.Lists.{all, some, count}
 use Rattle.text.specs.Same.{same}
 use Rattle.text.proofs.ListLaws.{some-sound, all-some, from_some, all-count}
-use Rattle.text.proofs.Table.{first-of, second-of}
+use Rattle.text.proofs.Table.{first-of, second-of, beq_same}
 use Rattle.num.specs.Bound.{is_bound}
 use Rattle.own.specs.Tree.{Rec}
 use Rattle.own.specs.Arms as arm
@@ -20,7 +20,7 @@ use Rattle.load.proofs.Children.Tidy.{equal-sound, none_of, tidy-in, tidy-out}
 use Rattle.load.specs.Children.Cue as cue
 use Rattle.load.specs.Children.Cue.{cues, rep, kind_cue, arm_cue, number_cue, refined, cue}
 use Rattle.load.specs.Children.Cues.{even_in}
-use Rattle.load.proofs.Children.Cues.{beq_same, by_kind}
+use Rattle.load.proofs.Children.Cues.{by_kind}
 use Rattle.load.proofs.Children.Even.{even-after}
 use Rattle.load.specs.Children.Automaton.{entry, Residual, reached, build, residuals, found, right}
 use Rattle.load.proofs.Children.Automaton.{table-right}

@@ -38,6 +38,10 @@ records-long ws text = length-map (lines_read ws text) rec_of ∙ lines-long ws 
 pub records-many : (l : Listing) → length (its_records l) ≡ length (its_lines l)
 records-many l = length-map (its_lines l) rec_of
 
+-- so the number of lines is that of the records too,
+pub records-counted : (l : Listing) {n : ℕ} → n ≡ length (its_lines l) → n ≡ length (its_records l)
+records-counted l e = e ∙ sym (records-many l)
+
 -- each of its line.
 pub line-at : (ws text : List ℕ) (j : ℕ) → j < length text / wide ws → get_or (lines_read ws text) j [] ≡ values_of ws (drop (wide ws * j) text)
 unfolding lines_read

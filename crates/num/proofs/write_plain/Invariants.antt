@@ -5,4 +5,4 @@ use Rattle.num.proofs.Fill.{Filled}
 use Rattle.num.proofs.write_plain.Given as goal
 
 abbrev pub invariant-loop-b : goal.invariant-loop-b
-invariant-loop-b l = Filled l.run l.out l.b-index l.n (length l.initial.out)
+invariant-loop-b l = Filled l.run l.out l.b-index l.n (length l.fn.out)

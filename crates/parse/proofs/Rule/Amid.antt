@@ -96,31 +96,45 @@ pub record Amid (x : Text) (K : ℕ) (N : ℕ → Type 0) (full left : List Sym)
   pub sorted : sorts (raw x st.at pre) ≡ w
   pub marked : marks (raw x st.at pre) ≡ ms
 
+-- The same, with the records M laid.
+pub record Grown (x : Text) (K : ℕ) (N : ℕ → Type 0) (full left : List Sym) (st : State) (l : List ℕ) (w : List Sort) (ms : List Tok) (m : ℕ) (st₁ : State) (l₁ : List ℕ) (M : Items) : Type 0 where
+  pub amid : Amid x K N full left st l w ms m st₁ l₁
+  pub is : amid.L ≡ M
+
 pub starts : {x : Text} (K : ℕ) (N : ℕ → Type 0) (full : List Sym) {st : State} (l : List ℕ) → Stands x st → Amid x K N full full st l [] [] 0 st l
 unfolding raw record_items arranged
 starts K N full l h =
     record { pre = shape.nil; L = own.none; on = λ r j k. k; off = λ τ p k. k; lays = laid_nil _ l h; roles = λ n k. refl; sorted = refl; marked = refl }
 
 module _ {x : Text} {K : ℕ} {N : ℕ → Type 0} {full : List Sym} {st : State} {l : List ℕ} {w : List Sort} {ms : List Tok} {m : ℕ} {st₁ : State} {l₁ : List ℕ} where
-  -- Symbols that a function read,
-  pub went_on : (σ left : List Sym) {I : Info} {st₂ : State} {l₂ : List ℕ} {a b : ℕ} → Amid x K N full (σ ++ left) st l w ms m st₁ l₁ → (q : Went x σ as_items I st₁ l₁ st₂ l₂ a b)
-      → ((n : ℕ) → N n → arranged K n (raw x st₁.at q.items) ≡ q.L)
-      → Amid x K N full left st l (w ++ sorts (raw x st₁.at q.items)) (ms ++ marks (raw x st₁.at q.items)) (m + q.m) st₂ l₂
-  went_on σ left {st₂ = st₂} d q f =
+  -- Symbols that a function read, made of W with the tokens T,
+  pub grows : (σ left : List Sym) {I : Info} {st₂ : State} {l₂ : List ℕ} {a b : ℕ} (d : Amid x K N full (σ ++ left) st l w ms m st₁ l₁) (q : Went x σ as_items I st₁ l₁ st₂ l₂ a b)
+      → ((n : ℕ) → N n → arranged K n (raw x st₁.at q.items) ≡ q.L) → {W : List Sort} {T : List Tok} {n : ℕ}
+      → w ++ sorts (raw x st₁.at q.items) ≡ W → ms ++ marks (raw x st₁.at q.items) ≡ T → m + q.m ≡ n
+      → Grown x K N full left st l W T n st₂ l₂ (joined d.L q.L)
+  grows σ left {st₂ = st₂} {l₂ = l₂} d q f {W} {T} {n} g h i =
       let e = d.lays.ends in
       let s₂ = classes x in
       let at_is : raw x st.at (join d.pre q.items) ≡ joined (raw x st.at d.pre) (raw x st₁.at q.items) =
       raw-join x st.at d.pre q.items ∙ ap (λ i. joined (raw x st.at d.pre) (raw x i q.items)) (sym e) in
       record {
-        pre = join d.pre q.items;
-        L = joined d.L q.L;
-        on = λ r j h. subst (λ y. Read x full st.at y j) (sym (join-join d.pre q.items r)) (d.on (join q.items r) j (reads-reads shapes means table s₂ q.reads h));
-        off = λ τ p h. d.off τ p (subst (λ y. Stuck x y st₁.at p) (sym (append_assoc σ left τ)) (reads-sticks shapes means table s₂ q.reads h));
-        lays = laid-join d.lays q.lays;
-        roles = λ n h. ap (arranged K n) at_is ∙ arranged-joined K n (raw x st.at d.pre) (raw x st₁.at q.items) ∙ ap₂ joined (d.roles n h) (f n h);
-        sorted = ap sorts at_is ∙ sorts-joined (raw x st.at d.pre) (raw x st₁.at q.items) ∙ ap (λ y. y ++ sorts (raw x st₁.at q.items)) d.sorted;
-        marked = ap marks at_is ∙ marks-joined (raw x st.at d.pre) (raw x st₁.at q.items) ∙ ap (λ y. y ++ marks (raw x st₁.at q.items)) d.marked;
+        amid = record {
+          pre = join d.pre q.items;
+          L = joined d.L q.L;
+          on = λ r j h. subst (λ y. Read x full st.at y j) (sym (join-join d.pre q.items r)) (d.on (join q.items r) j (reads-reads shapes means table s₂ q.reads h));
+          off = λ τ p h. d.off τ p (subst (λ y. Stuck x y st₁.at p) (sym (append_assoc σ left τ)) (reads-sticks shapes means table s₂ q.reads h));
+          lays = subst (λ (k : ℕ). Laid x st l (join d.pre q.items) (joined d.L q.L) k st₂ l₂) i (laid-join d.lays q.lays);
+          roles = λ n h. ap (arranged K n) at_is ∙ arranged-joined K n (raw x st.at d.pre) (raw x st₁.at q.items) ∙ ap₂ joined (d.roles n h) (f n h);
+          sorted = ap sorts at_is ∙ sorts-joined (raw x st.at d.pre) (raw x st₁.at q.items) ∙ ap (λ y. y ++ sorts (raw x st₁.at q.items)) d.sorted ∙ g;
+          marked = ap marks at_is ∙ marks-joined (raw x st.at d.pre) (raw x st₁.at q.items) ∙ ap (λ y. y ++ marks (raw x st₁.at q.items)) d.marked ∙ h;
+        };
+        is = refl;
       }
+
+  pub went_on : (σ left : List Sym) {I : Info} {st₂ : State} {l₂ : List ℕ} {a b : ℕ} → Amid x K N full (σ ++ left) st l w ms m st₁ l₁ → (q : Went x σ as_items I st₁ l₁ st₂ l₂ a b)
+      → ((n : ℕ) → N n → arranged K n (raw x st₁.at q.items) ≡ q.L)
+      → Amid x K N full left st l (w ++ sorts (raw x st₁.at q.items)) (ms ++ marks (raw x st₁.at q.items)) (m + q.m) st₂ l₂
+  went_on σ left d q f = (grows σ left d q f refl refl refl).amid
 
   -- or that it refused.
   pub passed_on : (σ left : List Sym) {I : Info} {l₂ : List ℕ} {r : Step} {σ' : List Sym} {wrap wrap' : shape.Items → shape.Items} {J : Info} {st₀ : State} {l₀ l' : List ℕ} → Amid x K N full (σ ++ left) st l w ms m st₁ l₁
@@ -141,18 +155,25 @@ module _ {x : Text} {K : ℕ} {N : ℕ → Type 0} {full : List Sym} {st : State
   then-passed {s} {left} d k f p = passed_on (s ∷ []) left d k f p
 
   -- A nonterminal that is no node is replaced by what the table has for the next token.
+  pub grown-turns : {A : ℕ} {left : List Sym} (rhs : List Sym) (d : Amid x K N full (nt A ∷ left) st l w ms m st₁ l₁) → sort_of (ex means (nt A)) ≡ shape.flat → expand table A (get_or (classes x) st₁.at 0) ≡ some rhs
+      → Grown x K N full (rhs ++ left) st l w ms m st₁ l₁ d.L
+  grown-turns rhs d f e = record {
+    amid = record {
+      pre = d.pre;
+      L = d.L;
+      on = λ r j h. d.on r j (n-flat f e h);
+      off = λ τ p h. d.off τ p (k_in e (rw append_assoc at h));
+      lays = d.lays;
+      roles = d.roles;
+      sorted = d.sorted;
+      marked = d.marked;
+    };
+    is = refl;
+  }
+
   pub then_turns : {A : ℕ} {left : List Sym} (rhs : List Sym) → Amid x K N full (nt A ∷ left) st l w ms m st₁ l₁ → sort_of (ex means (nt A)) ≡ shape.flat → expand table A (get_or (classes x) st₁.at 0) ≡ some rhs
       → Amid x K N full (rhs ++ left) st l w ms m st₁ l₁
-  then_turns rhs d f e = record {
-    pre = d.pre;
-    L = d.L;
-    on = λ r j h. d.on r j (n-flat f e h);
-    off = λ τ p h. d.off τ p (k_in e (rw append_assoc at h));
-    lays = d.lays;
-    roles = d.roles;
-    sorted = d.sorted;
-    marked = d.marked;
-  }
+  then_turns rhs d f e = (grown-turns rhs d f e).amid
 
 -- all of it was read
 pub done : {x : Text} {K : ℕ} {N : ℕ → Type 0} {full : List Sym} {st : State} {l : List ℕ} {w : List Sort} {ms : List Tok} {m : ℕ} {st₁ : State} {l₁ : List ℕ}

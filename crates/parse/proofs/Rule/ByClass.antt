@@ -1,6 +1,6 @@
 -- Laws by a test that antt computes over the classes, and past them: no row of grammar's table has a case there.
 -- Assumes nothing.
-use Rattle.std.proofs.Common.{◌≡◌, ℕ, zero, suc, ◌+◌, ◌<◌, ◌≤◌, Bool, true, false, not, ◌&&◌, ◌||◌, T, eqb, ltb, List, [], ◌∷◌, get_or, sym, refl, ◌∙◌, subst, arith, eqb→eq, ltb→lt, ltb-false, ltb-true, eq-eqb, ne_eqb}
+use Rattle.std.proofs.Common.{◌≡◌, ℕ, zero, suc, ◌+◌, ◌<◌, ◌≤◌, Bool, true, false, not, ◌&&◌, ◌||◌, T, eqb, ltb, ◌⊎◌, inl, inr, List, [], ◌∷◌, get_or, sym, refl, ◌∙◌, subst, arith, eqb→eq, ltb→lt, ltb-false, ltb-true, eq-eqb, ne_eqb}
 use Rattle.text.proofs.Same.{differ}
 use Rattle.text.proofs.Table.{first-of, second-of, implied}
 use Rattle.text.specs.Lists.{has}
@@ -46,6 +46,18 @@ where-passed f g t past c h = go (ltb c past_classes) refl
     go : (b : Bool) → ltb c past_classes ≡ b → T (f c)
     go true e = implied (g c) (f c) (sweep (λ c. not (g c) || f c) t c (ltb-true c past_classes e)) h
     go false e = past c (ltb-false c past_classes e) h
+
+-- Where f does not pass g does, by one test at the classes, and past them.
+pub either-passed : (f g : ℕ → Bool) → T (run (λ c. f c || g c) past_classes 0) → ((c : ℕ) → past_classes ≤ c → T (g c)) → (c : ℕ) → T (f c) ⊎ T (g c)
+either-passed f g t past c = go (ltb c past_classes) refl
+  where
+    split : (a b : Bool) → T (a || b) → T a ⊎ T b
+    split true b u = inl tt
+    split false b u = inr u
+
+    go : (b : Bool) → ltb c past_classes ≡ b → T (f c) ⊎ T (g c)
+    go true e = split (f c) (g c) (sweep (λ c. f c || g c) t c (ltb-true c past_classes e))
+    go false e = inr (past c (ltb-false c past_classes e))
 
 -- Both tests of a pair pass.
 pub and_both : (a b : Bool) → T (a && b) → T a × T b

@@ -11,17 +11,18 @@ use Rattle.theory.specs.Ebnf.{sort_of}
 use Rattle.theory.specs.Same.{ex}
 use Rattle.theory.specs.Walk.{k_tok}
 use Rattle.own.specs.Tree as own
-use Rattle.own.specs.Tree.{Tok, Items, mark, sub, marks}
+use Rattle.own.specs.Tree.{Tok, Items, mark, marks}
 use Rattle.own.specs.Law.{Sort, word, child, sorts, first_class}
 use Rattle.grammar.specs.Shapes.Tables.{means, table}
 use Rattle.grammar.specs.Records.Records.{aMark, role_of, placed, arranged}
 use Rattle.grammar.specs.Records.Faults.{Fault}
 use Rattle.parse.specs.contracts.Step.{the_type}
-use Rattle.parse.specs.Contract.{Text, classes, tok_at, Read, Stuck, raw, Ready, Moved, Eaten, ate, lacked, Info, as_items, Parsed, stuck, Node}
+use Rattle.parse.specs.Contract.{Text, classes, tok_at, Read, Stuck, Ready, Moved, Eaten, ate, lacked, Info, as_items, Parsed, stuck, Node}
 use Rattle.parse.specs.declared.State.{State}
 use Rattle.parse.specs.declared.Step.{Step}
 use Rattle.parse.specs.declared.Step.TheVariants.{Next}
-use Rattle.parse.proofs.Rule.Amid.{class-at, inside, went, Amid, then-went}
+use Rattle.parse.proofs.Rule.Amid.{class-at, inside, went, Amid, Grown, grows, then_turns}
+use Rattle.parse.proofs.Rule.Lists.{joined}
 use Rattle.parse.proofs.Rule.Steps.{word-went, reads-tok, reads-one}
 use Rattle.parse.proofs.Rule.Closing.{Opened}
 
@@ -74,28 +75,39 @@ module _ {x : Text} {K : ℕ} {N : ℕ → Type 0} {full left : List Sym} {st : 
   onward-ahead d h = omega (arith, d.lays.few, d.lays.sized)
 
 module _ {x : Text} {K : ℕ} {N : ℕ → Type 0} {full left : List Sym} {st : State} {l : List ℕ} {w : List Sort} {ms : List Tok} {m : ℕ} {st₁ : State} {l₁ : List ℕ} where
+  -- A nonterminal is replaced by what the table has for the class of the state.
+  pub turns : {A : ℕ} (rhs : List Sym) → Amid x K N full (nt A ∷ left) st l w ms m st₁ l₁ → sort_of (ex means (nt A)) ≡ shape.flat → expand table A st₁.class ≡ some rhs → Amid x K N full (rhs ++ left) st l w ms m st₁ l₁
+  turns {A} rhs d f e = then_turns rhs d f (ap (expand table A) (sym d.lays.stands.class_is) ∙ e)
+
   class-here : {s : Sym} {c : ℕ} → Amid x K N full (s ∷ left) st l w ms m st₁ l₁ → st₁.class ≡ c → get_or (classes x) st₁.at 0 ≡ c
   class-here d e = sym d.lays.stands.class_is ∙ e
 
   in-there : {s : Sym} {c : ℕ} → Amid x K N full (s ∷ left) st l w ms m st₁ l₁ → st₁.class ≡ c → 0 < c → st₁.at < length x.ts
   in-there d e h = inside x st₁.at h (class-here d e)
 
-  -- the law of a token, from the symbol that stands for it
-  eats-as : {s : Sym} {c : ℕ} {st₂ : State} → Amid x K N full (s ∷ left) st l w ms m st₁ l₁ → st₁.class ≡ c → 0 < c → Moved x st₁ st₂ → role_of K c ≡ aMark
+  -- A token, from the symbol that stands for it.
+  grown-as : {s : Sym} {c : ℕ} {st₂ : State} (d : Amid x K N full (s ∷ left) st l w ms m st₁ l₁) → st₁.class ≡ c → 0 < c → Moved x st₁ st₂ → role_of K c ≡ aMark
       → (st₁.at < length x.ts → get_or (classes x) st₁.at 0 ≡ c → Read x (s ∷ []) st₁.at (shape.word c shape.nil) (st₁.at + 1))
-      → Amid x K N full left st l (w ++ (word c ∷ [])) (ms ++ (tok_at x st₁.at ∷ [])) (m + 1) st₂ l₁
+      → Grown x K N full left st l (w ++ (word c ∷ [])) (ms ++ (tok_at x st₁.at ∷ [])) (m + 1) st₂ l₁ (joined d.L (mark (tok_at x st₁.at) own.none))
   unfolding arranged placed
-  eats-as {s} {c} {st₂} d e h v role k =
+  grown-as {s} {c} {st₂} d e h v role k =
       let i = in-there d e h in
       let f = class-here d e in
       let q = word-went d.lays.stands i v c l₁ (k i f) in
       let t : (tok_at x st₁.at).class ≡ c = sym (class-at x.ts st₁.at) ∙ f in
-      let z = then-went d q (λ n g. ap (arranged K n) q.info.raw_is ∙ ap (λ o. placed o n (tok_at x st₁.at) own.none) (ap (role_of K) t ∙ role) ∙ sym q.info.laid_is) in
-      let e₁ : sorts (raw x st₁.at q.items) ≡ word c ∷ [] = ap sorts q.info.raw_is ∙ ap (λ a. word a ∷ []) t in
-      let e₂ : marks (raw x st₁.at q.items) ≡ tok_at x st₁.at ∷ [] = ap marks q.info.raw_is in
-      subst (λ b. Amid x K N full left st l (w ++ (word c ∷ [])) b (m + 1) st₂ l₁) (ap (λ b. ms ++ b) e₂)
-      (subst (λ a. Amid x K N full left st l a (ms ++ marks (raw x st₁.at q.items)) (m + 1) st₂ l₁) (ap (λ a. w ++ a) e₁)
-      (subst (λ a. Amid x K N full left st l (w ++ sorts (raw x st₁.at q.items)) (ms ++ marks (raw x st₁.at q.items)) (m + a) st₂ l₁) q.info.one z))
+      let z = grows (s ∷ []) left d q (λ n g. ap (arranged K n) q.info.raw_is ∙ ap (λ o. placed o n (tok_at x st₁.at) own.none) (ap (role_of K) t ∙ role) ∙ sym q.info.laid_is)
+      (ap (λ u. w ++ u) (ap sorts q.info.raw_is ∙ ap (λ a. word a ∷ []) t)) (ap (λ u. ms ++ u) (ap marks q.info.raw_is)) (ap (λ u. m + u) q.info.one) in
+      record { amid = z.amid; is = ◌∙◌ {a = z.amid.L} z.is (ap (joined d.L) q.info.laid_is) }
+
+  pub eats-as : {s : Sym} {c : ℕ} {st₂ : State} → Amid x K N full (s ∷ left) st l w ms m st₁ l₁ → st₁.class ≡ c → 0 < c → Moved x st₁ st₂ → role_of K c ≡ aMark
+      → (st₁.at < length x.ts → get_or (classes x) st₁.at 0 ≡ c → Read x (s ∷ []) st₁.at (shape.word c shape.nil) (st₁.at + 1))
+      → Amid x K N full left st l (w ++ (word c ∷ [])) (ms ++ (tok_at x st₁.at ∷ [])) (m + 1) st₂ l₁
+  eats-as d e h v role k = (grown-as d e h v role k).amid
+
+  -- A token whose class the code knows, as a mark.
+  pub grown-eats : {st₂ : State} (c : ℕ) → 0 < c → (d : Amid x K N full (tok c ∷ left) st l w ms m st₁ l₁) → st₁.class ≡ c → Moved x st₁ st₂ → role_of K c ≡ aMark
+      → Grown x K N full left st l (w ++ (word c ∷ [])) (ms ++ (tok_at x st₁.at ∷ [])) (m + 1) st₂ l₁ (joined d.L (mark (tok_at x st₁.at) own.none))
+  grown-eats c h d e v role = grown-as d e h v role (λ i f. reads-tok x c f i)
 
   -- A token whose class the code knows: it goes on to the next one.
   pub advances : {c : ℕ} {st₂ : State} → Amid x K N full (tok c ∷ left) st l w ms m st₁ l₁ → st₁.class ≡ c → 0 < c → Moved x st₁ st₂ → role_of K c ≡ aMark
@@ -123,20 +135,16 @@ module _ {x : Text} {K : ℕ} {N : ℕ → Type 0} {full left : List Sym} {st : 
   pub then-node : {s : Sym} {P : ℕ → Type 0} {st₂ : State} {l₂ : List ℕ} {a b : ℕ} {r : Step} → Amid x K N full (s ∷ left) st l w ms m st₁ l₁ → Parsed x (s ∷ []) as_items (Node P) st₁ l₁ l₂ r → r ≡ Next st₂ a b
       → Noded x K N full left st l w ms m P st₂ l₂
   unfolding arranged
-  then-node {s} {P} {st₂} {l₂} d p e =
+  then-node {s} d p e =
       let q = went e p in
       let i = q.info in
-      let z = then-went d q (λ n g. ap (arranged K n) i.raw_is ∙ sym i.laid_is) in
-      let e₁ : sorts (raw x st₁.at q.items) ≡ child i.kind i.low i.high (first_class (own.yield i.js)) ∷ [] = ap sorts i.raw_is in
-      let e₂ : ms ++ marks (raw x st₁.at q.items) ≡ ms = ap (λ b. ms ++ b) (ap marks i.raw_is) ∙ append-nil ms in
-      let e₃ : m + q.m ≡ m = ap (λ b. m + b) i.none_left ∙ add-zero m in
+      let z = grows (s ∷ []) left d q (λ n g. ap (arranged K n) i.raw_is ∙ sym i.laid_is)
+      (ap (λ u. w ++ u) (ap sorts i.raw_is)) (ap (λ u. ms ++ u) (ap marks i.raw_is) ∙ append-nil ms) (ap (λ u. m + u) i.none_left ∙ add-zero m) in
       record {
         kind = i.kind;
         low = i.low;
         high = i.high;
         first = first_class (own.yield i.js);
         its_kind = i.its_kind;
-        amid = subst (λ c. Amid x K N full left st l (w ++ (child i.kind i.low i.high (first_class (own.yield i.js)) ∷ [])) ms c st₂ l₂) e₃
-            (subst (λ b. Amid x K N full left st l (w ++ (child i.kind i.low i.high (first_class (own.yield i.js)) ∷ [])) b (m + q.m) st₂ l₂) e₂
-            (subst (λ a. Amid x K N full left st l a (ms ++ marks (raw x st₁.at q.items)) (m + q.m) st₂ l₂) (ap (λ a. w ++ a) e₁) z));
+        amid = z.amid;
       }

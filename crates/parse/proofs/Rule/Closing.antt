@@ -36,9 +36,18 @@ pub record Opened (x : Text) (st r : State) (F : Option Fault) : Type 0 where
   pub kept_is : kept r ≡ F
   pub stands : Stands x r
 
+-- The state with a record more stands where it stood.
+pub reserved-class : (a : State) {c : State} → c ≡ reserved a → c.class ≡ a.class
+unfolding reserved
+reserved-class a e = ap (λ (y : State). y.class) e
+
+pub reserved-stands : {x : Text} {a : State} → Stands x a → Stands x (reserved a)
+unfolding reserved
+reserved-stands s = record { within = s.within; class_is = s.class_is; start_is = s.start_is; stop_is = s.stop_is; end_is = s.end_is }
+
 reserved-opens : {x : Text} {st : State} → Stands x st → st.out ≤ countable → Opened x st (reserved st) (kept st)
 unfolding reserved
-reserved-opens s h = record { at_is = refl; class_is = refl; out_is = omega arith; kept_is = refl; stands = record { within = s.within; class_is = s.class_is; start_is = s.start_is; stop_is = s.stop_is; end_is = s.end_is } }
+reserved-opens s h = record { at_is = refl; class_is = refl; out_is = omega arith; kept_is = refl; stands = reserved-stands s }
 
 few-enough : {x : Text} {st : State} → Ready x st → st.out ≤ countable
 few-enough h = omega (arith, h.few, h.short, h.stands.within)

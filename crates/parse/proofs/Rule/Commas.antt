@@ -1,6 +1,6 @@
 -- Parts with commas between them, as a loop reads them.
 -- Assumes nothing.
-use Rattle.std.proofs.Common.{◌≡◌, ℕ, ◌+◌, ◌<◌, ◌≤◌, eqb, List, [], ◌∷◌, ◌++◌, length, sym, refl, ap, ◌∙◌, subst, ap₂, arith}
+use Rattle.std.proofs.Common.{◌≡◌, ℕ, ◌+◌, ◌-◌, ◌<◌, ◌≤◌, eqb, List, [], ◌∷◌, ◌++◌, length, sym, refl, ap, ◌∙◌, subst, ap₂, arith}
 use mathlib.Core.Option.{some}
 use types.Run.{OneOf}
 use denote.Enum.Declared.{tag_of}
@@ -11,8 +11,9 @@ use Rattle.theory.specs.Ebnf as shape
 use Rattle.theory.specs.Ebnf.{sort_of}
 use Rattle.theory.specs.Same.{ex}
 use Rattle.own.specs.Tree as own
-use Rattle.own.specs.Tree.{Tok, Items, mark, sub, marks}
+use Rattle.own.specs.Tree.{Tok, Items, mark, sub}
 use Rattle.own.specs.Law.{Sort, word, child, sorts}
+use Rattle.own.specs.Words.{sizes}
 use Rattle.own.specs.Kinds as kind
 use Rattle.kinds.specs.Families as family
 use Rattle.lexer.specs.Classes as t
@@ -23,9 +24,11 @@ use Rattle.parse.specs.Contract.{Text, tok_at, raw, Ready, Moved, Info, as_items
 use Rattle.parse.specs.declared.State.{State}
 use Rattle.parse.specs.declared.Step.{Step}
 use Rattle.parse.specs.declared.Step.TheVariants.{Next}
-use Rattle.parse.proofs.Rule.Amid.{inside, Amid, starts, then_turns, then-passed, then-went, went, done}
+use Rattle.parse.proofs.choice.Chosen.{Forked, Optionally}
+use Rattle.parse.proofs.Rule.Amid.{inside, Amid, starts, then-passed, went, done}
+use Rattle.parse.proofs.Rule.Told.{Told, then-told}
 use Rattle.parse.proofs.Rule.Marks.{both-marks}
-use Rattle.parse.proofs.Rule.Chain.{Noded, then-node, advances}
+use Rattle.parse.proofs.Rule.Chain.{turns, Noded, then-node, advances}
 
 -- Any number.
 abbrev pub AnyN : ℕ → Type 0
@@ -69,6 +72,11 @@ finish {m = m} d i = record { items = d.pre; L = d.L; m = m; reads = done d; lay
 pub went-ahead : {x : Text} {σ : List Sym} {wrap : shape.Items → shape.Items} {I : Info} {st : State} {l l' : List ℕ} {r : Step} {st' : State} {a b : ℕ} → Parsed x σ wrap I st l l' r → r ≡ Next st' a b → st.at ≤ st'.at
 went-ahead p e = let q = went e p in omega (arith, q.lays.ends)
 
+-- Where a record is laid a token was passed.
+pub laid-ahead : {x : Text} {σ : List Sym} {wrap : shape.Items → shape.Items} {I : Info} {st : State} {l l' : List ℕ} {st' : State} {a b : ℕ} (q : Went x σ wrap I st l st' l' a b)
+    {k low high : ℕ} {js r : Items} → q.L ≡ sub k low high js r → st.at < st'.at
+laid-ahead q e = let s = ap sizes e in omega (arith, q.lays.few, q.lays.sized, s)
+
 -- The rows of a list: L its nonterminal, T what follows an item, A the item; `closes` says at which classes it ends.
 pub record Rows (L T A : ℕ) (closes : ℕ → Type 0) : Type 0 where
   pub flat_list : sort_of (ex means (nt L)) ≡ shape.flat
@@ -77,6 +85,10 @@ pub record Rows (L T A : ℕ) (closes : ℕ → Type 0) : Type 0 where
   pub more : (c : ℕ) → (closes c → ⊥) → expand table L c ≡ some (nt A ∷ nt T ∷ [])
   pub stops : (c : ℕ) → (c ≡ t.Comma → ⊥) → expand table T c ≡ some []
   pub goes : (c : ℕ) → c ≡ t.Comma → expand table T c ≡ some (tok t.Comma ∷ nt L ∷ [])
+
+-- Those of a list that ends at `)`.
+pub rows-to-paren : {L T A : ℕ} → Forked L t.RParen [] (nt A ∷ nt T ∷ []) → Optionally T t.Comma (tok t.Comma ∷ nt L ∷ []) → Rows L T A (λ c. c ≡ t.RParen)
+rows-to-paren y z = record { flat_list = y.flat; flat_tail = z.flat; ends = y.there; more = y.elsewhere; stops = z.elsewhere; goes = z.there }
 
 -- The items up to `here`, each with its comma; Q holds of what they are made of.
 pub record Lined (x : Text) (L : ℕ) (Q : List Sort → Type 0) (st : State) (l : List ℕ) (here : State) (l₁ : List ℕ) : Type 0 where
@@ -95,13 +107,13 @@ module _ {L T A : ℕ} {closes : ℕ → Type 0} (z : Rows L T A closes) {x : Te
     -- The list ends where it closes,
     pub lined-ends : {I : Info} {a b : ℕ} → closes here.class → ((J K : Items) (m : ℕ) → K ≡ J → Only t.Comma (sorts J) → Q (sorts J) → I J K m a b) → Went x (nt L ∷ []) as_items I st l here l₁ a b
     lined-ends c f =
-        let d = then_turns [] v.amid z.flat_list (ap (expand table L) (sym v.amid.lays.stands.class_is) ∙ z.ends here.class c) in
+        let d = turns [] v.amid z.flat_list (z.ends here.class c) in
         finish d (f (raw x st.at d.pre) d.L v.m (sym (d.roles 0 tt) ∙ arranged-zero 0 (raw x st.at d.pre))
         (subst (Only t.Comma) (sym d.sorted) v.commas) (subst Q (sym d.sorted) v.so))
 
     module _ (n : closes here.class → ⊥) where
       into : Amid x 0 AnyN (nt L ∷ []) (nt A ∷ nt T ∷ []) st l v.w v.ms v.m here l₁
-      into = then_turns (nt A ∷ nt T ∷ []) v.amid z.flat_list (ap (expand table L) (sym v.amid.lays.stands.class_is) ∙ z.more here.class n)
+      into = turns (nt A ∷ nt T ∷ []) v.amid z.flat_list (z.more here.class n)
 
       -- or an item is refused,
       pub lined-passed : {P : ℕ → Type 0} {J : Info} {l₂ l' : List ℕ} {r : Step} → OneOf (1 ∷ []) (tag_of the_type r) → Parsed x (nt A ∷ []) as_items (Node P) here l₁ l₂ r → Parsed x (nt L ∷ []) as_items J st l l' r
@@ -119,14 +131,14 @@ module _ {L T A : ℕ} {closes : ℕ → Type 0} (z : Rows L T A closes) {x : Te
             → ((J K : Items) (m : ℕ) → K ≡ J → Only t.Comma (sorts J) → sorts J ≡ v.w ++ (child item.kind item.low item.high item.first ∷ []) → I J K m a' b')
             → Went x (nt L ∷ []) as_items I st l st₂ l₂ a' b'
         lined-last c f =
-            let d = then_turns [] item.amid z.flat_tail (ap (expand table T) (sym item.amid.lays.stands.class_is) ∙ z.stops st₂.class c) in
+            let d = turns [] item.amid z.flat_tail (z.stops st₂.class c) in
             finish d (f (raw x st.at d.pre) d.L v.m (sym (d.roles 0 tt) ∙ arranged-zero 0 (raw x st.at d.pre)) (subst (Only t.Comma) (sym d.sorted) only_item) d.sorted)
 
         -- or it has a comma, and the list goes on.
         pub lined-again : {Q' : List Sort → Type 0} {next : State} → st₂.class ≡ t.Comma → Moved x st₂ next
             → Q' ((v.w ++ (child item.kind item.low item.high item.first ∷ [])) ++ (word t.Comma ∷ [])) → Lined x L Q' st l next l₂
         lined-again c mv q =
-            let d = then_turns (tok t.Comma ∷ nt L ∷ []) item.amid z.flat_tail (ap (expand table T) (sym item.amid.lays.stands.class_is) ∙ z.goes st₂.class c) in
+            let d = turns (tok t.Comma ∷ nt L ∷ []) item.amid z.flat_tail (z.goes st₂.class c) in
             let d₁ = advances d c (omega arith) mv refl-role in
             record {
               w = (v.w ++ (child item.kind item.low item.high item.first ∷ [])) ++ (word t.Comma ∷ []);
@@ -149,22 +161,16 @@ module _ {L T A : ℕ} {closes : ℕ → Type 0} (z : Rows L T A closes) {x : Te
             before-item : here.at ≤ st₂.at
             before-item = went-ahead p e
 
+        -- Less of the text is left then.
+        pub again-fewer : {next : State} → st₂.class ≡ t.Comma → Moved x st₂ next → length x.ts - next.at < length x.ts - here.at
+        again-fewer c mv = let v' = lined-again {Q' = λ w. Unit {0}} c mv tt in omega (arith, again-less c mv, v'.amid.lays.stands.within)
+
 -- A list that a function read.
-pub record Listed (x : Text) (K : ℕ) (N : ℕ → Type 0) (full left : List Sym) (st : State) (l : List ℕ) (w : List Sort) (ms : List Tok) (m : ℕ) (st₂ : State) (l₂ : List ℕ) : Type 0 where
-  pub W : List Sort
-  pub more : List Tok
-  pub k : ℕ
-  pub commas : Only t.Comma W
-  pub amid : Amid x K N full left st l (w ++ W) (ms ++ more) (m + k) st₂ l₂
+abbrev pub Listed : Text → ℕ → (ℕ → Type 0) → List Sym → List Sym → State → List ℕ → List Sort → List Tok → ℕ → State → List ℕ → Type 0
+Listed x K N full left st l w ms m st₂ l₂ = Told x K N full left st l w ms m (Only t.Comma) st₂ l₂
 
 pub then-list : {x : Text} {K : ℕ} {N : ℕ → Type 0} {full left : List Sym} {st : State} {l : List ℕ} {w : List Sort} {ms : List Tok} {m : ℕ} {st₁ : State} {l₁ : List ℕ} {s : Sym} {st₂ : State} {l₂ : List ℕ} {a b : ℕ} {r : Step}
     → Amid x K N full (s ∷ left) st l w ms m st₁ l₁ → Parsed x (s ∷ []) as_items Commas st₁ l₁ l₂ r → r ≡ Next st₂ a b → Listed x K N full left st l w ms m st₂ l₂
 then-list {x} {K} {st₁ = st₁} d p e =
     let q = went e p in
-    record {
-      W = sorts (raw x st₁.at q.items);
-      more = marks (raw x st₁.at q.items);
-      k = q.m;
-      commas = q.info.commas;
-      amid = then-went d q (λ n g. arranged-only K n t.Comma (comma-mark K) (raw x st₁.at q.items) q.info.commas ∙ sym q.info.same);
-    }
+    then-told d q (λ n g. arranged-only K n t.Comma (comma-mark K) (raw x st₁.at q.items) q.info.commas ∙ sym q.info.same) q.info.commas

@@ -93,9 +93,13 @@ number_at {x} {st = st} d =
     ∙ ap₂ (λ (u : List Tok) (v : List Sort). decimal_of (text_of x.draft (get_or u (place t.DecLiteral (words_in v)) blank_tok))) d.marked d.sorted
 
 -- The number of the token where a state stands.
+pub value-here : {x : Text} {st : State} → Stands x st → number_of (part_of x.draft st.start st.stop) ≡ fitted (value_at x st.at)
+unfolding text_of number_of
+value-here {x} s = ap₂ (λ (a b : ℕ). fitted (decimal_of (part_of x.draft a b))) s.start_is s.stop_is
+
 pub value-is : (x : Source) {st : State} {v : Value} → Stands (text x) st → v ≡ number_of (part_of x.draft.now st.start st.stop) → v ≡ fitted (value_at (text x) st.at)
-unfolding text text_of number_of
-value-is x s e = e ∙ ap₂ (λ (a b : ℕ). fitted (decimal_of (part_of x.draft.now a b))) s.start_is s.stop_is
+unfolding text
+value-is x s e = e ∙ value-here s
 
 -- The refusal of a number stands at its token.
 pub judged-at : {outer inner r : State} {own : Option Fault} {n n' : std.Option Refusal} {p p' : ℕ} → Judged outer inner own r → own ≡ fault_at n p → n ≡ n' → p ≡ p' → Judged outer inner (fault_at n' p') r

@@ -1,14 +1,14 @@
 -- Which tokens are marks of the record above them.
 -- Assumes nothing.
-use Rattle.std.proofs.Common.{◌≡◌, ℕ, suc, ◌-◌, ◌<◌, ◌≤◌, Bool, true, false, cond, not, ◌&&◌, ◌||◌, T, eqb, ltb, List, [], ◌∷◌, sym, refl, ◌∙◌, arith, ltb→lt, ltb-false, ltb-true, eq-eqb, ne_eqb}
+use Rattle.std.proofs.Common.{◌≡◌, ℕ, suc, ◌-◌, ◌<◌, ◌≤◌, Bool, true, false, cond, not, ◌&&◌, T, eqb, ltb, List, [], ◌∷◌, sym, refl, ◌∙◌, arith, ltb→lt, eq-eqb, ne_eqb}
 use Rattle.text.proofs.Same.{differ}
-use Rattle.text.proofs.Table.{first-of, second-of, implied, not-true}
+use Rattle.text.proofs.Table.{first-of, second-of, not-true}
 use Rattle.text.specs.Lists.{has}
 use Rattle.kinds.specs.Families as family
 use Rattle.lexer.specs.Classes as t
 use Rattle.grammar.specs.Records.Records.{aMark, asName, as_number, role_of}
 use Rattle.own.specs.Kinds as kind
-use Rattle.parse.proofs.Rule.ByClass.{run, run_at, sweep, has-past, past_classes}
+use Rattle.parse.proofs.Rule.ByClass.{where-passed, and_both, run, run_at, has-past}
 use Rattle.parse.specs.Contract.{callees, opening_class, closing_class}
 use Rattle.parse.specs.declared.token.Brackets.{Brackets}
 use Rattle.parse.specs.declared.token.Brackets.TheVariants as brackets
@@ -92,19 +92,7 @@ a_word c = ltb t.List c && ltb c t.bool
 
 pub word-mark : (c : ℕ) → T (a_word c) → role_of kind.Call c ≡ aMark
 unfolding has
-word-mark c h = go (ltb c past_classes) refl
-  where
-    test : T (run (λ i. not (a_word i) || (not (has callees i) && not (eqb i t.DecLiteral))) past_classes 0)
-    test = tt
-
-    done : T (not (has callees c) && not (eqb c t.DecLiteral)) → role_of kind.Call c ≡ aMark
-    done g =
-        role-by kind.Call c (has t.identifiers c) false false refl (not-true (has callees c) (first-of (not (has callees c)) (not (eqb c t.DecLiteral)) g))
-        (not-true (eqb c t.DecLiteral) (second-of (not (has callees c)) (not (eqb c t.DecLiteral)) g))
-
-    past : past_classes ≤ c → T (not (has callees c) && not (eqb c t.DecLiteral))
-    past g = rw (has-past callees c tt g, ne_eqb c t.DecLiteral (λ e. omega arith)) tt
-
-    go : (b : Bool) → ltb c past_classes ≡ b → role_of kind.Call c ≡ aMark
-    go true e = done (implied (a_word c) (not (has callees c) && not (eqb c t.DecLiteral)) (sweep (λ i. not (a_word i) || (not (has callees i) && not (eqb i t.DecLiteral))) test c (ltb-true c past_classes e)) h)
-    go false e = done (past (ltb-false c past_classes e))
+word-mark c h =
+    let u = where-passed (λ i. not (has callees i) && not (eqb i t.DecLiteral)) a_word tt (λ c g u. rw (has-past callees c tt g, ne_eqb c t.DecLiteral (λ e. omega arith)) tt) c h in
+    let p = and_both (not (has callees c)) (not (eqb c t.DecLiteral)) u in
+    role-by kind.Call c (has t.identifiers c) false false refl (not-true (has callees c) p.0) (not-true (eqb c t.DecLiteral) p.1)

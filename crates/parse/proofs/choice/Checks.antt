@@ -1,6 +1,7 @@
 -- The constants of src/choice.rt say what grammar's table and the lists of names say, class by class.
 -- Assumes nothing.
-use Rattle.std.proofs.Common.{◌≡◌, ℕ, cond, ◌<◌, ◌≤◌, Bool, true, false, T, eqb, ltb, List, length, get_or, sym, refl, arith, eqb→eq, ltb-false, ltb-true}
+use Rattle.std.proofs.Common.{◌≡◌, ℕ, cond, ◌∙◌, ◌<◌, ◌≤◌, Bool, true, false, T, eqb, ltb, List, length, get_or, sym, refl, arith, eqb→eq, ltb-false, ltb-true}
+use Rattle.text.specs.Table.{every}
 use Rattle.text.proofs.Table.{table_at}
 use Rattle.text.specs.Lists.{has}
 use Rattle.lexer.specs.Classes as t
@@ -20,42 +21,6 @@ many = length t.type_names
 named : (f : ℕ → ℕ) (v : ℕ) → T (run (λ c. eqb v (f c)) many t.bool) → (c : ℕ) → t.bool ≤ c → c < past_classes → v ≡ f c
 named f v u c l h = eqb→eq v (f c) (run_at (λ c. eqb v (f c)) many t.bool c u l (omega arith))
 
-pub type_at : (c : ℕ) → c < t.bool → get_or type_choices c 0 ≡ choose table n-type c
-unfolding type_choices choose row look table
-type_at = table_at (choose table n-type) type_choices t.bool refl tt
-
-pub type-named : (c : ℕ) → t.bool ≤ c → c < past_classes → choice.NamedType ≡ choose table n-type c
-unfolding choose row look table
-type-named = named (choose table n-type) choice.NamedType tt
-
-pub type-past : (c : ℕ) → past_classes ≤ c → 0 ≡ choose table n-type c
-unfolding row table
-type-past c h = sym (beyond n-type c h)
-
-pub pattern-at : (c : ℕ) → c < t.bool → get_or pattern_choices c 0 ≡ choose table n-pattern c
-unfolding pattern_choices choose row look table
-pattern-at = table_at (choose table n-pattern) pattern_choices t.bool refl tt
-
-pub pattern-named : (c : ℕ) → t.bool ≤ c → c < past_classes → choice.NamePattern ≡ choose table n-pattern c
-unfolding choose row look table
-pattern-named = named (choose table n-pattern) choice.NamePattern tt
-
-pub pattern-past : (c : ℕ) → past_classes ≤ c → 0 ≡ choose table n-pattern c
-unfolding row table
-pattern-past c h = sym (beyond n-pattern c h)
-
-pub single-at : (c : ℕ) → c < t.bool → get_or single_choices c 0 ≡ choose table n-single c
-unfolding single_choices choose row look table
-single-at = table_at (choose table n-single) single_choices t.bool refl tt
-
-pub single-named : (c : ℕ) → t.bool ≤ c → c < past_classes → choice.Named ≡ choose table n-single c
-unfolding choose row look table
-single-named = named (choose table n-single) choice.Named tt
-
-pub single-past : (c : ℕ) → past_classes ≤ c → 0 ≡ choose table n-single c
-unfolding row table
-single-past c h = sym (beyond n-single c h)
-
 pub name-at : (c : ℕ) → c < t.bool → get_or name_choices c 0 ≡ name_sort c
 unfolding name_choices name_sort has
 name-at = table_at name_sort name_choices t.bool refl tt
@@ -67,18 +32,6 @@ name-named = named (name_sort) choice.FunctionName tt
 pub name-past : (c : ℕ) → past_classes ≤ c → 0 ≡ name_sort c
 unfolding name_sort
 name-past c h = rw (has-past t.function_names c tt h, has-past t.identifiers c tt h) refl
-
-pub alias-at : (c : ℕ) → c < t.bool → get_or alias_choices c 0 ≡ choose table n-alias_name c
-unfolding alias_choices choose row look table
-alias-at = table_at (choose table n-alias_name) alias_choices t.bool refl tt
-
-pub alias-named : (c : ℕ) → t.bool ≤ c → c < past_classes → choice.Absent ≡ choose table n-alias_name c
-unfolding choose row look table
-alias-named = named (choose table n-alias_name) choice.Absent tt
-
-pub no-alias : (c : ℕ) → past_classes ≤ c → choice.Absent ≡ choose table n-alias_name c
-unfolding row table
-no-alias c h = sym (beyond n-alias_name c h)
 
 pub head_at : (c : ℕ) → c < t.bool → get_or head_choices c 0 ≡ head_sort c
 unfolding head_choices head_sort choose row look table
@@ -96,7 +49,7 @@ pub head-past : (c : ℕ) → past_classes ≤ c → 0 ≡ head_sort c
 unfolding head_sort
 head-past c h = rw (no_arm c h) refl
 
--- What `entry` gives is what f gives, where the list, the names of types and what is past them do.
+-- What `Choices::at` gives is what f gives, where the list, the names of types and what is past them do.
 pub entry-is : (f : ℕ → ℕ) (l : List ℕ) (k : ℕ) → ((c : ℕ) → c < t.bool → get_or l c 0 ≡ f c) → ((c : ℕ) → t.bool ≤ c → c < past_classes → k ≡ f c) → ((c : ℕ) → past_classes ≤ c → 0 ≡ f c)
     → (c : ℕ) → entry_in l c k ≡ f c
 unfolding entry_in
@@ -106,3 +59,23 @@ entry-is f l k listed alike past c = go (ltb c t.bool) (ltb c past_classes) refl
     go true b p q = listed c (ltb-true c t.bool p)
     go false true p q = alike c (ltb-false c t.bool p) (ltb-true c past_classes q)
     go false false p q = past c (ltb-false c past_classes q)
+
+-- Where f is what the table chooses for A, one test of each part says so.
+chosen-is : (A : ℕ) (l : List ℕ) (k : ℕ) → length l ≡ t.bool → T (every (λ n x. eqb x (choose table A n)) 0 l) → T (run (λ c. eqb k (choose table A c)) many t.bool) → (row table A).other ≡ 0 → (c : ℕ) → entry_in l c k ≡ choose table A c
+chosen-is A l k n u v o = entry-is (choose table A) l k (table_at (choose table A) l t.bool n u) (named (choose table A) k v) (λ c h. sym (beyond A c h ∙ o))
+
+pub type-entry : (c : ℕ) → entry_in type_choices c choice.NamedType ≡ choose table n-type c
+unfolding type_choices choose row look table
+type-entry = chosen-is n-type type_choices choice.NamedType refl tt tt refl
+
+pub pattern-entry : (c : ℕ) → entry_in pattern_choices c choice.NamePattern ≡ choose table n-pattern c
+unfolding pattern_choices choose row look table
+pattern-entry = chosen-is n-pattern pattern_choices choice.NamePattern refl tt tt refl
+
+pub single-entry : (c : ℕ) → entry_in single_choices c choice.Named ≡ choose table n-single c
+unfolding single_choices choose row look table
+single-entry = chosen-is n-single single_choices choice.Named refl tt tt refl
+
+pub alias-entry : (c : ℕ) → entry_in alias_choices c choice.Absent ≡ choose table n-alias_name c
+unfolding alias_choices choose row look table
+alias-entry = chosen-is n-alias_name alias_choices choice.Absent refl tt tt refl

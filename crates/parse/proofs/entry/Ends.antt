@@ -1,7 +1,6 @@
 -- What the entry's small functions say: whether there are too many tokens, the first state, and what the last one says.
 -- Assumes nothing.
-use Rattle.std.proofs.Common.{◌≡◌, ℕ, zero, suc, ◌*◌, ◌<◌, ◌≤◌, false, ltb, List, [], ◌∷◌, length, take, drop, sym, refl, ap, ◌∙◌, subst, arith, ltb-false, leb-false}
-use Rattle.std.specs.Simd.{first_chunks}
+use Rattle.std.proofs.Common.{◌≡◌, ℕ, ◌*◌, ◌<◌, ◌≤◌, Bool, false, ltb, List, [], ◌∷◌, length, sym, refl, ap, ◌∙◌, subst, arith, ltb-false, leb-false}
 use Rattle.std.proofs.lemmas.Bool.{or_parts}
 use Rattle.text.specs.Widths.{tok_wide}
 use Rattle.std.specs.Prelude.{None}
@@ -16,15 +15,9 @@ use Rattle.parse.specs.declared.State.{State}
 use Rattle.parse.specs.declared.Step.{Step}
 use Rattle.parse.proofs.Rule.Amid.{class-at}
 
-pub few-tokens : (most n tw : ℕ) → too_many most n tw ≡ false → (n ≤ most) × (tok_wide * n ≤ tw)
+pub few-tokens : {b : Bool} (most n tw : ℕ) → b ≡ too_many most n tw → b ≡ false → (n ≤ most) × (tok_wide * n ≤ tw)
 unfolding too_many
-few-tokens most n tw e = let h = or_parts (ltb most n) (ltb tw (tok_wide * n)) e in (ltb-false most n h.0, ltb-false tw (tok_wide * n) h.1)
-
--- The first rows of so many words are those of the first words.
-pub rows-taken : (n k : ℕ) (w : List ℕ) → n ≤ k → take n (first_chunks tok_wide k w) ≡ first_chunks tok_wide n w
-rows-taken zero k w h = refl
-rows-taken (suc n) zero w h = absurd (omega arith)
-rows-taken (suc n) (suc k) w h = ap (λ (vs : List (List ℕ)). take tok_wide w ∷ vs) (rows-taken n k (drop tok_wide w) (omega arith))
+few-tokens most n tw e f = let h = or_parts (ltb most n) (ltb tw (tok_wide * n)) (sym e ∙ f) in (ltb-false most n h.0, ltb-false tw (tok_wide * n) h.1)
 
 -- The first state.
 pub starts-at : (x : Text) {c b s : ℕ} → Gives (record { class = c; start = b; stop = s }) (tok_at x 0)
@@ -48,14 +41,14 @@ starts-ready s h = record { stands = s.stands; short = h; few = omega (arith, s.
 
 -- A file that is too long, or not.
 module _ {f : ReadAs} (len : ℕ) where
-  pub short-file : f ≡ File → too_long (entry_of f) len ≡ false → len < u32_count
+  pub short_file : f ≡ File → too_long (entry_of f) len ≡ false → len < u32_count
   unfolding too_long
-  short-file e g = leb-false u32_count len (ap (λ (b : ReadAs). too_long (entry_of b) len) (sym e) ∙ g)
+  short_file e g = leb-false u32_count len (ap (λ (b : ReadAs). too_long (entry_of b) len) (sym e) ∙ g)
 
 -- What is read at each entry.
 module _ {x : Text} {len : ℕ} {st : State} {l l' : List ℕ} {r : Step} {f : ReadAs} where
-  pub at-file : f ≡ File → FileRead x len st l l' r → WholeRead x len st l l' r (entry_of f)
-  at-file e p = subst (λ b. WholeRead x len st l l' r (entry_of b)) (sym e) (all_read p)
+  pub at_file : f ≡ File → FileRead x len st l l' r → WholeRead x len st l l' r (entry_of f)
+  at_file e p = subst (λ b. WholeRead x len st l l' r (entry_of b)) (sym e) (all_read p)
 
-  pub at-function : f ≡ Function → Parsed x (nt n-function ∷ []) as_items (Node FunctionKind) st l l' r → WholeRead x len st l l' r (entry_of f)
-  at-function e p = subst (λ b. WholeRead x len st l l' r (entry_of b)) (sym e) (one_read p)
+  pub at_function : f ≡ Function → Parsed x (nt n-function ∷ []) as_items (Node FunctionKind) st l l' r → WholeRead x len st l l' r (entry_of f)
+  at_function e p = subst (λ b. WholeRead x len st l l' r (entry_of b)) (sym e) (one_read p)

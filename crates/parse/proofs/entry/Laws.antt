@@ -231,10 +231,10 @@ module _ (src : Source) where
     says (all_read (file_stuck (contract.stuck h g))) = stuck_at whole_file (g [])
 
     module _ (en : Entry) {l' : List ℕ} {p : Step} (v : WholeRead x (length draft) st l l' p en) {a : Result ℕ Refused} (e : a ≡ judged src (length l) p) where
-      pub said-answer : meant n a ≡ fitted (length l) (R en)
+      said-answer : meant n a ≡ fitted (length l) (R en)
       said-answer = ap (meant n) e ∙ (says v).0
 
-      pub said-held : Held (meant n a) (rec_words (records_in (R en))) l l'
+      said-held : Held (meant n a) (rec_words (records_in (R en))) l l'
       said-held = subst (λ (a : Result ℕ Refused). Held (meant n a) (rec_words (records_in (R en))) l l') (sym e) (says v).1
 
 -- The rows of so many tokens are so many, and say the same ones.
@@ -264,17 +264,32 @@ module _ (src : Source) (draft words' : List ℕ) (n : ℕ) (d : src.draft.now �
   reading-are en = ap₂ (reading_of en) d tokens-are
 
   -- Neither too many tokens nor too long a file: what is read is the answer.
-  pub read-answer : (en : Entry) (most room : ℕ) (a : Result ℕ Refused) → too_many most n (length words') ≡ false → too_long en (length draft) ≡ false
+  read-answer : (en : Entry) (most room : ℕ) (a : Result ℕ Refused) → too_many most n (length words') ≡ false → too_long en (length draft) ≡ false
       → meant (count_of src) a ≡ fitted room (R src en) → meant n a ≡ answer_of en most draft words' n room
   unfolding answer_of
   read-answer en most room a fewer short e =
       ap (λ (i : ℕ). meant i a) (sym count-is) ∙ e ∙ ap (fitted room) (reading-are en)
       ∙ sym (ap₂ (λ (b c : Bool). cond b (paper.refused (refusal_number refusal.TooMany) 0) (cond c (paper.refused (refusal_number refusal.TooLong) 0) (fitted room (reading_of en draft (tokens_in n words'))))) fewer short)
 
-  pub read-held : (en : Entry) (a : Result ℕ Refused) {l l' : List ℕ} → Held (meant (count_of src) a) (rec_words (records_in (R src en))) l l'
+  read-held : (en : Entry) (a : Result ℕ Refused) {l l' : List ℕ} → Held (meant (count_of src) a) (rec_words (records_in (R src en))) l l'
       → Held (meant n a) (rec_words (records_in (reading_of en draft (tokens_in n words')))) l l'
   read-held en a {l} {l'} e =
       subst (λ (r : Reading). Held (meant n a) (rec_words (records_in r)) l l') (reading-are en) (subst (λ (i : ℕ). Held (meant i a) (rec_words (records_in (R src en))) l l') count-is e)
+
+  -- So the answer and the buffer of a draft that was read from its first state on are those of the words.
+  module _ (en : Entry) {st : State} (s : Starts (text src) st) (l : List ℕ) (few : n ≤ countable) {l' : List ℕ} {p : Step} (v : WholeRead (text src) (length src.draft.now) st l l' p en)
+      {k : ℕ} {a : Result ℕ Refused} (room : k ≡ length l) (e : a ≡ judged src k p) where
+    counted : count_of src ≤ countable
+    counted = omega (arith, count-is)
+
+    judged_is : a ≡ judged src (length l) p
+    judged_is = e ∙ ap (λ (i : ℕ). judged src i p) room
+
+    pub front-answer : (most : ℕ) → too_many most n (length words') ≡ false → too_long en (length draft) ≡ false → meant n a ≡ answer_of en most draft words' n (length l)
+    front-answer most fewer short = read-answer en most (length l) a fewer short (said-answer src s l counted en v judged_is)
+
+    pub front-held : Held (meant n a) (rec_words (records_in (reading_of en draft (tokens_in n words')))) l l'
+    front-held = read-held en a (said-held src s l counted en v judged_is)
 
 -- Too many tokens, or a file that is too long.
 pub too-many-answer : (en : Entry) (most : ℕ) (draft words' : List ℕ) (n k : ℕ) → too_many most n (length words') ≡ true → paper.refused (refusal_number refusal.TooMany) 0 ≡ answer_of en most draft words' n k

@@ -1,6 +1,6 @@
 -- Argument lists, and an arm with its body: their rules in grammar's table, and what their functions say of them.
 -- Assumes nothing.
-use Rattle.std.proofs.Common.{◌≡◌, ℕ, ◌-◌, ◌*◌, ◌≤◌, Bool, true, false, cond, not, ◌&&◌, ◌||◌, T, eqb, ltb, ◌⊎◌, List, [], ◌∷◌, ◌++◌, get_or, sym, refl, ap, ◌∙◌, subst, ap₂, inl, inr, append_assoc, arith, eqb→eq, ltb-false, ltb-true}
+use Rattle.std.proofs.Common.{◌≡◌, ℕ, ◌+◌, ◌-◌, ◌*◌, ◌≤◌, Bool, true, false, cond, not, ◌&&◌, ◌||◌, T, eqb, ◌⊎◌, List, [], ◌∷◌, ◌++◌, get_or, sym, refl, ap, ◌∙◌, subst, ap₂, inl, inr, append_assoc, arith, eqb→eq}
 use mathlib.Core.Option.{Option, none, some, none-ne-some, some-injective}
 use lib.Seq.{sets}
 use types.Run.{OneOf}
@@ -15,11 +15,11 @@ use Rattle.theory.specs.Ebnf as shape
 use Rattle.theory.specs.Ebnf.{sort_of}
 use Rattle.theory.specs.Same.{ex}
 use Rattle.theory.specs.Walk.{n-flat, n-sub, k_nt, k_in}
-use Rattle.own.specs.Tree.{Tok, marks, arrange, concat}
+use Rattle.own.specs.Tree.{Tok, arrange, concat}
 use Rattle.text.specs.Widths.{rec_wide}
 use Rattle.text.specs.Lists.{has}
 use Rattle.own.specs.Words.{word_groups}
-use Rattle.own.specs.Law.{Sort, word, child, sorts}
+use Rattle.own.specs.Law.{Sort, word, child}
 use Rattle.own.specs.Arms as arm
 use Rattle.own.specs.Kinds as kind
 use Rattle.grammar.specs.Shapes.Shapes.{shapes}
@@ -29,22 +29,25 @@ use Rattle.grammar.specs.Records.Faults.{Fault, earliest}
 use Rattle.grammar.specs.Shapes.ShapeKind.{ArmShape}
 use Rattle.grammar.specs.Shapes.TablesIndex.{n-arguments, n-arm, n-arm-choice, n-arm-choice-optional-Comma, n-block, n-head, n-head_path, n-list-expression, n-other_name, n-single}
 use Rattle.parse.specs.contracts.Step.{the_type}
-use Rattle.parse.specs.Contract.{Text, classes, raw, fault_in, sooner, Read, Stuck, kept, Stands, Ready, Near, Put, Info, as_items, as_node, Went, Parsed, read, stuck, ExprKind, Only}
+use Rattle.parse.specs.Contract.{Text, classes, tok_at, raw, fault_in, sooner, Read, Stuck, kept, Stands, Ready, Near, Put, Eaten, Info, as_items, as_node, Went, Parsed, read, stuck, reserved, ExprKind, Only}
 use Rattle.parse.specs.Infos.{Args, Quiet, Body, ArmHead, Arm, ArmKind, arm_kind, arm_low, arm_high}
 use Rattle.parse.specs.declared.State.{State}
 use Rattle.parse.specs.declared.Step.{Step}
 use Rattle.parse.specs.declared.Step.TheVariants.{Next}
 use Rattle.parse.specs.Choice as choice
-use Rattle.parse.proofs.Rule.ByClass.{sweep, beyond, past_classes, and_both}
-use Rattle.parse.proofs.choice.Chosen.{hit, miss, goes}
+use Rattle.parse.proofs.Rule.ByClass.{run, either-passed, beyond, past_classes, and_both}
+use Rattle.parse.proofs.choice.Chosen.{Forked, Optionally, forked, optionally, goes}
 use Rattle.parse.proofs.Rule.Marks.{sign-mark}
-use Rattle.parse.proofs.Rule.Amid.{Amid, starts, then-passed, then-went, went}
+use Rattle.parse.proofs.Rule.Amid.{Amid, starts, then-passed, went}
 use Rattle.parse.proofs.Rule.Steps.{stuck-here, decided}
-use Rattle.parse.proofs.Rule.Closing.{Opened, Rule, shuts-as, its-raw, its-fault, enters}
+use Rattle.parse.proofs.Rule.Closing.{Opened, Rule, opens, shuts-as, its-raw, its-fault, enters}
+use Rattle.parse.proofs.Rule.Entered as entered
+use Rattle.parse.proofs.Rule.Entered.{Entered}
+use Rattle.parse.proofs.Rule.Told.{Told, then-told}
+use Rattle.parse.proofs.Rule.Chain.{then-eats}
 use Rattle.parse.proofs.Rule.Commas.{AnyN, arranged-zero, comma-mark, finish}
 use Rattle.parse.proofs.Rule.Heads.{no_fault, unturned}
 use Rattle.parse.proofs.Rule.Pieces.{Marks, marks-append, arranged-marks, expr-uncounted}
-use Rattle.parse.proofs.expr.Elements.{Told}
 
 -- An argument list.
 pub flat-args : sort_of (ex means (nt n-arguments)) ≡ shape.flat
@@ -81,30 +84,13 @@ pub near-onward : {x : Text} {K : ℕ} {N : ℕ → Type 0} {full left : List Sy
 near-onward y d h = record { stands = d.lays.stands; short = y.short; few = omega (arith, d.lays.few, y.few) }
 
 -- The body of an arm.
-pub flat-body : sort_of (ex means (nt n-arm-choice)) ≡ shape.flat
-unfolding sort_of ex means
-flat-body = refl
+pub body-choice : Forked n-arm-choice t.LBrace (nt n-block ∷ nt n-arm-choice-optional-Comma ∷ []) (nt n-single ∷ tok t.Comma ∷ [])
+unfolding sort_of ex means choose row look table alt pick
+body-choice = forked refl (λ c. refl) refl refl
 
-pub flat-comma : sort_of (ex means (nt n-arm-choice-optional-Comma)) ≡ shape.flat
-unfolding sort_of ex means
-flat-comma = refl
-
-module _ {a : ℕ} where
-  pub body-block : a ≡ t.LBrace → expand table n-arm-choice a ≡ some (nt n-block ∷ nt n-arm-choice-optional-Comma ∷ [])
-  unfolding choose row table look alt pick
-  body-block h = goes n-arm-choice 1 a (hit t.LBrace 1 [] 2 h) refl
-
-  pub body-single : (a ≡ t.LBrace → ⊥) → expand table n-arm-choice a ≡ some (nt n-single ∷ tok t.Comma ∷ [])
-  unfolding choose row table look alt pick
-  body-single h = goes n-arm-choice 2 a (miss t.LBrace 1 [] 2 h refl) refl
-
-  pub no-comma : (a ≡ t.Comma → ⊥) → expand table n-arm-choice-optional-Comma a ≡ some []
-  unfolding choose row table look alt pick
-  no-comma h = goes n-arm-choice-optional-Comma 1 a (miss t.Comma 2 [] 1 h refl) refl
-
-  pub a-comma : a ≡ t.Comma → expand table n-arm-choice-optional-Comma a ≡ some (tok t.Comma ∷ [])
-  unfolding choose row table look alt pick
-  a-comma h = goes n-arm-choice-optional-Comma 2 a (hit t.Comma 2 [] 1 h) refl
+pub comma-optional : Optionally n-arm-choice-optional-Comma t.Comma (tok t.Comma ∷ [])
+unfolding sort_of ex means choose row look table alt pick
+comma-optional = optionally refl (λ c. refl) refl refl
 
 body-quiet : (k l h c : ℕ) (v : List Sort) → ExprKind k → (v ≡ []) ⊎ (v ≡ word t.Comma ∷ []) → Quiet (child k l h c ∷ v)
 unfolding sees name_count counted has
@@ -140,27 +126,24 @@ pub data Begins (c : ℕ) : Type 0 where
   begins : choose table n-arm c ≡ 1 → Begins c
   lacks : expand table n-arm c ≡ none → expand table n-head c ≡ some (nt n-other_name ∷ nt n-head_path ∷ []) → expand table n-other_name c ≡ none → Begins c
 
-unfoldable lacking : ℕ → Bool
-lacking c = eqb (choose table n-arm c) 1 || (eqb (choose table n-arm c) 0 && (eqb (choose table n-head c) choice.NamedHead && eqb (choose table n-other_name c) 0))
+abbrev lacking : ℕ → Bool
+lacking c = eqb (choose table n-arm c) 0 && (eqb (choose table n-head c) choice.NamedHead && eqb (choose table n-other_name c) 0)
 
-lacks-by : (c : ℕ) → choose table n-arm c ≡ 0 → choose table n-head c ≡ choice.NamedHead → choose table n-other_name c ≡ 0 → Begins c
-unfolding row table alt pick
-lacks-by c p q r = lacks (goes n-arm 0 c p refl) (goes n-head choice.NamedHead c q refl) (goes n-other_name 0 c r refl)
+begins-test : T (run (λ c. eqb (choose table n-arm c) 1 || lacking c) past_classes 0)
+unfolding choose row table look
+begins-test = tt
 
 pub arm-begins : (c : ℕ) → Begins c
-unfolding lacking choose row table look
-arm-begins c = go (ltb c past_classes) refl
+unfolding row table alt pick
+arm-begins c = go (either-passed (λ c. eqb (choose table n-arm c) 1) lacking begins-test (λ c h. rw (beyond n-arm c h, beyond n-head c h, beyond n-other_name c h) tt) c)
   where
-    split : (a b : Bool) → eqb (choose table n-arm c) 1 ≡ a → b ≡ (eqb (choose table n-arm c) 0 && (eqb (choose table n-head c) choice.NamedHead && eqb (choose table n-other_name c) 0)) → T (a || b) → Begins c
-    split true b e f u = begins (eqb→eq (choose table n-arm c) 1 (rw e tt))
-    split false b e f u =
-        let v = and_both (eqb (choose table n-arm c) 0) (eqb (choose table n-head c) choice.NamedHead && eqb (choose table n-other_name c) 0) (subst T f u) in
-        let v₁ = and_both (eqb (choose table n-head c) choice.NamedHead) (eqb (choose table n-other_name c) 0) v.1 in
-        lacks-by c (eqb→eq (choose table n-arm c) 0 v.0) (eqb→eq (choose table n-head c) choice.NamedHead v₁.0) (eqb→eq (choose table n-other_name c) 0 v₁.1)
-
-    go : (b : Bool) → ltb c past_classes ≡ b → Begins c
-    go true e = split (eqb (choose table n-arm c) 1) (eqb (choose table n-arm c) 0 && (eqb (choose table n-head c) choice.NamedHead && eqb (choose table n-other_name c) 0)) refl refl (sweep lacking tt c (ltb-true c past_classes e))
-    go false e = let h = ltb-false c past_classes e in lacks-by c (beyond n-arm c h) (beyond n-head c h) (beyond n-other_name c h)
+    go : T (eqb (choose table n-arm c) 1) ⊎ T (lacking c) → Begins c
+    go (inl u) = begins (eqb→eq (choose table n-arm c) 1 u)
+    go (inr u) =
+        let p = and_both (eqb (choose table n-arm c) 0) (eqb (choose table n-head c) choice.NamedHead && eqb (choose table n-other_name c) 0) u in
+        let q = and_both (eqb (choose table n-head c) choice.NamedHead) (eqb (choose table n-other_name c) 0) p.1 in
+        lacks (goes n-arm 0 c (eqb→eq (choose table n-arm c) 0 p.0) refl) (goes n-head choice.NamedHead c (eqb→eq (choose table n-head c) choice.NamedHead q.0) refl)
+        (goes n-other_name 0 c (eqb→eq (choose table n-other_name c) 0 q.1) refl)
 
 abbrev is_flat : shape.Sort → Bool
 is_flat (shape.token c) = false
@@ -205,28 +188,16 @@ module _ {x : Text} {st : State} (y : Stands x st) (p : expand table n-arm st.cl
 module _ {x : Text} {K : ℕ} {N : ℕ → Type 0} {full left : List Sym} {st : State} {l : List ℕ} {w : List Sort} {ms : List Tok} {m : ℕ} {st₁ : State} {l₁ : List ℕ} {s : Sym} {st₂ : State} {l₂ : List ℕ} {a b : ℕ} {r : Step}
     (d : Amid x K N full (s ∷ left) st l w ms m st₁ l₁) where
   pub then-body : Parsed x (s ∷ []) as_items Body st₁ l₁ l₂ r → r ≡ Next st₂ a b → Told x K N full left st l w ms m Quiet st₂ l₂
-  then-body p e =
-      let q = went e p in
-      record {
-        W = sorts (raw x st₁.at q.items);
-        more = marks (raw x st₁.at q.items);
-        k = q.m;
-        so = q.info.quiet;
-        amid = then-went d q (λ n g. q.info.roles K n);
-      }
+  then-body p e = let q = went e p in then-told d q (λ n g. q.info.roles K n) q.info.quiet
+
+-- The head decides the record, whatever quiet pieces follow it.
+abbrev Decides : ℕ → ℕ → List Sort → Type 0
+Decides a b W = (v : List Sort) → Quiet v → arm_head (W ++ v) ≡ head (arm_kind a) (arm_low a b) (arm_high a b)
 
 module _ {x : Text} {N : ℕ → Type 0} {full left : List Sym} {st : State} {l : List ℕ} {w : List Sort} {ms : List Tok} {m : ℕ} {st₁ : State} {l₁ : List ℕ} {s : Sym} {st₂ : State} {l₂ : List ℕ} {a b : ℕ} {r : Step} where
   pub then-head : Amid x (arm_kind a) N full (s ∷ left) st l w ms m st₁ l₁ → Parsed x (s ∷ []) as_items ArmHead st₁ l₁ l₂ r → r ≡ Next st₂ a b
-      → Told x (arm_kind a) N full left st l w ms m (λ W. (v : List Sort) → Quiet v → arm_head (W ++ v) ≡ head (arm_kind a) (arm_low a b) (arm_high a b)) st₂ l₂
-  then-head d p e =
-      let q = went e p in
-      record {
-        W = sorts (raw x st₁.at q.items);
-        more = marks (raw x st₁.at q.items);
-        k = q.m;
-        so = q.info.decides;
-        amid = then-went d q (λ n g. q.info.roles n);
-      }
+      → Told x (arm_kind a) N full left st l w ms m (Decides a b) st₂ l₂
+  then-head d p e = let q = went e p in then-told d q (λ n g. q.info.roles n) q.info.decides
 
 pub head-low : {x : Text} {σ : List Sym} {st : State} {l l' : List ℕ} {r : Step} {st' : State} {a b : ℕ} → Parsed x σ as_items ArmHead st l l' r → r ≡ Next st' a b → a ≡ 0 → (arm.Left ≤ b) × (b ≤ arm.True)
 head-low p e = (went e p).info.low_is
@@ -258,7 +229,7 @@ arm-kinds a b h = go (eqb a 0) refl
     go true e = let z = h (eqb→eq a 0 (rw e tt)) in inl (refl, z.0, z.1)
     go false e = inr refl
 
-arm-decides : (x : Text) (a b : ℕ) (W U : List Sort) (ms : List Tok) → ((v : List Sort) → Quiet v → arm_head (W ++ v) ≡ head (arm_kind a) (arm_low a b) (arm_high a b)) → Quiet U
+arm-decides : (x : Text) (a b : ℕ) (W U : List Sort) (ms : List Tok) → Decides a b W → Quiet U
     → decided x ArmShape (W ++ (word t.FatArrow ∷ U)) ms ≡ head (arm_kind a) (arm_low a b) (arm_high a b)
 unfolding head_of form_of
 arm-decides x a b W U ms h q = h (word t.FatArrow ∷ U) (arrow-quiet U q)
@@ -266,7 +237,7 @@ arm-decides x a b W U ms h q = h (word t.FatArrow ∷ U) (arrow-quiet U q)
 -- The record of an arm.
 pub arm-shut : {x : Text} {st r : State} {rhs : List Sym} {l : List ℕ} {ms : List Tok} {m : ℕ} {st₁ : State} {l₁ l' : List ℕ} (a b : ℕ) (W U : List Sort) {kind low high : ℕ}
     → Ready x st → (o : Opened x st r (kept st)) → (d : Amid x (arm_kind a) AnyN rhs [] r l (W ++ (word t.FatArrow ∷ U)) ms m st₁ l₁) → 1 ≤ m
-    → ((v : List Sort) → Quiet v → arm_head (W ++ v) ≡ head (arm_kind a) (arm_low a b) (arm_high a b)) → Quiet U → (a ≡ 0 → (arm.Left ≤ b) × (b ≤ arm.True))
+    → Decides a b W → Quiet U → (a ≡ 0 → (arm.Left ≤ b) × (b ≤ arm.True))
     → (kind ≡ arm_kind a) × (low ≡ arm_low a b) × (high ≡ arm_high a b) → Put l₁ st.out kind st.start st₁.end low high (st₁.out - st.out) l'
     → Went x rhs (as_node ArmShape) Arm st l st₁ l' kind low
 unfolding earliest
@@ -319,3 +290,31 @@ begins-there {x} {st} {r} y o p e = go (arm-begins st.class)
 pub shifted : {x : Text} {K : ℕ} {N : ℕ → Type 0} {full left : List Sym} {st : State} {l : List ℕ} {ms : List Tok} {m : ℕ} {st₁ : State} {l₁ : List ℕ} (W U : List Sort)
     → Amid x K N full left st l ((W ++ (word t.FatArrow ∷ [])) ++ U) ms m st₁ l₁ → Amid x K N full left st l (W ++ (word t.FatArrow ∷ U)) ms m st₁ l₁
 shifted {x} {K} {N} {full} {left} {st} {l} {ms} {m} {st₁} {l₁} W U d = subst (λ w. Amid x K N full left st l w ms m st₁ l₁) (append_assoc W (word t.FatArrow ∷ []) U) d
+
+-- An arm has been entered once its head was read:
+pub arm₀ : {x : Text} {st r a : State} {I : Info} {l l₁ : List ℕ} {s : Step} {i j : ℕ}
+    → Ready x st → r ≡ reserved st → Parsed x (nt n-head ∷ []) as_items I r l l₁ s → s ≡ Next a i j
+    → Entered n-arm 1 ArmShape arm_symbols x st r (kept st)
+arm₀ y h p e = entered.by arm_is y (begins-there y (opens y h) p e) h
+
+-- that head,
+module _ {x : Text} {st r a : State} {F : Option Fault} {l l₁ : List ℕ} {s₁ : Step} {i₁ j₁ : ℕ}
+    (n : Entered n-arm 1 ArmShape arm_symbols x st r F) (p₁ : Parsed x (nt n-head ∷ []) as_items ArmHead r l l₁ s₁) (q₁ : s₁ ≡ Next a i₁ j₁) where
+  pub arm₁ : Told x (arm_kind i₁) AnyN arm_symbols (tok t.FatArrow ∷ nt n-arm-choice ∷ []) r l [] [] 0 (Decides i₁ j₁) a l₁
+  arm₁ = then-head (starts (arm_kind i₁) AnyN arm_symbols l n.opened.stands) p₁ q₁
+
+  -- and `=>`.
+  pub arm₂ : {s₂ : Step} {b : State} {i₂ j₂ : ℕ} → Eaten x a t.FatArrow s₂ → s₂ ≡ Next b i₂ j₂
+      → Amid x (arm_kind i₁) AnyN arm_symbols (nt n-arm-choice ∷ []) r l (arm₁.W ++ (word t.FatArrow ∷ [])) (arm₁.more ++ (tok_at x a.at ∷ [])) (0 + arm₁.k + 1) b l₁
+  arm₂ p q = then-eats arm₁.amid (omega arith) p q (sign-mark (arm_kind i₁) t.FatArrow tt)
+
+-- Its body too, and its record is put.
+pub arm-whole : {x : Text} {st r a b z : State} {l l₁ l₂ l' : List ℕ} {s₁ s₂ s₃ : Step} {i₁ j₁ i₂ j₂ i₃ j₃ kind low high : ℕ}
+    → Entered n-arm 1 ArmShape arm_symbols x st r (kept st) → Parsed x (nt n-head ∷ []) as_items ArmHead r l l₁ s₁ → s₁ ≡ Next a i₁ j₁
+    → Eaten x a t.FatArrow s₂ → s₂ ≡ Next b i₂ j₂ → Parsed x (nt n-arm-choice ∷ []) as_items Body b l₁ l₂ s₃ → s₃ ≡ Next z i₃ j₃
+    → (kind ≡ arm_kind i₁) × (low ≡ arm_low i₁ j₁) × (high ≡ arm_high i₁ j₁) → Put l₂ st.out kind st.start z.end low high (z.out - st.out) l'
+    → Parsed x (nt n-arm ∷ []) as_items Arm st l l' (Next z kind low)
+arm-whole {i₁ = i} {j₁ = j} n p₁ q₁ p₂ q₂ p₃ q₃ e put =
+    let d₁ = arm₁ n p₁ q₁ in
+    let d₃ = then-body (arm₂ n p₁ q₁ p₂ q₂) p₃ q₃ in
+    entered.whole n (arm-shut i j d₁.W d₃.W n.ready n.opened (shifted d₁.W d₃.W d₃.amid) (omega arith) d₁.so d₃.so (head-low p₁ q₁) e put)

@@ -1,12 +1,10 @@
 -- Arms side by side, as the loop of `arms` reads them.
 -- Assumes nothing.
-use Rattle.std.proofs.Common.{◌≡◌, ℕ, suc, ◌+◌, ◌<◌, Bool, true, false, cond, eqb, List, [], ◌∷◌, ◌++◌, length, sym, refl, ap, ◌∙◌, subst, ap₂, arith, ne_eqb}
-use mathlib.Core.Option.{some}
+use Rattle.std.proofs.Common.{◌≡◌, ℕ, suc, ◌+◌, Bool, true, false, cond, eqb, List, [], ◌∷◌, ◌++◌, length, sym, refl, ap, ◌∙◌, subst, ap₂, arith, ne_eqb}
 use types.Run.{OneOf}
 use denote.Enum.Declared.{tag_of}
 use Rattle.theory.specs.Grammar.{Sym, nt, look, row, alt, pick}
 use Rattle.theory.specs.Machine.{choose, expand}
-use Rattle.theory.specs.Ebnf as shape
 use Rattle.theory.specs.Ebnf.{sort_of}
 use Rattle.theory.specs.Same.{ex}
 use Rattle.own.specs.Tree as own
@@ -24,25 +22,16 @@ use Rattle.parse.specs.declared.State.{State}
 use Rattle.parse.specs.declared.Step.{Step}
 use Rattle.parse.specs.declared.Step.TheVariants.{Next}
 use Rattle.parse.proofs.Rule.Lists.{joined}
-use Rattle.parse.proofs.Rule.Amid.{Amid, starts, then-passed, went}
+use Rattle.parse.proofs.Rule.Amid.{Amid, Grown, starts, grows, grown-turns, then-passed, went}
 use Rattle.parse.proofs.Rule.Commas.{AnyN, arranged-zero, finish}
-use Rattle.parse.proofs.choice.Chosen.{hit, miss, goes}
-use Rattle.parse.proofs.Rule.SideBySide.{Grown, grows, grown-turns}
+use Rattle.parse.proofs.choice.Chosen.{Forked, forked}
 use Rattle.parse.proofs.arms.Laws.{order-snoc, order-none, armed-snoc}
 use Rattle.parse.proofs.arms.Turned.{no_pieces}
 
 -- The row of arms.
-flat-arms : sort_of (ex means (nt n-many-arm)) ≡ shape.flat
-unfolding sort_of ex means
-flat-arms = refl
-
-no_more : (c : ℕ) → c ≡ t.RBrace → expand table n-many-arm c ≡ some []
-unfolding choose row table look alt pick
-no_more c h = goes n-many-arm 1 c (hit t.RBrace 1 [] 2 h) refl
-
-one_more : (c : ℕ) → (c ≡ t.RBrace → ⊥) → expand table n-many-arm c ≡ some (nt n-arm ∷ nt n-many-arm ∷ [])
-unfolding choose row table look alt pick
-one_more c h = goes n-many-arm 2 c (miss t.RBrace 1 [] 2 h refl) refl
+arms-choice : Forked n-many-arm t.RBrace [] (nt n-arm ∷ nt n-many-arm ∷ [])
+unfolding sort_of ex means choose row look table alt pick
+arms-choice = forked refl (λ c. refl) refl refl
 
 -- The records of the first arm, with one arm more.
 pub first-sizes : (A : Items) (k l h : ℕ) (js : Items) → Armed (sorts A)
@@ -72,13 +61,6 @@ its-sorts : {x : Text} {full left : List Sym} {st : State} {l : List ℕ} {w : L
     → (d : Amid x 0 AnyN full left st l w ms m here l₁) → sorts d.L ≡ w
 its-sorts d = ap sorts (same-items d) ∙ d.sorted
 
--- An arm lies ahead.
-pub arm-ahead : {x : Text} {st : State} {l l₁ : List ℕ} {r : Step} {a : State} {kind low : ℕ} → Parsed x (nt n-arm ∷ []) as_items Arm st l l₁ r → r ≡ Next a kind low → st.at < a.at
-arm-ahead p e =
-    let q = went e p in
-    let s = ap sizes q.info.laid_is in
-    omega (arith, q.lays.few, q.lays.sized, s)
-
 module _ {x : Text} {st : State} {l : List ℕ} (y : Ready x st) where
   pub arms-starts : ArmsInv x st l st l 0 st.out
   unfolding order_from
@@ -91,7 +73,7 @@ module _ {x : Text} {st : State} {l : List ℕ} (y : Ready x st) where
     -- The arms end at the brace,
     pub arms-ends : here.class ≡ t.RBrace → Went x (nt n-many-arm ∷ []) as_items (Arms st) st l here l₁ order mid
     arms-ends c =
-        let g = grown-turns [] v.amid flat-arms (ap (expand table n-many-arm) (sym v.amid.lays.stands.class_is) ∙ no_more here.class c) in
+        let g = grown-turns [] v.amid arms-choice.flat (ap (expand table n-many-arm) (sym v.amid.lays.stands.class_is) ∙ arms-choice.there here.class c) in
         let d = g.amid in
         finish d (record {
           same = same-items d;
@@ -102,7 +84,7 @@ module _ {x : Text} {st : State} {l : List ℕ} (y : Ready x st) where
 
     module _ (n : here.class ≡ t.RBrace → ⊥) where
       into : Grown x 0 AnyN (nt n-many-arm ∷ []) (nt n-arm ∷ nt n-many-arm ∷ []) st l v.w [] 0 here l₁ v.amid.L
-      into = grown-turns (nt n-arm ∷ nt n-many-arm ∷ []) v.amid flat-arms (ap (expand table n-many-arm) (sym v.amid.lays.stands.class_is) ∙ one_more here.class n)
+      into = grown-turns (nt n-arm ∷ nt n-many-arm ∷ []) v.amid arms-choice.flat (ap (expand table n-many-arm) (sym v.amid.lays.stands.class_is) ∙ arms-choice.elsewhere here.class n)
 
       -- or an arm is refused,
       pub arms-passed : {J : Info} {l₂ l' : List ℕ} {r : Step} → OneOf (1 ∷ []) (tag_of the_type r) → Parsed x (nt n-arm ∷ []) as_items Arm here l₁ l₂ r → Parsed x (nt n-many-arm ∷ []) as_items J st l l' r

@@ -3,26 +3,24 @@
 use Rattle.std.proofs.Common.{◌≡◌, ℕ, ◌+◌, ◌-◌, T, List, [], ◌∷◌, ◌++◌, sym, refl, subst, arith}
 use Rattle.lexer.specs.Classes as t
 use Rattle.theory.specs.Grammar.{Sym, tok, nt}
-use Rattle.theory.specs.Machine.{choose}
 use Rattle.theory.specs.Ebnf as shape
 use Rattle.own.specs.Kinds as kind
 use Rattle.own.specs.Tree.{Tok}
 use Rattle.own.specs.Law.{Sort, word}
-use Rattle.grammar.specs.Shapes.Tables.{table}
 use Rattle.grammar.specs.Shapes.TablesIndex.{n-single, n-arguments}
 use Rattle.grammar.specs.Records.Records.{call_head}
-use Rattle.parse.specs.Contract.{Text, tok_at, Stuck, Ready, kept, Put, Eaten, Info, as_items, Parsed, read, Parses, Node, ExprKind, Only}
+use Rattle.parse.specs.Contract.{Text, tok_at, Stuck, kept, Put, Eaten, Info, as_items, Parsed, Parses, Node, ExprKind, Only}
 use Rattle.parse.specs.Infos.{Args, CallEnds, call_ends, call_stuck, AngleEnds, angle_ends, angle_stuck}
 use Rattle.parse.specs.declared.State.{State}
 use Rattle.parse.specs.declared.Step.{Step}
 use Rattle.parse.specs.declared.Step.TheVariants.{Next, Refused}
 use Rattle.parse.proofs.Rule.Amid.{Amid, then-passed}
 use Rattle.parse.proofs.Rule.Steps.{decided}
-use Rattle.parse.proofs.Rule.Closing.{Opened, Rule, as-nonterminal, enters}
+use Rattle.parse.proofs.Rule.Entered.{Entered, closes, passed, lacks}
 use Rattle.parse.proofs.Rule.Chain.{then-eats, then-lacks}
 use Rattle.parse.proofs.Rule.Marks.{sign-mark}
 use Rattle.parse.proofs.Rule.Commas.{AnyN}
-use Rattle.parse.proofs.Rule.Heads.{faultless, shut}
+use Rattle.parse.proofs.Rule.Heads.{faultless}
 use Rattle.parse.proofs.Rule.Refused.{refusal}
 use Rattle.parse.proofs.expr.CallForms as call
 use Rattle.parse.proofs.expr.CallLaws as law
@@ -44,25 +42,25 @@ module _ {x : Text} {st a : State} {l l' : List ℕ} {s : Step} where
 
 -- In a rule that has only its arguments left, which reads a call by the class of its first token:
 module _ {x : Text} {st r : State} {i k : ℕ} {rhs : List Sym} {l : List ℕ} {w : List Sort} {ms : List Tok} {m : ℕ} {a : State} {l₁ l' : List ℕ}
-    (z : Rule n-single i k rhs) (y : Ready x st) (e : choose table n-single st.class ≡ i) (o : Opened x st r (kept st)) (f : T (faultless k)) where
+    (n : Entered n-single i k rhs x st r (kept st)) (f : T (faultless k)) where
   pub call-shut : {s : Step} → Amid x kind.Call AnyN rhs (nt n-arguments ∷ []) r l w ms m a l₁
       → ((W : List Sort) → Only t.Comma W → (ms₂ : List Tok) (m₂ : ℕ) (st₂ : State) (l₂ : List ℕ) → Amid x kind.Call AnyN rhs [] r l (w ++ (word t.LParen ∷ (W ++ (word t.RParen ∷ [])))) ms₂ m₂ st₂ l₂
       → decided x k (w ++ (word t.LParen ∷ (W ++ (word t.RParen ∷ [])))) ms₂ ≡ call_head st.class)
       → CallEnds x st a l₁ l' s → Parses n-single (Node ExprKind) x st l l' s
   call-shut d h (call_ends {z = st₂} {l₁ = l₂} p put) =
       let g = law.then-args d p refl in
-      as-nonterminal z y e (read (shut k f y o g.amid (omega (arith, g.one)) (call.call-low st.class (h g.W g.commas (ms ++ g.more) (m + g.k) st₂ l₂ g.amid) refl) tt ExprKind call.call-kind put))
-  call-shut d h (call_stuck {p = n} p) = then-passed d (refusal {p = n} refl) (enters z y e o) p
+      closes n f g.amid (omega (arith, g.one)) (call.call-low st.class (h g.W g.commas (ms ++ g.more) (m + g.k) st₂ l₂ g.amid) refl) tt ExprKind call.call-kind put
+  call-shut d h (call_stuck p) = passed n d refl p
 
 module _ {x : Text} {st r : State} {i k : ℕ} {rhs : List Sym} {l : List ℕ} {w : List Sort} {ms : List Tok} {m : ℕ} {a : State} {l₁ l' : List ℕ}
-    (z : Rule n-single i k rhs) (y : Ready x st) (e : choose table n-single st.class ≡ i) (o : Opened x st r (kept st)) (f : T (faultless k)) where
+    (n : Entered n-single i k rhs x st r (kept st)) (f : T (faultless k)) where
   -- or `>` before them.
   pub angle-shut : {s : Step} → Amid x kind.Call AnyN rhs (tok t.RAngle ∷ nt n-arguments ∷ []) r l w ms m a l₁
       → ((W : List Sort) → Only t.Comma W → (ms₂ : List Tok) (m₂ : ℕ) (st₂ : State) (l₂ : List ℕ) → Amid x kind.Call AnyN rhs [] r l ((w ++ (word t.RAngle ∷ [])) ++ (word t.LParen ∷ (W ++ (word t.RParen ∷ [])))) ms₂ m₂ st₂ l₂
       → decided x k ((w ++ (word t.RAngle ∷ [])) ++ (word t.LParen ∷ (W ++ (word t.RParen ∷ [])))) ms₂ ≡ call_head st.class)
       → AngleEnds x st a l₁ l' s → Parses n-single (Node ExprKind) x st l l' s
-  angle-shut d h (angle_ends q c) = call-shut z y e o f (then-eats d (omega arith) q refl (sign-mark kind.Call t.RAngle tt)) h c
-  angle-shut d h (angle_stuck {p = n} q) = then-lacks d (refusal {p = n} refl) (enters z y e o) q
+  angle-shut d h (angle_ends q c) = call-shut n f (then-eats d (omega arith) q refl (sign-mark kind.Call t.RAngle tt)) h c
+  angle-shut d h (angle_stuck q) = lacks n d refl q
 
 -- Where it is refused the rule is stuck,
 module _ {x : Text} {N : ℕ → Type 0} {full left : List Sym} {r : State} {l : List ℕ} {w : List Sort} {ms : List Tok} {m : ℕ} {st a : State} {l₁ l₂ : List ℕ} where

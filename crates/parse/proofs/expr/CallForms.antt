@@ -4,37 +4,25 @@ use Rattle.std.proofs.Common.{◌≡◌, ℕ, suc, ◌+◌, ◌≤◌, Bool, tru
 use Rattle.std.proofs.Math.Bool.{or-false, or-true}
 use Rattle.std.proofs.lemmas.Bool.{eqb-true, eqb-false}
 use Rattle.text.proofs.Same.{differ}
-use Rattle.std.specs.Prelude.{None}
-use Rattle.text.specs.Refusals.{refusal_number}
-use Rattle.text.specs.declared.refusal.Refusal.TheVariants as refusal
 use Rattle.text.specs.Lists.{has}
-use Rattle.num.specs.Value.{Value, fitted, number_of}
-use Rattle.num.specs.Bound.{bound_ok, size_ok}
 use Rattle.kinds.specs.Rules.{wrappers}
 use Rattle.lexer.specs.Classes as t
 use Rattle.theory.specs.Grammar.{Sym}
-use Rattle.own.specs.Tree.{Tok, Items, marks}
-use Rattle.own.specs.Law.{Sort, word, child, sorts}
+use Rattle.own.specs.Tree.{Tok}
+use Rattle.own.specs.Law.{Sort, word, child}
 use Rattle.own.specs.Calls as call
 use Rattle.own.specs.Kinds as kind
 use Rattle.grammar.specs.Shapes.Row.{Form, aName}
-use Rattle.grammar.specs.Records.Records.{Head, head, plain, form_of, head_of, sees, opening, name_count, part_count, lone, place_in, call_head, wrapper_head, called_head, alone_head, name_head, text_of, first_tok, first_of, decimal}
-use Rattle.grammar.specs.Records.Faults.{Fault, unless, faults_at, earliest}
+use Rattle.grammar.specs.Records.Records.{Head, head, plain, form_of, head_of, sees, opening, name_count, part_count, lone, place_in, call_head, wrapper_head, called_head, alone_head, name_head, text_of, first_tok}
 use Rattle.grammar.specs.Shapes.ShapeKind.{CastCallShape, FoldingShape, ForWhileShape, NamedShape, SimpleCallShape, TypedShape}
 use Rattle.parse.specs.declared.State.{State}
 use Rattle.parse.proofs.Rule.Amid.{Amid}
-use Rattle.parse.specs.Contract.{Text, fault_at, bound_fault, size_fault, ExprKind, Only, callees}
+use Rattle.parse.specs.Contract.{Text, ExprKind, Only, callees}
 use Rattle.parse.proofs.Rule.Marks.{keeping, keeps-between}
 use Rattle.parse.proofs.Rule.Steps.{number_in, decided}
-use Rattle.parse.proofs.Rule.Heads.{unless-is}
 pub use Rattle.parse.proofs.expr.CallRows.{
   simple_rhs,
-  cast_rhs,
   named_rhs,
-  bare_rhs,
-  typed_rhs,
-  folding_rhs,
-  whiles_rhs,
   simple-rule,
   cast-rule,
   named_rule,
@@ -49,22 +37,21 @@ pub use Rattle.parse.proofs.expr.CallRows.{
   number-role,
   path-row,
   flat-named,
-  flat-bare,
-  flat-typed,
-  flat-folding,
-  flat-whiles,
-  flat-of-type,
-  flat-bounded,
-  flat-looped,
   flat-path,
-  flat-path-args,
+  bare-optional,
+  typed-optional,
+  folding-optional,
+  whiles-optional,
+  typed-choice,
+  folding-choice,
+  whiles-choice,
+  path-optional,
   for-simple,
   at-cast,
   for-named,
   for-bare,
   for-typed,
   for-folding,
-  at-whiles,
   for-whiles,
   simple-apart,
   named-apart,
@@ -80,24 +67,8 @@ pub use Rattle.parse.proofs.expr.CallRows.{
   folding-mark,
   whiles-mark,
   named-alone,
-  bare-alone,
-  typed-alone,
-  folding-alone,
-  whiles-alone,
-  path-alone,
   named-args,
-  path-args,
   named-colons,
-  bare-colons,
-  typed-colons,
-  folding-colons,
-  whiles-colons,
-  typed-angle,
-  folding-angle,
-  whiles-angle,
-  typed-path,
-  folding-path,
-  whiles-path,
 }
 use Rattle.parse.proofs.Rule.Pieces.{sees-append}
 
@@ -343,43 +314,6 @@ wrapper-named c h = go (wrapper-class c h)
 pub other-is : (c : ℕ) (W : List Sort) {a : ℕ} → has wrappers c ≡ true → Apart c → Only t.Comma W → lone W ≡ eqb a 1 → (a ≡ 1 → ⊥) → name_head (calling c W) ≡ head kind.Call call.Custom 0
 other-is c W h p o f g =
     called_is c W p o ∙ ap₂ (λ (u v : Bool). cond (u && v) (wrapper_head c) (call_head c)) h (f ∙ ne_eqb _ 1 g) ∙ wrapper-call c (wrapper-class c h)
-
--- The refusal of a fold's number.
-module _ (draft : List ℕ) where
-  fold-cases : (b : Bool) (v : Value) (y : Tok) → earliest (cond b (unless (size_ok v) (refusal_number refusal.Size) y) (unless (bound_ok v) (refusal_number refusal.Bound) y)) ≡ fault_at (cond b (size_fault v) (bound_fault v)) y.start
-  unfolding bound_fault size_fault
-  fold-cases true v y = unless-is y (size_ok v) refusal.Size
-  fold-cases false v y = unless-is y (bound_ok v) refusal.Bound
-
-  abbrev folding : List Sort → Value → Tok → List Fault
-  folding w v y = cond (eqb (opening w) t.array_fold) (unless (not (sees t.LAngle w) || size_ok v) (refusal_number refusal.Size) y) (unless (not (sees t.LAngle w) || bound_ok v) (refusal_number refusal.Bound) y)
-
-  fold_at : (is : Items) → faults_at draft FoldingShape is ≡ folding (sorts is) (fitted (decimal draft is)) (first_of t.DecLiteral (marks is))
-  unfolding faults_at
-  fold_at is = refl
-
-  fold-opens : (c : ℕ) (w : List Sort) (v : Value) (y : Tok) → folding (word c ∷ word t.DoubleColon ∷ word t.LAngle ∷ w) v y ≡ cond (eqb c t.array_fold) (unless (size_ok v) (refusal_number refusal.Size) y) (unless (bound_ok v) (refusal_number refusal.Bound) y)
-  unfolding sees opening
-  fold-opens c w v y = ap (λ (b : Bool). cond (eqb c t.array_fold) (unless (not b || size_ok v) (refusal_number refusal.Size) y) (unless (not b || bound_ok v) (refusal_number refusal.Bound) y)) (or-true (eqb c t.LAngle))
-
-  pub fold-fault : (is : Items) (c : ℕ) {w : List Sort} (v : Value) (y : Tok) → sorts is ≡ word c ∷ word t.DoubleColon ∷ word t.LAngle ∷ w → first_of t.DecLiteral (marks is) ≡ y → v ≡ number_of (text_of draft y)
-      → earliest (faults_at draft FoldingShape is) ≡ fault_at (cond (eqb c t.array_fold) (size_fault v) (bound_fault v)) y.start
-  unfolding decimal number_of
-  fold-fault is c {w} v y e f g =
-      ap earliest (fold_at is ∙ (λ i. folding (e i) (number_of (text_of draft (f i))) (f i)) ∙ (λ i. folding (word c ∷ word t.DoubleColon ∷ word t.LAngle ∷ w) (sym g i) y) ∙ fold-opens c w v y)
-      ∙ fold-cases (eqb c t.array_fold) v y
-
-  -- Without `<` it has none.
-  both-none : (b : Bool) (v : Value) (y : Tok) → earliest (cond b (unless true (refusal_number refusal.Size) y) (unless true (refusal_number refusal.Bound) y)) ≡ fault_at None 0
-  unfolding unless earliest fault_at
-  both-none true v y = refl
-  both-none false v y = refl
-
-  pub fold-faultless : (is : Items) {w : List Sort} → sorts is ≡ w → sees t.LAngle w ≡ false → earliest (faults_at draft FoldingShape is) ≡ fault_at None 0
-  fold-faultless is {w} e f =
-      ap earliest (fold_at is ∙ ap (λ (u : List Sort). folding u (fitted (decimal draft is)) (first_of t.DecLiteral (marks is))) e
-      ∙ ap (λ (b : Bool). cond (eqb (opening w) t.array_fold) (unless (not b || size_ok (fitted (decimal draft is))) (refusal_number refusal.Size) (first_of t.DecLiteral (marks is))) (unless (not b || bound_ok (fitted (decimal draft is))) (refusal_number refusal.Bound) (first_of t.DecLiteral (marks is)))) f)
-      ∙ both-none (eqb (opening w) t.array_fold) (fitted (decimal draft is)) (first_of t.DecLiteral (marks is))
 
 -- No `<` in a name alone and in a path.
 pub alone-angle : (c : ℕ) → has t.identifiers c ≡ true → sees t.LAngle (word c ∷ []) ≡ false

@@ -11,7 +11,7 @@ use Rattle.theory.specs.Ebnf as shape
 use Rattle.theory.specs.Ebnf.{sort_of}
 use Rattle.theory.specs.Same.{ex}
 use Rattle.own.specs.Tree as own
-use Rattle.own.specs.Tree.{Tok, Items, mark, marks, concat}
+use Rattle.own.specs.Tree.{Tok, Items, marks, concat}
 use Rattle.text.specs.Widths.{rec_wide}
 use Rattle.text.specs.Lists.{has}
 use Rattle.own.specs.Words.{rec_then, sizes, word_groups}
@@ -23,26 +23,28 @@ use Rattle.kinds.specs.Families as family
 use Rattle.lexer.specs.Classes as t
 use Rattle.grammar.specs.Shapes.Tables.{means, table}
 use Rattle.grammar.specs.Shapes.TablesIndex.{n-arguments, n-path, n-function_name, n-identifier, n-path-many-DoubleColon, n-path-optional}
-use Rattle.grammar.specs.Records.Records.{aMark, asName, role_of, placed, arranged, sees, name_count, lone, text_of, first_of}
+use Rattle.grammar.specs.Records.Records.{aMark, asName, role_of, sees, name_count, lone, text_of, first_of}
 use Rattle.grammar.specs.Records.Faults.{Fault}
 use Rattle.parse.specs.Contract.{Text, classes, tok_at, Read, raw, kept, fault, Stands, Ready, Near, Moved, Put, Turned, Info, as_items, Went, Parsed, read, reserved, Named, Decimal, value_at, Called, named, marked, Only, countable, u32_count}
 use Rattle.parse.specs.Infos.{Args, Path, Begun}
 use Rattle.parse.specs.declared.State.{State}
 use Rattle.parse.specs.declared.Step.{Step}
 use Rattle.parse.specs.declared.Step.TheVariants.{Next}
-use Rattle.parse.proofs.Rule.Amid.{class-at, inside, went, Amid, starts, then_turns, then-went}
+use Rattle.parse.proofs.Rule.Amid.{class-at, inside, went, Amid, starts, then-went}
 use Rattle.parse.proofs.Rule.Lists.{length-words}
 use Rattle.text.proofs.Sets.{sets-next, sets-append}
-use Rattle.parse.proofs.Rule.Steps.{number_in, word-went, child-went}
+use Rattle.parse.proofs.Rule.Steps.{number_in, child-went}
 use Rattle.parse.proofs.Rule.Commas.{AnyN, finish}
 use Rattle.parse.proofs.Rule.Heads.{words_in, place, number_at, first-is}
 use Rattle.parse.proofs.names.Joined.{function-name-class}
-use Rattle.parse.proofs.Rule.Closing.{Opened}
-use Rattle.parse.proofs.Rule.Chain.{advances}
-use Rattle.parse.proofs.names.Chain.{NamesOn, then-named, then-decimal}
+use Rattle.parse.proofs.choice.Chosen.{Forked, Optionally}
+use Rattle.parse.proofs.Rule.Closing.{Opened, reserved-class, reserved-stands}
+use Rattle.parse.proofs.Rule.Told.{Told, then-told}
+use Rattle.parse.proofs.Rule.Chain.{turns, eats-as, advances}
+use Rattle.parse.proofs.names.Chain.{NamePieces, then-named, then-decimal}
 use Rattle.parse.proofs.Rule.Marks.{sign-mark}
 use Rattle.parse.proofs.names.Rows.{name-role, call-role}
-use Rattle.parse.proofs.expr.CallForms.{For, Apart, called-role, marked-role, number-role, flat-path, path-row, flat-path-args, path-alone, path-args, no-angle-name, args-angle, args_count}
+use Rattle.parse.proofs.expr.CallForms.{For, Apart, called-role, marked-role, number-role, flat-path, path-row, path-optional, no-angle-name, args-angle, args_count}
 use Rattle.parse.proofs.Rule.Pieces.{sees-append, name_count-append}
 -- A state to parse from is one to read arguments from.
 pub use Rattle.parse.proofs.names.Steps.{ready-near as near}
@@ -68,13 +70,9 @@ pub record Argued (x : Text) (K : ℕ) (N : ℕ → Type 0) (full left : List Sy
   pub amid : Amid x K N full left st l (w ++ (word t.LParen ∷ (W ++ (word t.RParen ∷ [])))) (ms ++ more) (m + k) st₂ l₂
 
 -- A path: W is what it is made of; there are a names.
-pub record Pathed (x : Text) (N : ℕ → Type 0) (full left : List Sym) (st : State) (l : List ℕ) (w : List Sort) (ms : List Tok) (m a : ℕ) (st₂ : State) (l₂ : List ℕ) : Type 0 where
-  pub W : List Sort
-  pub more : List Tok
-  pub k : ℕ
+pub record PathPieces (a : ℕ) (W : List Sort) : Type 0 where
   pub count_is : name_count W ≡ a
   pub angles : sees t.LAngle W ≡ false
-  pub amid : Amid x kind.EnumConstruction N full left st l (w ++ W) (ms ++ more) (m + k) st₂ l₂
 
 module _ {x : Text} {K : ℕ} {N : ℕ → Type 0} {full left : List Sym} {st : State} {l : List ℕ} {w : List Sort} {ms : List Tok} {m : ℕ} {st₁ : State} {l₁ : List ℕ} where
   pub then-args : {st₂ : State} {l₂ : List ℕ} {a b : ℕ} {r : Step} → Amid x K N full (nt n-arguments ∷ left) st l w ms m st₁ l₁ → Parsed x (nt n-arguments ∷ []) as_items Args st₁ l₁ l₂ r → r ≡ Next st₂ a b
@@ -96,43 +94,16 @@ module _ {x : Text} {K : ℕ} {N : ℕ → Type 0} {full left : List Sym} {st : 
   -- One token, which is no record, by the symbol that stands for it.
   pub then-mark : {s : Sym} {c : ℕ} {st₂ : State} → For s c → Amid x K N full (s ∷ left) st l w ms m st₁ l₁ → st₁.class ≡ c → Moved x st₁ st₂ → role_of K c ≡ aMark
       → Amid x K N full left st l (w ++ (word c ∷ [])) (ms ++ (tok_at x st₁.at ∷ [])) (m + 1) st₂ l₁
-  unfolding arranged placed
-  then-mark {s} {c} {st₂} z d e v role =
-      let f : get_or (classes x) st₁.at 0 ≡ c = sym d.lays.stands.class_is ∙ e in
-      let i = inside x st₁.at z.pos f in
-      let q = word-went d.lays.stands i v c l₁ (z.reads x st₁.at f i) in
-      let t : (tok_at x st₁.at).class ≡ c = sym (class-at x.ts st₁.at) ∙ f in
-      let g = then-went d q (λ n g. ap (arranged K n) q.info.raw_is ∙ ap (λ o. placed o n (tok_at x st₁.at) own.none) (ap (role_of K) t ∙ role) ∙ sym q.info.laid_is) in
-      let e₁ : sorts (raw x st₁.at q.items) ≡ word c ∷ [] = ap sorts q.info.raw_is ∙ ap (λ a. word a ∷ []) t in
-      let e₂ : marks (raw x st₁.at q.items) ≡ tok_at x st₁.at ∷ [] = ap marks q.info.raw_is in
-      subst (λ b. Amid x K N full left st l (w ++ (word c ∷ [])) b (m + 1) st₂ l₁) (ap (λ b. ms ++ b) e₂)
-      (subst (λ a. Amid x K N full left st l a (ms ++ marks (raw x st₁.at q.items)) (m + 1) st₂ l₁) (ap (λ a. w ++ a) e₁)
-      (subst (λ a. Amid x K N full left st l (w ++ sorts (raw x st₁.at q.items)) (ms ++ marks (raw x st₁.at q.items)) (m + a) st₂ l₁) q.info.one g))
+  then-mark z d e v role = eats-as d e z.pos v role (λ i f. z.reads x st₁.at f i)
 
 module _ {x : Text} {N : ℕ → Type 0} {full left : List Sym} {st : State} {l : List ℕ} {w : List Sort} {ms : List Tok} {m : ℕ} {st₁ : State} {l₁ : List ℕ} where
   pub then-path : {st₂ : State} {l₂ : List ℕ} {a b : ℕ} {r : Step} → Amid x kind.EnumConstruction N full (nt n-path ∷ left) st l w ms m st₁ l₁ → Parsed x (nt n-path ∷ []) as_items Path st₁ l₁ l₂ r → r ≡ Next st₂ a b
-      → Pathed x N full left st l w ms m a st₂ l₂
+      → Told x kind.EnumConstruction N full left st l w ms m (PathPieces a) st₂ l₂
   then-path d p e =
       let q = went e p in
-      let i = q.info in
-      record {
-        W = sorts (raw x st₁.at q.items);
-        more = marks (raw x st₁.at q.items);
-        k = q.m;
-        count_is = i.count_is;
-        angles = i.angles;
-        amid = then-went d q (λ n g. i.roles n);
-      }
+      then-told d q (λ n g. q.info.roles n) (record { count_is = q.info.count_is; angles = q.info.angles })
 
--- The state with a record more stands where it stood.
-pub reserved-class : (b d : State) → d ≡ reserved b → d.class ≡ b.class
-unfolding reserved
-reserved-class b d e = ap (λ (y : State). y.class) e
-
-reserved-stands : {x : Text} {a : State} → Stands x a → Stands x (reserved a)
-unfolding reserved
-reserved-stands s = record { within = s.within; class_is = s.class_is; start_is = s.start_is; stop_is = s.stop_is; end_is = s.end_is }
-
+-- The state with a record more has moved as it had.
 reserved-moved : {x : Text} {a b : State} → Moved x a b → Moved x (reserved a) (reserved b)
 unfolding reserved
 reserved-moved v =
@@ -213,21 +184,20 @@ module _ {x : Text} {st r : State} {F : Option Fault} (y : Ready x st) (o : Open
   late-name N {B} rest {l} {l'} {a} {b} {d} f k name v e v₂ put more =
       let put₁ = subst (λ i. Put l i kind.Name st.start st.stop 0 0 1 l') v₂.out_is put in
       let d₁ = first-name kind.EnumConstruction N (nt B ∷ []) v put₁ refl (name-role kind.EnumConstruction st.class names-kind name) in
-      let cls : (reserved a).class ≡ t.DoubleColon = reserved-class a (reserved a) refl ∙ e in
-      let d₂ = then_turns (tok t.DoubleColon ∷ rest) d₁ f (k (get_or (classes x) (reserved a).at 0) (sym d₁.lays.stands.class_is ∙ cls)) in
+      let cls : (reserved a).class ≡ t.DoubleColon = reserved-class a refl ∙ e in
+      let d₂ = turns (tok t.DoubleColon ∷ rest) d₁ f (k (reserved a).class cls) in
       let v₃ : Moved x (reserved a) d = subst (λ u. Moved x (reserved a) u) (sym more) (reserved-moved v₂) in
       advances d₂ cls (omega arith) v₃ (sign-mark kind.EnumConstruction t.DoubleColon tt)
 
   -- A name, `::` and `<`, all marks.
-  pub angled : (N : ℕ → Type 0) {B D : ℕ} (rest : List Sym) (l : List ℕ) {b d : State} → sort_of (ex means (nt B)) ≡ shape.flat → ((i : ℕ) → i ≡ t.DoubleColon → expand table B i ≡ some (tok t.DoubleColon ∷ nt D ∷ []))
-      → sort_of (ex means (nt D)) ≡ shape.flat → ((i : ℕ) → i ≡ t.LAngle → expand table D i ≡ some (tok t.LAngle ∷ rest)) → role_of kind.Call st.class ≡ aMark
-      → (g : Begun x r b) → b.class ≡ t.LAngle → Moved x b d
+  pub angled : (N : ℕ → Type 0) {B D : ℕ} {rest other : List Sym} (l : List ℕ) {b d : State} → Optionally B t.DoubleColon (tok t.DoubleColon ∷ nt D ∷ []) → Forked D t.LAngle (tok t.LAngle ∷ rest) other
+      → role_of kind.Call st.class ≡ aMark → (g : Begun x r b) → b.class ≡ t.LAngle → Moved x b d
       → Amid x kind.Call N (s ∷ nt B ∷ []) (rest ++ []) r l (word st.class ∷ word t.DoubleColon ∷ word t.LAngle ∷ []) (tok_at x r.at ∷ tok_at x g.a.at ∷ tok_at x b.at ∷ []) 3 d l
-  angled N {B} {D} rest l {b} f k f₂ k₂ role g e v =
+  angled N {B} {D} {rest} l {b} p q role g e v =
       let d₁ = first-mark kind.Call N (nt B ∷ []) l g.first role in
-      let d₂ = then_turns (tok t.DoubleColon ∷ nt D ∷ []) d₁ f (k (get_or (classes x) g.a.at 0) (sym d₁.lays.stands.class_is ∙ g.colons)) in
+      let d₂ = turns (tok t.DoubleColon ∷ nt D ∷ []) d₁ p.flat (p.there g.a.class g.colons) in
       let d₃ = advances d₂ g.colons (omega arith) g.second (sign-mark kind.Call t.DoubleColon tt) in
-      let d₄ = then_turns (tok t.LAngle ∷ rest) d₃ f₂ (k₂ (get_or (classes x) b.at 0) (sym d₃.lays.stands.class_is ∙ e)) in
+      let d₄ = turns (tok t.LAngle ∷ rest) d₃ q.flat (q.there b.class e) in
       advances d₄ e (omega arith) v (sign-mark kind.Call t.LAngle tt)
 
 -- The function's name in `< >`.
@@ -281,37 +251,37 @@ begun {a = a} e v c v₂ = record { a = a; first = moved-from e v; colons = c; s
 
 -- A path: its names,
 pub path-starts : {x : Text} {st : State} (l : List ℕ) → Ready x st → Amid x kind.EnumConstruction AnyN (nt n-path ∷ []) (nt n-identifier ∷ nt n-path-many-DoubleColon ∷ nt n-path-optional ∷ []) st l [] [] 0 st l
-path-starts {x} {st} l y = then_turns (nt n-identifier ∷ nt n-path-many-DoubleColon ∷ nt n-path-optional ∷ []) (starts kind.EnumConstruction AnyN (nt n-path ∷ []) l y.stands) flat-path (path-row (get_or (classes x) st.at 0))
+path-starts {x} {st} l y = turns (nt n-identifier ∷ nt n-path-many-DoubleColon ∷ nt n-path-optional ∷ []) (starts kind.EnumConstruction AnyN (nt n-path ∷ []) l y.stands) flat-path (path-row st.class)
 
-module _ {x : Text} {st : State} {l : List ℕ} {a : ℕ} {st₁ : State} {l₁ : List ℕ} (n : NamesOn x kind.EnumConstruction AnyN (nt n-path ∷ []) (nt n-path-optional ∷ []) st l [] [] 0 a st₁ l₁) where
+module _ {x : Text} {st : State} {l : List ℕ} {a : ℕ} {st₁ : State} {l₁ : List ℕ} (n : Told x kind.EnumConstruction AnyN (nt n-path ∷ []) (nt n-path-optional ∷ []) st l [] [] 0 (NamePieces a) st₁ l₁) where
   names-angle : sees t.LAngle n.W ≡ false
-  names-angle = n.others t.LAngle no-angle-name (λ e. omega arith)
+  names-angle = n.so.others t.LAngle no-angle-name (λ e. omega arith)
 
   -- and nothing more,
   pub path-ends : (st₁.class ≡ t.LParen → ⊥) → Went x (nt n-path ∷ []) as_items Path st l st₁ l₁ a 0
   path-ends h =
-      let d = then_turns [] n.amid flat-path-args (path-alone (λ e. h (n.amid.lays.stands.class_is ∙ e))) in
-      finish d (record { roles = λ i. d.roles i tt; count_is = ap name_count d.sorted ∙ n.count_is; bounded = n.bounded; angles = ap (sees t.LAngle) d.sorted ∙ names-angle })
+      let d = turns [] n.amid path-optional.flat (path-optional.elsewhere st₁.class h) in
+      finish d (record { roles = λ i. d.roles i tt; count_is = ap name_count d.sorted ∙ n.so.count_is; bounded = n.so.bounded; angles = ap (sees t.LAngle) d.sorted ∙ names-angle })
 
   -- or arguments.
-  pub path-into : st₁.class ≡ t.LParen → Amid x kind.EnumConstruction AnyN (nt n-path ∷ []) (nt n-arguments ∷ []) st l n.W n.own n.k st₁ l₁
-  path-into h = shifted (then_turns (nt n-arguments ∷ []) n.amid flat-path-args (path-args (sym n.amid.lays.stands.class_is ∙ h)))
+  pub path-into : st₁.class ≡ t.LParen → Amid x kind.EnumConstruction AnyN (nt n-path ∷ []) (nt n-arguments ∷ []) st l n.W n.more n.k st₁ l₁
+  path-into h = shifted (turns (nt n-arguments ∷ []) n.amid path-optional.flat (path-optional.there st₁.class h))
     where
-      shifted : Amid x kind.EnumConstruction AnyN (nt n-path ∷ []) (nt n-arguments ∷ []) st l n.W n.own (0 + n.k) st₁ l₁ → Amid x kind.EnumConstruction AnyN (nt n-path ∷ []) (nt n-arguments ∷ []) st l n.W n.own n.k st₁ l₁
-      shifted d = let e : 0 + n.k ≡ n.k = omega arith in subst (λ i. Amid x kind.EnumConstruction AnyN (nt n-path ∷ []) (nt n-arguments ∷ []) st l n.W n.own i st₁ l₁) e d
+      shifted : Amid x kind.EnumConstruction AnyN (nt n-path ∷ []) (nt n-arguments ∷ []) st l n.W n.more (0 + n.k) st₁ l₁ → Amid x kind.EnumConstruction AnyN (nt n-path ∷ []) (nt n-arguments ∷ []) st l n.W n.more n.k st₁ l₁
+      shifted d = let e : 0 + n.k ≡ n.k = omega arith in subst (λ i. Amid x kind.EnumConstruction AnyN (nt n-path ∷ []) (nt n-arguments ∷ []) st l n.W n.more i st₁ l₁) e d
 
-  pub path-called : {u : ℕ} {st₂ : State} {l₂ : List ℕ} → Argued x kind.EnumConstruction AnyN (nt n-path ∷ []) [] st l n.W n.own n.k u st₂ l₂ → Went x (nt n-path ∷ []) as_items Path st l st₂ l₂ a 0
+  pub path-called : {u : ℕ} {st₂ : State} {l₂ : List ℕ} → Argued x kind.EnumConstruction AnyN (nt n-path ∷ []) [] st l n.W n.more n.k u st₂ l₂ → Went x (nt n-path ∷ []) as_items Path st l st₂ l₂ a 0
   path-called g =
       let d = g.amid in
       finish d (record {
         roles = λ i. d.roles i tt;
         count_is = ap name_count d.sorted ∙ name_count-append n.W (word t.LParen ∷ (g.W ++ (word t.RParen ∷ []))) ∙ counted;
-        bounded = n.bounded;
+        bounded = n.so.bounded;
         angles = ap (sees t.LAngle) d.sorted ∙ sees-append t.LAngle n.W (word t.LParen ∷ (g.W ++ (word t.RParen ∷ []))) ∙ ap₂ (λ (p q : Bool). p || q) names-angle (args-angle g.W g.commas);
       })
     where
       counted : name_count n.W + name_count (word t.LParen ∷ (g.W ++ (word t.RParen ∷ []))) ≡ a
-      counted = omega (arith, n.count_is, args_count g.W g.commas)
+      counted = omega (arith, n.so.count_is, args_count g.W g.commas)
 
 -- Arguments before whose records that of a name is put: as if the name had been there before.
 module _ {x : Text} {a b z : State} {l l₁ l₃ l₄ : List ℕ} {u v s e : ℕ} (y : Near x a) (q : Went x (nt n-arguments ∷ []) as_items Args a l b l₁ u v) (put : Put l₁ b.out kind.Name s e 0 0 1 l₃) (more : z ≡ reserved b) (turn : Turned l₃ a.out b.out z.out l₄) where

@@ -2,9 +2,9 @@
 -- An alternative of a type, a pattern, an expression and a head is named (specs/Choice.antt). Elsewhere its number is its place within its
 -- own nonterminal, as the row of the table has it: nothing, then the part; the first of two, then the second. No other nonterminal moves it.
 -- Assumes nothing.
-use Rattle.std.proofs.Common.{◌≡◌, ℕ, ◌+◌, ◌<◌, Bool, true, false, cond, not, ◌&&◌, T, eqb, ltb, List, [], ◌∷◌, length, get_or, sym, refl, ap, subst, ap₂, arith, eqb→eq, ltb→lt}
+use Rattle.std.proofs.Common.{◌≡◌, ℕ, ◌+◌, ◌<◌, Bool, true, false, cond, not, ◌&&◌, ◌||◌, T, eqb, ltb, List, [], ◌∷◌, length, get_or, sym, refl, ap, subst, ap₂, arith}
 use mathlib.Core.Option.{some}
-use Rattle.text.proofs.Table.{is_true, not-true}
+use Rattle.text.proofs.Table.{not-true}
 use Rattle.text.specs.Lists.{has}
 use Rattle.kinds.specs.Rules.{wrappers}
 use Rattle.lexer.specs.Classes as t
@@ -43,9 +43,9 @@ use Rattle.grammar.specs.Shapes.TablesIndex.{
 }
 use Rattle.parse.specs.Contract.{Text, classes, Read, callees}
 use Rattle.parse.specs.Choice as choice
-use Rattle.parse.proofs.choice.Chosen.{where-chosen, alone, is-alone, hit, miss, goes}
+use Rattle.parse.proofs.choice.Chosen.{where-chosen, only-class, alone-there, pos-there, yes-there, no-there, Forked, Optionally, forked, optionally, alone, hit, miss, goes}
 use Rattle.parse.proofs.Rule.Marks.{a_word, word-mark}
-use Rattle.parse.proofs.Rule.ByClass.{and_both}
+use Rattle.parse.proofs.Rule.ByClass.{past_classes, run, and_both}
 use Rattle.parse.proofs.Rule.Steps.{reads-tok, reads-one}
 use Rattle.parse.proofs.Rule.Closing.{Rule}
 
@@ -127,35 +127,40 @@ is-apart c h =
     let r = and_both (not (eqb c t.Comma)) (not (eqb c t.DecLiteral)) q.1 in
     record { angle = not-true (eqb c t.LAngle) p.0; colons = not-true (eqb c t.DoubleColon) q.0; comma = not-true (eqb c t.Comma) r.0; decimal = not-true (eqb c t.DecLiteral) r.1 }
 
+-- The classes of an alternative each stand for themselves in the nonterminal that its rule begins with.
+for-chosen : (A i c : ℕ) → sort_of (ex means (nt A)) ≡ shape.flat → T (not (eqb (row table n-single).other i)) → T (run (λ a. not (eqb (choose table n-single a) i) || ltb 0 a) past_classes 0)
+    → T (run (λ a. not (eqb (choose table n-single a) i) || alone (expand table A a) a) past_classes 0) → choose table n-single c ≡ i → For (nt A) c
+for-chosen A i c f o g h e = for-nt A c (pos-there n-single i o g c e) f (alone-there n-single A i o h c e)
+
 -- The tokens that calls begin with.
 module _ (c : ℕ) where
   pub for-simple : choose table n-single c ≡ choice.SimpleCall → For (nt n-simple_call-word) c
   unfolding sort_of ex means choose row table look alt pick
-  for-simple e = for-nt n-simple_call-word c (ltb→lt 0 c (where-chosen n-single choice.SimpleCall (λ a. ltb 0 a) tt tt c e)) refl (is-alone (expand table n-simple_call-word c) c (where-chosen n-single choice.SimpleCall (λ a. alone (expand table n-simple_call-word a) a) tt tt c e))
+  for-simple e = for-chosen n-simple_call-word choice.SimpleCall c refl tt tt tt e
 
   pub at-cast : choose table n-single c ≡ choice.CastCall → c ≡ t.LAngle
   unfolding choose row table look
-  at-cast e = eqb→eq c t.LAngle (where-chosen n-single choice.CastCall (λ a. eqb a t.LAngle) tt tt c e)
+  at-cast e = only-class n-single choice.CastCall t.LAngle tt tt c e
 
   pub for-named : choose table n-single c ≡ choice.Named → For (nt n-named-word) c
   unfolding sort_of ex means choose row table look alt pick
-  for-named e = for-nt n-named-word c (ltb→lt 0 c (where-chosen n-single choice.Named (λ a. ltb 0 a) tt tt c e)) refl (is-alone (expand table n-named-word c) c (where-chosen n-single choice.Named (λ a. alone (expand table n-named-word a) a) tt tt c e))
+  for-named e = for-chosen n-named-word choice.Named c refl tt tt tt e
 
   pub for-bare : choose table n-single c ≡ choice.Bare → For (nt n-bare-word) c
   unfolding sort_of ex means choose row table look alt pick
-  for-bare e = for-nt n-bare-word c (ltb→lt 0 c (where-chosen n-single choice.Bare (λ a. ltb 0 a) tt tt c e)) refl (is-alone (expand table n-bare-word c) c (where-chosen n-single choice.Bare (λ a. alone (expand table n-bare-word a) a) tt tt c e))
+  for-bare e = for-chosen n-bare-word choice.Bare c refl tt tt tt e
 
   pub for-typed : choose table n-single c ≡ choice.Typed → For (nt n-typed-word) c
   unfolding sort_of ex means choose row table look alt pick
-  for-typed e = for-nt n-typed-word c (ltb→lt 0 c (where-chosen n-single choice.Typed (λ a. ltb 0 a) tt tt c e)) refl (is-alone (expand table n-typed-word c) c (where-chosen n-single choice.Typed (λ a. alone (expand table n-typed-word a) a) tt tt c e))
+  for-typed e = for-chosen n-typed-word choice.Typed c refl tt tt tt e
 
   pub for-folding : choose table n-single c ≡ choice.Folding → For (nt n-folding-word) c
   unfolding sort_of ex means choose row table look alt pick
-  for-folding e = for-nt n-folding-word c (ltb→lt 0 c (where-chosen n-single choice.Folding (λ a. ltb 0 a) tt tt c e)) refl (is-alone (expand table n-folding-word c) c (where-chosen n-single choice.Folding (λ a. alone (expand table n-folding-word a) a) tt tt c e))
+  for-folding e = for-chosen n-folding-word choice.Folding c refl tt tt tt e
 
   pub at-whiles : choose table n-single c ≡ choice.ForWhile → c ≡ t.for_while
   unfolding choose row table look
-  at-whiles e = eqb→eq c t.for_while (where-chosen n-single choice.ForWhile (λ a. eqb a t.for_while) tt tt c e)
+  at-whiles e = only-class n-single choice.ForWhile t.for_while tt tt c e
 
   pub for-whiles : choose table n-single c ≡ choice.ForWhile → For (tok t.for_while) c
   for-whiles e = subst (λ a. For (tok t.for_while) a) (sym (at-whiles e)) (for-tok t.for_while (omega arith))
@@ -176,33 +181,33 @@ module _ (c : ℕ) where
   -- no wrappers,
   pub simple-unwrapped : choose table n-single c ≡ choice.SimpleCall → has wrappers c ≡ false
   unfolding choose row table look has
-  simple-unwrapped e = not-true (has wrappers c) (where-chosen n-single choice.SimpleCall (λ a. not (has wrappers a)) tt tt c e)
+  simple-unwrapped e = no-there n-single choice.SimpleCall (has wrappers) tt tt c e
 
   -- names,
   pub named-name : choose table n-single c ≡ choice.Named → has t.identifiers c ≡ true
   unfolding choose row table look has
-  named-name e = is_true (has t.identifiers c) (where-chosen n-single choice.Named (λ a. has t.identifiers a) tt tt c e)
+  named-name e = yes-there n-single choice.Named (has t.identifiers) tt tt c e
 
   pub bare-name : choose table n-single c ≡ choice.Bare → has t.identifiers c ≡ true
   unfolding choose row table look has
-  bare-name e = is_true (has t.identifiers c) (where-chosen n-single choice.Bare (λ a. has t.identifiers a) tt tt c e)
+  bare-name e = yes-there n-single choice.Bare (has t.identifiers) tt tt c e
 
   pub typed-name : choose table n-single c ≡ choice.Typed → has t.identifiers c ≡ true
   unfolding choose row table look has
-  typed-name e = is_true (has t.identifiers c) (where-chosen n-single choice.Typed (λ a. has t.identifiers a) tt tt c e)
+  typed-name e = yes-there n-single choice.Typed (has t.identifiers) tt tt c e
 
   pub folding-name : choose table n-single c ≡ choice.Folding → has t.identifiers c ≡ true
   unfolding choose row table look has
-  folding-name e = is_true (has t.identifiers c) (where-chosen n-single choice.Folding (λ a. has t.identifiers a) tt tt c e)
+  folding-name e = yes-there n-single choice.Folding (has t.identifiers) tt tt c e
 
   pub whiles-name : choose table n-single c ≡ choice.ForWhile → has t.identifiers c ≡ true
   unfolding choose row table look has
-  whiles-name e = is_true (has t.identifiers c) (where-chosen n-single choice.ForWhile (λ a. has t.identifiers a) tt tt c e)
+  whiles-name e = yes-there n-single choice.ForWhile (has t.identifiers) tt tt c e
 
   -- other than `None`,
   pub named-variable : choose table n-single c ≡ choice.Named → eqb c t.None ≡ false
   unfolding choose row table look
-  named-variable e = not-true (eqb c t.None) (where-chosen n-single choice.Named (λ a. not (eqb a t.None)) tt tt c e)
+  named-variable e = no-there n-single choice.Named (λ a. eqb a t.None) tt tt c e
 
   -- and marks of a call.
   pub typed-mark : choose table n-single c ≡ choice.Typed → role_of kind.Call c ≡ aMark
@@ -230,129 +235,64 @@ pub number-role : role_of kind.Call t.DecLiteral ≡ as_number
 unfolding role_of has
 number-role = refl
 
--- What may follow a name: nothing,
+-- What may follow a name: nothing, or `::` and what follows that,
+pub bare-optional : Optionally n-bare-optional-DoubleColon t.DoubleColon (tok t.DoubleColon ∷ nt n-path ∷ [])
+unfolding sort_of ex means choose row look table alt pick
+bare-optional = optionally refl (λ c. refl) refl refl
+
+pub typed-optional : Optionally n-typed-optional-DoubleColon t.DoubleColon (tok t.DoubleColon ∷ nt n-typed-optional-DoubleColon-choice ∷ [])
+unfolding sort_of ex means choose row look table alt pick
+typed-optional = optionally refl (λ c. refl) refl refl
+
+pub folding-optional : Optionally n-folding-optional-DoubleColon t.DoubleColon (tok t.DoubleColon ∷ nt n-folding-optional-DoubleColon-choice ∷ [])
+unfolding sort_of ex means choose row look table alt pick
+folding-optional = optionally refl (λ c. refl) refl refl
+
+pub whiles-optional : Optionally n-for_while-optional-DoubleColon t.DoubleColon (tok t.DoubleColon ∷ nt n-for_while-optional-DoubleColon-choice ∷ [])
+unfolding sort_of ex means choose row look table alt pick
+whiles-optional = optionally refl (λ c. refl) refl refl
+
+-- which is `<` and what it opens, or a path;
+pub typed-choice : Forked n-typed-optional-DoubleColon-choice t.LAngle (tok t.LAngle ∷ nt n-type ∷ tok t.RAngle ∷ nt n-arguments ∷ []) (nt n-path ∷ [])
+unfolding sort_of ex means choose row look table alt pick
+typed-choice = forked refl (λ c. refl) refl refl
+
+pub folding-choice : Forked n-folding-optional-DoubleColon-choice t.LAngle (tok t.LAngle ∷ nt n-function_name ∷ tok t.Comma ∷ tok t.DecLiteral ∷ tok t.RAngle ∷ nt n-arguments ∷ []) (nt n-path ∷ [])
+unfolding sort_of ex means choose row look table alt pick
+folding-choice = forked refl (λ c. refl) refl refl
+
+pub whiles-choice : Forked n-for_while-optional-DoubleColon-choice t.LAngle (tok t.LAngle ∷ nt n-function_name ∷ tok t.RAngle ∷ nt n-arguments ∷ []) (nt n-path ∷ [])
+unfolding sort_of ex means choose row look table alt pick
+whiles-choice = forked refl (λ c. refl) refl refl
+
+-- behind a path arguments or nothing;
+pub path-optional : Optionally n-path-optional t.LParen (nt n-arguments ∷ [])
+unfolding sort_of ex means choose row look table alt pick
+path-optional = optionally refl (λ c. refl) refl refl
+
+-- behind a name that is called nothing, arguments, or `::` and a path.
 module _ {a : ℕ} where
   pub named-alone : (a ≡ t.DoubleColon → ⊥) → (a ≡ t.LParen → ⊥) → expand table n-named-optional a ≡ some []
   unfolding choose row table look alt pick
   named-alone h g = goes n-named-optional 1 a (miss t.DoubleColon 3 (on t.LParen 2 ∷ []) 1 h (miss t.LParen 2 [] 1 g refl)) refl
 
-  pub bare-alone : (a ≡ t.DoubleColon → ⊥) → expand table n-bare-optional-DoubleColon a ≡ some []
-  unfolding choose row table look alt pick
-  bare-alone h = goes n-bare-optional-DoubleColon 1 a (miss t.DoubleColon 2 [] 1 h refl) refl
-
-  pub typed-alone : (a ≡ t.DoubleColon → ⊥) → expand table n-typed-optional-DoubleColon a ≡ some []
-  unfolding choose row table look alt pick
-  typed-alone h = goes n-typed-optional-DoubleColon 1 a (miss t.DoubleColon 2 [] 1 h refl) refl
-
-  pub folding-alone : (a ≡ t.DoubleColon → ⊥) → expand table n-folding-optional-DoubleColon a ≡ some []
-  unfolding choose row table look alt pick
-  folding-alone h = goes n-folding-optional-DoubleColon 1 a (miss t.DoubleColon 2 [] 1 h refl) refl
-
-  pub whiles-alone : (a ≡ t.DoubleColon → ⊥) → expand table n-for_while-optional-DoubleColon a ≡ some []
-  unfolding choose row table look alt pick
-  whiles-alone h = goes n-for_while-optional-DoubleColon 1 a (miss t.DoubleColon 2 [] 1 h refl) refl
-
-  pub path-alone : (a ≡ t.LParen → ⊥) → expand table n-path-optional a ≡ some []
-  unfolding choose row table look alt pick
-  path-alone h = goes n-path-optional 1 a (miss t.LParen 2 [] 1 h refl) refl
-
-  -- arguments,
   pub named-args : a ≡ t.LParen → expand table n-named-optional a ≡ some (nt n-arguments ∷ [])
   unfolding choose row table look alt pick
   named-args h = goes n-named-optional 2 a (miss t.DoubleColon 3 (on t.LParen 2 ∷ []) 1 (λ (e : a ≡ t.DoubleColon). omega (arith, h, e)) (hit t.LParen 2 [] 1 h)) refl
 
-  pub path-args : a ≡ t.LParen → expand table n-path-optional a ≡ some (nt n-arguments ∷ [])
-  unfolding choose row table look alt pick
-  path-args h = goes n-path-optional 2 a (hit t.LParen 2 [] 1 h) refl
-
-  -- `::`,
   pub named-colons : a ≡ t.DoubleColon → expand table n-named-optional a ≡ some (tok t.DoubleColon ∷ nt n-path ∷ [])
   unfolding choose row table look alt pick
   named-colons h = goes n-named-optional 3 a (hit t.DoubleColon 3 (on t.LParen 2 ∷ []) 1 h) refl
 
-  pub bare-colons : a ≡ t.DoubleColon → expand table n-bare-optional-DoubleColon a ≡ some (tok t.DoubleColon ∷ nt n-path ∷ [])
-  unfolding choose row table look alt pick
-  bare-colons h = goes n-bare-optional-DoubleColon 2 a (hit t.DoubleColon 2 [] 1 h) refl
-
-  pub typed-colons : a ≡ t.DoubleColon → expand table n-typed-optional-DoubleColon a ≡ some (tok t.DoubleColon ∷ nt n-typed-optional-DoubleColon-choice ∷ [])
-  unfolding choose row table look alt pick
-  typed-colons h = goes n-typed-optional-DoubleColon 2 a (hit t.DoubleColon 2 [] 1 h) refl
-
-  pub folding-colons : a ≡ t.DoubleColon → expand table n-folding-optional-DoubleColon a ≡ some (tok t.DoubleColon ∷ nt n-folding-optional-DoubleColon-choice ∷ [])
-  unfolding choose row table look alt pick
-  folding-colons h = goes n-folding-optional-DoubleColon 2 a (hit t.DoubleColon 2 [] 1 h) refl
-
-  pub whiles-colons : a ≡ t.DoubleColon → expand table n-for_while-optional-DoubleColon a ≡ some (tok t.DoubleColon ∷ nt n-for_while-optional-DoubleColon-choice ∷ [])
-  unfolding choose row table look alt pick
-  whiles-colons h = goes n-for_while-optional-DoubleColon 2 a (hit t.DoubleColon 2 [] 1 h) refl
-
-  -- and then `<`
-  pub typed-angle : a ≡ t.LAngle → expand table n-typed-optional-DoubleColon-choice a ≡ some (tok t.LAngle ∷ nt n-type ∷ tok t.RAngle ∷ nt n-arguments ∷ [])
-  unfolding choose row table look alt pick
-  typed-angle h = goes n-typed-optional-DoubleColon-choice 1 a (hit t.LAngle 1 [] 2 h) refl
-
-  pub folding-angle : a ≡ t.LAngle → expand table n-folding-optional-DoubleColon-choice a ≡ some (tok t.LAngle ∷ nt n-function_name ∷ tok t.Comma ∷ tok t.DecLiteral ∷ tok t.RAngle ∷ nt n-arguments ∷ [])
-  unfolding choose row table look alt pick
-  folding-angle h = goes n-folding-optional-DoubleColon-choice 1 a (hit t.LAngle 1 [] 2 h) refl
-
-  pub whiles-angle : a ≡ t.LAngle → expand table n-for_while-optional-DoubleColon-choice a ≡ some (tok t.LAngle ∷ nt n-function_name ∷ tok t.RAngle ∷ nt n-arguments ∷ [])
-  unfolding choose row table look alt pick
-  whiles-angle h = goes n-for_while-optional-DoubleColon-choice 1 a (hit t.LAngle 1 [] 2 h) refl
-
-  -- or a path.
-  pub typed-path : (a ≡ t.LAngle → ⊥) → expand table n-typed-optional-DoubleColon-choice a ≡ some (nt n-path ∷ [])
-  unfolding choose row table look alt pick
-  typed-path h = goes n-typed-optional-DoubleColon-choice 2 a (miss t.LAngle 1 [] 2 h refl) refl
-
-  pub folding-path : (a ≡ t.LAngle → ⊥) → expand table n-folding-optional-DoubleColon-choice a ≡ some (nt n-path ∷ [])
-  unfolding choose row table look alt pick
-  folding-path h = goes n-folding-optional-DoubleColon-choice 2 a (miss t.LAngle 1 [] 2 h refl) refl
-
-  pub whiles-path : (a ≡ t.LAngle → ⊥) → expand table n-for_while-optional-DoubleColon-choice a ≡ some (nt n-path ∷ [])
-  unfolding choose row table look alt pick
-  whiles-path h = goes n-for_while-optional-DoubleColon-choice 2 a (miss t.LAngle 1 [] 2 h refl) refl
-
-pub path-row : (a : ℕ) → expand table n-path a ≡ some (nt n-identifier ∷ nt n-path-many-DoubleColon ∷ nt n-path-optional ∷ [])
-unfolding choose row table look alt pick
-path-row a = goes n-path 1 a refl refl
-
--- None of these is a node.
 pub flat-named : sort_of (ex means (nt n-named-optional)) ≡ shape.flat
 unfolding sort_of ex means
 flat-named = refl
 
-pub flat-bare : sort_of (ex means (nt n-bare-optional-DoubleColon)) ≡ shape.flat
-unfolding sort_of ex means
-flat-bare = refl
-
-pub flat-typed : sort_of (ex means (nt n-typed-optional-DoubleColon)) ≡ shape.flat
-unfolding sort_of ex means
-flat-typed = refl
-
-pub flat-folding : sort_of (ex means (nt n-folding-optional-DoubleColon)) ≡ shape.flat
-unfolding sort_of ex means
-flat-folding = refl
-
-pub flat-whiles : sort_of (ex means (nt n-for_while-optional-DoubleColon)) ≡ shape.flat
-unfolding sort_of ex means
-flat-whiles = refl
-
-pub flat-of-type : sort_of (ex means (nt n-typed-optional-DoubleColon-choice)) ≡ shape.flat
-unfolding sort_of ex means
-flat-of-type = refl
-
-pub flat-bounded : sort_of (ex means (nt n-folding-optional-DoubleColon-choice)) ≡ shape.flat
-unfolding sort_of ex means
-flat-bounded = refl
-
-pub flat-looped : sort_of (ex means (nt n-for_while-optional-DoubleColon-choice)) ≡ shape.flat
-unfolding sort_of ex means
-flat-looped = refl
+-- A path.
+pub path-row : (a : ℕ) → expand table n-path a ≡ some (nt n-identifier ∷ nt n-path-many-DoubleColon ∷ nt n-path-optional ∷ [])
+unfolding choose row table look alt pick
+path-row a = refl
 
 pub flat-path : sort_of (ex means (nt n-path)) ≡ shape.flat
 unfolding sort_of ex means
 flat-path = refl
-
-pub flat-path-args : sort_of (ex means (nt n-path-optional)) ≡ shape.flat
-unfolding sort_of ex means
-flat-path-args = refl

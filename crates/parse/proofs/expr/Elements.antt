@@ -1,6 +1,6 @@
 -- The elements of a block, as a loop reads them; and expressions of which it matters whether there is one without a comma.
 -- Assumes nothing.
-use Rattle.std.proofs.Common.{◌≡◌, ℕ, suc, ◌+◌, ◌<◌, Bool, true, false, cond, not, ◌&&◌, eqb, List, [], ◌∷◌, ◌++◌, get_or, sym, refl, ap, ◌∙◌, subst, arith}
+use Rattle.std.proofs.Common.{◌≡◌, ℕ, suc, ◌+◌, ◌-◌, ◌<◌, Bool, true, false, cond, not, ◌&&◌, eqb, List, [], ◌∷◌, ◌++◌, length, sym, refl, ap, ◌∙◌, subst, arith}
 use mathlib.Core.Option.{some}
 use types.Run.{OneOf}
 use denote.Enum.Declared.{tag_of}
@@ -9,33 +9,36 @@ use Rattle.theory.specs.Machine.{choose, expand}
 use Rattle.theory.specs.Ebnf as shape
 use Rattle.theory.specs.Ebnf.{sort_of}
 use Rattle.theory.specs.Same.{ex}
-use Rattle.own.specs.Tree.{Tok, marks}
-use Rattle.own.specs.Law.{Sort, word, child, sorts}
+use Rattle.own.specs.Tree.{Tok}
+use Rattle.own.specs.Law.{Sort, word, child}
 use Rattle.lexer.specs.Classes as t
 use Rattle.grammar.specs.Shapes.Tables.{means, table}
 use Rattle.grammar.specs.Records.Records.{sees, part_count, lone, unended}
-use Rattle.grammar.specs.Shapes.TablesIndex.{n-assignment, n-elements, n-elements-optional-Semi, n-expression}
+use Rattle.grammar.specs.Shapes.TablesIndex.{n-assignment, n-elements, n-elements-optional-Semi, n-expression, n-list-expression}
 use Rattle.parse.specs.contracts.Step.{the_type}
-use Rattle.parse.specs.Contract.{Text, classes, tok_at, raw, Stands, Ready, Moved, Eaten, Info, as_items, Went, Parsed, Node, ExprKind, Only}
+use Rattle.parse.specs.Contract.{Text, tok_at, raw, Stands, Ready, Moved, Eaten, Info, as_items, Went, Parsed, Node, ExprKind, Only}
 use Rattle.parse.specs.Infos.{LetKind, Elements, Lone}
 use Rattle.parse.specs.declared.State.{State}
 use Rattle.parse.specs.declared.Step.{Step}
 use Rattle.parse.specs.declared.Step.TheVariants.{Next}
-use Rattle.parse.proofs.choice.Chosen.{hit, miss, goes}
+use Rattle.parse.proofs.choice.Chosen.{Optionally, optionally, hit, miss, goes}
 use Rattle.parse.proofs.Rule.Marks.{sign-mark}
-use Rattle.parse.proofs.Rule.Amid.{inside, Amid, starts, then_turns, then-passed, then-went, went}
-use Rattle.parse.proofs.Rule.Chain.{Noded, then-node, advances, eaten, then-eats, then-lacks}
-use Rattle.parse.proofs.Rule.Commas.{AnyN, arranged-zero, arranged-only, comma-mark, semi-mark, only-append, finish, went-ahead}
+use Rattle.parse.proofs.Rule.Amid.{inside, Amid, starts, then-passed, went}
+use Rattle.parse.proofs.Rule.Told.{Told, then-told}
+use Rattle.parse.proofs.Rule.Chain.{turns, Noded, then-node, advances, eaten, then-eats, then-lacks}
+use Rattle.parse.proofs.Rule.Commas.{AnyN, arranged-zero, arranged-only, comma-mark, semi-mark, only-append, finish, went-ahead, Lined, item, lined-again}
 use Rattle.parse.proofs.Rule.Pieces.{seen_first, seen-second}
+use Rattle.parse.proofs.pattern.Forms.{Closes}
+use Rattle.parse.proofs.expr.Forms.{expression-rows}
 use Rattle.std.proofs.Math.Bool.{and-false}
 
 flat-elements : sort_of (ex means (nt n-elements)) ≡ shape.flat
 unfolding sort_of ex means
 flat-elements = refl
 
-flat-semi : sort_of (ex means (nt n-elements-optional-Semi)) ≡ shape.flat
-unfolding sort_of ex means
-flat-semi = refl
+semi-optional : Optionally n-elements-optional-Semi t.Semi (tok t.Semi ∷ nt n-elements ∷ [])
+unfolding sort_of ex means choose row look table alt pick
+semi-optional = optionally refl (λ c. refl) refl refl
 
 module _ {a : ℕ} where
   no_more : a ≡ t.RBrace → expand table n-elements a ≡ some []
@@ -49,14 +52,6 @@ module _ {a : ℕ} where
   an-expression : (a ≡ t.Let → ⊥) → (a ≡ t.RBrace → ⊥) → expand table n-elements a ≡ some (nt n-expression ∷ nt n-elements-optional-Semi ∷ [])
   unfolding choose row table look alt pick
   an-expression h g = goes n-elements 3 a (miss t.Let 2 (on t.RBrace 1 ∷ []) 3 h (miss t.RBrace 1 [] 3 g refl)) refl
-
-  the_last : (a ≡ t.Semi → ⊥) → expand table n-elements-optional-Semi a ≡ some []
-  unfolding choose row table look alt pick
-  the_last h = goes n-elements-optional-Semi 1 a (miss t.Semi 2 [] 1 h refl) refl
-
-  one_more : a ≡ t.Semi → expand table n-elements-optional-Semi a ≡ some (tok t.Semi ∷ nt n-elements ∷ [])
-  unfolding choose row table look alt pick
-  one_more h = goes n-elements-optional-Semi 2 a (hit t.Semi 2 [] 1 h) refl
 
 ends-semi : (b : Bool) (w : List Sort) → unended b (w ++ (word t.Semi ∷ [])) ≡ false
 unfolding unended
@@ -90,12 +85,9 @@ module _ {x : Text} {st : State} {l : List ℕ} (y : Ready x st) where
   elems-start = record { w = []; ms = []; m = 0; amid = starts 0 AnyN (nt n-elements ∷ []) l y.stands; semis = tt; ended = refl }
 
   module _ {here : State} {l₁ : List ℕ} (v : Elemed x st l here l₁) where
-    here-is : here.class ≡ get_or (classes x) here.at 0
-    here-is = v.amid.lays.stands.class_is
-
     pub elems-end : here.class ≡ t.RBrace → Went x (nt n-elements ∷ []) as_items Elements st l here l₁ 0 0
     elems-end c =
-        let d = then_turns [] v.amid flat-elements (no_more (sym here-is ∙ c)) in
+        let d = turns [] v.amid flat-elements (no_more c) in
         finish d (record {
           same = sym (d.roles 0 tt) ∙ arranged-zero 0 (raw x st.at d.pre);
           semis = subst (Only t.Semi) (sym d.sorted) v.semis;
@@ -117,7 +109,7 @@ module _ {x : Text} {st : State} {l : List ℕ} (y : Ready x st) where
     -- A `let`,
     module _ (c : here.class ≡ t.Let) where
       into-let : Amid x 0 AnyN (nt n-elements ∷ []) (nt n-assignment ∷ tok t.Semi ∷ nt n-elements ∷ []) st l v.w v.ms v.m here l₁
-      into-let = then_turns (nt n-assignment ∷ tok t.Semi ∷ nt n-elements ∷ []) v.amid flat-elements (a-let (sym here-is ∙ c))
+      into-let = turns (nt n-assignment ∷ tok t.Semi ∷ nt n-elements ∷ []) v.amid flat-elements (a-let c)
 
       pub let-passed : {J : Info} {l₂ l' : List ℕ} {r : Step} → OneOf (1 ∷ []) (tag_of the_type r) → Parsed x (nt n-assignment ∷ []) as_items (Node LetKind) here l₁ l₂ r → Parsed x (nt n-elements ∷ []) as_items J st l l' r
       let-passed k p = then-passed into-let k (λ τ q h. h) p
@@ -133,8 +125,8 @@ module _ {x : Text} {st : State} {l : List ℕ} (y : Ready x st) where
           pub let-again : Elemed x st l st₃ l₂
           let-again = closed the-let.kind the-let.low the-let.high the-let.first (v.m + 1) (then-eats the-let.amid (omega arith) q f (sign-mark 0 t.Semi tt))
 
-          pub let-less : here.at < st₃.at
-          let-less = let d = then-eats the-let.amid (omega arith) q f (sign-mark 0 t.Semi tt) in omega (arith, d.lays.few, d.lays.sized, v.amid.lays.ends, moved_on, went-ahead p e)
+          pub let-less : length x.ts - st₃.at < length x.ts - here.at
+          let-less = omega (arith, let-again.amid.lays.stands.within, v.amid.lays.ends, moved_on, went-ahead p e)
             where
               moved_on : st₂.at < st₃.at
               moved_on = eaten-ahead the-let.amid.lays.stands q f
@@ -142,7 +134,7 @@ module _ {x : Text} {st : State} {l : List ℕ} (y : Ready x st) where
     -- or an expression.
     module _ (n : here.class ≡ t.RBrace → ⊥) (c : here.class ≡ t.Let → ⊥) where
       into-expr : Amid x 0 AnyN (nt n-elements ∷ []) (nt n-expression ∷ nt n-elements-optional-Semi ∷ []) st l v.w v.ms v.m here l₁
-      into-expr = then_turns (nt n-expression ∷ nt n-elements-optional-Semi ∷ []) v.amid flat-elements (an-expression (λ h. c (here-is ∙ h)) (λ h. n (here-is ∙ h)))
+      into-expr = turns (nt n-expression ∷ nt n-elements-optional-Semi ∷ []) v.amid flat-elements (an-expression c n)
 
       pub expr-passed : {J : Info} {l₂ l' : List ℕ} {r : Step} → OneOf (1 ∷ []) (tag_of the_type r) → Parsed x (nt n-expression ∷ []) as_items (Node ExprKind) here l₁ l₂ r → Parsed x (nt n-elements ∷ []) as_items J st l l' r
       expr-passed k p = then-passed into-expr k (λ τ q h. h) p
@@ -153,7 +145,7 @@ module _ {x : Text} {st : State} {l : List ℕ} (y : Ready x st) where
 
         pub expr-last : (st₂.class ≡ t.Semi → ⊥) → Went x (nt n-elements ∷ []) as_items Elements st l st₂ l₂ 1 0
         expr-last h =
-            let d = then_turns [] the-expr.amid flat-semi (the_last (λ g. h (the-expr.amid.lays.stands.class_is ∙ g))) in
+            let d = turns [] the-expr.amid semi-optional.flat (semi-optional.elsewhere st₂.class h) in
             let i = the-expr in
             finish d (record {
               same = sym (d.roles 0 tt) ∙ arranged-zero 0 (raw x st.at d.pre);
@@ -163,13 +155,13 @@ module _ {x : Text} {st : State} {l : List ℕ} (y : Ready x st) where
 
         module _ {next : State} (h : st₂.class ≡ t.Semi) (mv : Moved x st₂ next) where
           with-semi : Amid x 0 AnyN (nt n-elements ∷ []) (nt n-elements ∷ []) st l ((v.w ++ (child the-expr.kind the-expr.low the-expr.high the-expr.first ∷ [])) ++ (word t.Semi ∷ [])) (v.ms ++ (tok_at x st₂.at ∷ [])) (v.m + 1) next l₂
-          with-semi = advances (then_turns (tok t.Semi ∷ nt n-elements ∷ []) the-expr.amid flat-semi (one_more (sym the-expr.amid.lays.stands.class_is ∙ h))) h (omega arith) mv (sign-mark 0 t.Semi tt)
+          with-semi = advances (turns (tok t.Semi ∷ nt n-elements ∷ []) the-expr.amid semi-optional.flat (semi-optional.there st₂.class h)) h (omega arith) mv (sign-mark 0 t.Semi tt)
 
           pub expr-again : Elemed x st l next l₂
           expr-again = closed the-expr.kind the-expr.low the-expr.high the-expr.first (v.m + 1) with-semi
 
-          pub expr-less : here.at < next.at
-          expr-less = omega (arith, went-ahead p e, mv.ahead (inside x st₂.at (omega arith) (sym the-expr.amid.lays.stands.class_is ∙ h)))
+          pub expr-less : length x.ts - next.at < length x.ts - here.at
+          expr-less = omega (arith, with-semi.lays.stands.within, went-ahead p e, mv.ahead (inside x st₂.at (omega arith) (sym the-expr.amid.lays.stands.class_is ∙ h)))
 
 -- A list of expressions: nothing, or some and a comma.
 pub data Counted : ℕ → List Sort → Type 0 where
@@ -194,34 +186,23 @@ pub counted-again : (w : List Sort) → Counted 2 (w ++ (word t.Comma ∷ []))
 unfolding sees
 counted-again w = some_comma (seen-second t.Comma w (word t.Comma ∷ []) refl)
 
--- Lists that a function read: their pieces, and what is known of them.
-pub record Told (x : Text) (K : ℕ) (N : ℕ → Type 0) (full left : List Sym) (st : State) (l : List ℕ) (w : List Sort) (ms : List Tok) (m : ℕ) (Q : List Sort → Type 0) (st₂ : State) (l₂ : List ℕ) : Type 0 where
-  pub W : List Sort
-  pub more : List Tok
-  pub k : ℕ
-  pub so : Q W
-  pub amid : Amid x K N full left st l (w ++ W) (ms ++ more) (m + k) st₂ l₂
+-- The loop goes on behind a comma.
+module _ {x : Text} {st : State} {l : List ℕ} (y : Ready x st) {k : ℕ} {here : State} {l₁ : List ℕ} (v : Lined x n-list-expression (Counted k) st l here l₁) (n : Closes here.class → ⊥)
+    {l₂ : List ℕ} {r : Step} {st₂ : State} {a b : ℕ} (p : Parsed x (nt n-expression ∷ []) as_items (Node ExprKind) here l₁ l₂ r) (e : r ≡ Next st₂ a b) {next : State} (c : st₂.class ≡ t.Comma) (mv : Moved x st₂ next) where
+  pub exprs-again : Lined x n-list-expression (Counted 2) st l next l₂
+  exprs-again =
+      let i = item expression-rows y v n p e in
+      lined-again expression-rows y v n p e c mv (counted-again (v.w ++ (child i.kind i.low i.high i.first ∷ [])))
 
+-- Lists that a function read, and what is known of them.
 module _ {x : Text} {K : ℕ} {N : ℕ → Type 0} {full left : List Sym} {st : State} {l : List ℕ} {w : List Sort} {ms : List Tok} {m : ℕ} {st₁ : State} {l₁ : List ℕ} {s : Sym} {st₂ : State} {l₂ : List ℕ} {a b : ℕ} {r : Step}
     (d : Amid x K N full (s ∷ left) st l w ms m st₁ l₁) where
   pub then-lone : Parsed x (s ∷ []) as_items Lone st₁ l₁ l₂ r → r ≡ Next st₂ a b → Told x K N full left st l w ms m (λ W. Only t.Comma W × (lone W ≡ eqb a 1)) st₂ l₂
   then-lone p e =
       let q = went e p in
-      record {
-        W = sorts (raw x st₁.at q.items);
-        more = marks (raw x st₁.at q.items);
-        k = q.m;
-        so = (q.info.commas, q.info.lone_is);
-        amid = then-went d q (λ n g. arranged-only K n t.Comma (comma-mark K) (raw x st₁.at q.items) q.info.commas ∙ sym q.info.same);
-      }
+      then-told d q (λ n g. arranged-only K n t.Comma (comma-mark K) (raw x st₁.at q.items) q.info.commas ∙ sym q.info.same) (q.info.commas, q.info.lone_is)
 
   pub then-elements : Parsed x (s ∷ []) as_items Elements st₁ l₁ l₂ r → r ≡ Next st₂ a b → Told x K N full left st l w ms m (λ W. a ≡ cond (unended false W) 1 0) st₂ l₂
   then-elements p e =
       let q = went e p in
-      record {
-        W = sorts (raw x st₁.at q.items);
-        more = marks (raw x st₁.at q.items);
-        k = q.m;
-        so = q.info.last_is;
-        amid = then-went d q (λ n g. arranged-only K n t.Semi (semi-mark K) (raw x st₁.at q.items) q.info.semis ∙ sym q.info.same);
-      }
+      then-told d q (λ n g. arranged-only K n t.Semi (semi-mark K) (raw x st₁.at q.items) q.info.semis ∙ sym q.info.same) q.info.last_is

@@ -1,6 +1,6 @@
 -- Expressions that are no calls: their rules in grammar's table, and the heads of their records.
 -- Assumes nothing.
-use Rattle.std.proofs.Common.{◌≡◌, ℕ, zero, suc, ◌<◌, ◌≤◌, Bool, true, false, cond, not, ◌&&◌, ◌||◌, T, eqb, ltb, List, [], ◌∷◌, ◌++◌, get_or, sym, refl, ap, ◌∙◌, ap₂, arith, eqb→eq, ltb→lt, ne_eqb}
+use Rattle.std.proofs.Common.{◌≡◌, ℕ, suc, ◌<◌, ◌≤◌, Bool, true, false, cond, not, ◌&&◌, ◌||◌, T, eqb, List, [], ◌∷◌, ◌++◌, get_or, sym, refl, ap, ◌∙◌, ap₂, arith, ne_eqb}
 use mathlib.Core.Option.{none, some}
 use Rattle.lexer.specs.Classes as t
 use Rattle.theory.specs.Grammar.{Sym, tok, nt, look, row, alt, pick}
@@ -23,14 +23,14 @@ use Rattle.parse.specs.declared.token.Brackets.TheVariants as brackets
 use Rattle.parse.specs.declared.Step.{Step}
 use Rattle.parse.specs.declared.State.{State}
 use Rattle.parse.specs.Choice as choice
-use Rattle.parse.proofs.choice.Chosen.{where-chosen, alone, is-alone, hit, miss, goes}
+use Rattle.parse.proofs.choice.Chosen.{Unpicked, no-alternative, only-class, alone-there, pos-there, Forked, forked, optionally, hit}
 use Rattle.parse.proofs.Rule.Marks.{keeping, keeps-between}
 use Rattle.parse.proofs.Rule.Amid.{Amid}
 use Rattle.parse.proofs.Rule.Steps.{decided}
 use Rattle.parse.proofs.Rule.Closing.{Rule}
 use Rattle.parse.proofs.Rule.Commas.{Rows}
 use Rattle.parse.proofs.Rule.Heads.{faultless}
-use Rattle.parse.proofs.pattern.Forms.{Closes, both_ends, both-more}
+use Rattle.parse.proofs.pattern.Forms.{Closes, rows-to-brackets}
 
 -- The rules.
 abbrev pub literal_rhs : List Sym
@@ -77,20 +77,20 @@ assign-rule = record { category = refl; from_one = refl; kind = refl; rule = ref
 module _ (c : ℕ) where
   pub at_literal : choose table n-single c ≡ choice.Literal → expand table n-literal c ≡ some (tok c ∷ [])
   unfolding choose row table look alt pick
-  at_literal e = is-alone (expand table n-literal c) c (where-chosen n-single choice.Literal (λ a. alone (expand table n-literal a) a) tt tt c e)
+  at_literal e = alone-there n-single n-literal choice.Literal tt tt c e
 
   pub literal-pos : choose table n-single c ≡ choice.Literal → 0 < c
   unfolding choose row table look
-  literal-pos e = ltb→lt 0 c (where-chosen n-single choice.Literal (λ a. ltb 0 a) tt tt c e)
+  literal-pos e = pos-there n-single choice.Literal tt tt c e
 
   pub at-bracketed : (b : Brackets) → choose table n-single c ≡ single_choice b → c ≡ opening_class b
   unfolding choose row table look
-  at-bracketed brackets.Round e = eqb→eq c t.LParen (where-chosen n-single choice.Parens (λ a. eqb a t.LParen) tt tt c e)
-  at-bracketed brackets.Square e = eqb→eq c t.LBracket (where-chosen n-single choice.Array (λ a. eqb a t.LBracket) tt tt c e)
+  at-bracketed brackets.Round e = only-class n-single choice.Parens t.LParen tt tt c e
+  at-bracketed brackets.Square e = only-class n-single choice.Array t.LBracket tt tt c e
 
   pub at_listed : choose table n-single c ≡ choice.List → c ≡ t.list!
   unfolding choose row table look
-  at_listed e = eqb→eq c t.list! (where-chosen n-single choice.List (λ a. eqb a t.list!) tt tt c e)
+  at_listed e = only-class n-single choice.List t.list! tt tt c e
 
   pub at_block : c ≡ t.LBrace → choose table n-block c ≡ 1
   unfolding choose row table look
@@ -104,52 +104,19 @@ pub flat-literal : sort_of (ex means (nt n-literal)) ≡ shape.flat
 unfolding sort_of ex means
 flat-literal = refl
 
-pub flat-expression : sort_of (ex means (nt n-expression)) ≡ shape.flat
-unfolding sort_of ex means
-flat-expression = refl
-
 -- An expression is a block at a brace, otherwise any other.
-module _ {a : ℕ} where
-  pub expression-block : a ≡ t.LBrace → expand table n-expression a ≡ some (nt n-block ∷ [])
-  unfolding choose row table look alt pick
-  expression-block h = goes n-expression 1 a (hit t.LBrace 1 [] 2 h) refl
-
-  pub expression-single : (a ≡ t.LBrace → ⊥) → expand table n-expression a ≡ some (nt n-single ∷ [])
-  unfolding choose row table look alt pick
-  expression-single h = goes n-expression 2 a (miss t.LBrace 1 [] 2 h refl) refl
+pub expression-choice : Forked n-expression t.LBrace (nt n-block ∷ []) (nt n-single ∷ [])
+unfolding sort_of ex means choose row look table alt pick
+expression-choice = forked refl (λ c. refl) refl refl
 
 -- No expression begins with another class.
-pub no-single : (c i : ℕ) → i ≡ choose table n-single c → ((((((((((((Unit {0} × (i ≡ choice.Literal → ⊥)) × (i ≡ choice.Parens → ⊥)) × (i ≡ choice.Array → ⊥)) × (i ≡ choice.List → ⊥)) × (i ≡ choice.Match → ⊥)) × (i ≡ choice.SimpleCall → ⊥)) × (i ≡ choice.CastCall → ⊥))
-    × (i ≡ choice.Named → ⊥)) × (i ≡ choice.Bare → ⊥)) × (i ≡ choice.Typed → ⊥)) × (i ≡ choice.Folding → ⊥)) × (i ≡ choice.ForWhile → ⊥)) → expand table n-single c ≡ none
-unfolding row table alt pick
-no-single c i e h = ap (alt table n-single) (sym e) ∙ go i h
-  where
-    go : (i : ℕ) → ((((((((((((Unit {0} × (i ≡ choice.Literal → ⊥)) × (i ≡ choice.Parens → ⊥)) × (i ≡ choice.Array → ⊥)) × (i ≡ choice.List → ⊥)) × (i ≡ choice.Match → ⊥)) × (i ≡ choice.SimpleCall → ⊥)) × (i ≡ choice.CastCall → ⊥)) × (i ≡ choice.Named → ⊥)) × (i ≡ choice.Bare → ⊥)) × (i ≡ choice.Typed → ⊥)) × (i ≡ choice.Folding → ⊥)) × (i ≡ choice.ForWhile → ⊥)) → alt table n-single i ≡ none
-    go zero h = refl
-    go (suc zero) h = absurd (h.0.0.0.0.0.0.0.0.0.0.0.1 refl)
-    go (suc (suc zero)) h = absurd (h.0.0.0.0.0.0.0.0.0.0.1 refl)
-    go (suc (suc (suc zero))) h = absurd (h.0.0.0.0.0.0.0.0.0.1 refl)
-    go (suc (suc (suc (suc zero)))) h = absurd (h.0.0.0.0.0.0.0.0.1 refl)
-    go (suc (suc (suc (suc (suc zero))))) h = absurd (h.0.0.0.0.0.0.0.1 refl)
-    go (suc (suc (suc (suc (suc (suc zero)))))) h = absurd (h.0.0.0.0.0.0.1 refl)
-    go (suc (suc (suc (suc (suc (suc (suc zero))))))) h = absurd (h.0.0.0.0.0.1 refl)
-    go (suc (suc (suc (suc (suc (suc (suc (suc zero)))))))) h = absurd (h.0.0.0.0.1 refl)
-    go (suc (suc (suc (suc (suc (suc (suc (suc (suc zero))))))))) h = absurd (h.0.0.0.1 refl)
-    go (suc (suc (suc (suc (suc (suc (suc (suc (suc (suc zero)))))))))) h = absurd (h.0.0.1 refl)
-    go (suc (suc (suc (suc (suc (suc (suc (suc (suc (suc (suc zero))))))))))) h = absurd (h.0.1 refl)
-    go (suc (suc (suc (suc (suc (suc (suc (suc (suc (suc (suc (suc zero)))))))))))) h = absurd (h.1 refl)
-    go (suc (suc (suc (suc (suc (suc (suc (suc (suc (suc (suc (suc (suc i))))))))))))) h = refl
+pub no-single : (c i : ℕ) → i ≡ choose table n-single c → Unpicked 12 i → expand table n-single c ≡ none
+unfolding row table
+no-single = no-alternative n-single
 
 pub expression-rows : Rows n-list-expression n-tail-expression n-expression Closes
 unfolding sort_of ex means choose row table look alt pick
-expression-rows = record {
-  flat_list = refl;
-  flat_tail = refl;
-  ends = λ c h. goes n-list-expression 1 c (both_ends c h) refl;
-  more = λ c h. goes n-list-expression 2 c (both-more c h) refl;
-  stops = λ c h. goes n-tail-expression 1 c (miss t.Comma 2 [] 1 h refl) refl;
-  goes = λ c h. goes n-tail-expression 2 c (hit t.Comma 2 [] 1 h) refl;
-}
+expression-rows = rows-to-brackets refl (λ c. refl) refl refl (optionally refl (λ c. refl) refl refl)
 
 -- A part that is another: read as the one it is read as the other.
 pub as-part : {A B : ℕ} {x : Text} {st : State} {I : Info} {l l' : List ℕ} {s : Step} → sort_of (ex means (nt A)) ≡ shape.flat → Ready x st → expand table A st.class ≡ some (nt B ∷ [])

@@ -1,6 +1,6 @@
 -- A match: its rule, the steps through it, and its record, whose arms may be exchanged.
 -- Assumes nothing.
-use Rattle.std.proofs.Common.{◌≡◌, ℕ, ◌+◌, ◌-◌, ◌*◌, ◌≤◌, Bool, true, false, cond, ◌||◌, T, eqb, List, [], ◌∷◌, length, sym, refl, ap, ◌∙◌, subst, ap₂, arith, eqb→eq}
+use Rattle.std.proofs.Common.{◌≡◌, ℕ, ◌+◌, ◌-◌, ◌*◌, ◌≤◌, Bool, true, false, cond, ◌||◌, T, eqb, List, [], ◌∷◌, length, sym, refl, ap, ◌∙◌, subst, ap₂, arith}
 use mathlib.Core.Option.{none}
 use lib.Seq.{sets}
 use Rattle.theory.specs.Grammar.{Sym, tok, nt, look, row, alt, pick}
@@ -20,23 +20,23 @@ use Rattle.grammar.specs.Records.Faults.{faults_at, earliest}
 use Rattle.grammar.specs.Shapes.ShapeKind.{MatchShape}
 use Rattle.grammar.specs.Shapes.TablesIndex.{n-expression, n-many-arm, n-single}
 use Rattle.lexer.specs.Classes as t
-use Rattle.parse.specs.Contract.{Text, tok_at, raw, fault_at, Ready, Moved, Eaten, Holds, Put, Judged, as_items, as_node, Went, Parsed, Node, ExprKind}
+use Rattle.parse.specs.Contract.{Text, tok_at, raw, fault_at, Moved, Eaten, Holds, Put, Judged, as_items, Went, Parsed, Node, ExprKind}
 use Rattle.parse.specs.Infos.{Armed, Arms, order_from, order_kind, order_fault, first_node, Arranged}
 use Rattle.parse.specs.declared.State.{State}
 use Rattle.parse.specs.declared.Step.{Step}
 use Rattle.parse.specs.declared.Step.TheVariants.{Next}
 use Rattle.parse.specs.Choice as choice
 use Rattle.parse.specs.Orders as order
-use Rattle.parse.proofs.choice.Chosen.{where-chosen}
+use Rattle.parse.proofs.choice.Chosen.{only-class}
 use Rattle.parse.proofs.Rule.Marks.{keeping, keeping-mark, sign-mark}
 use Rattle.parse.proofs.Rule.Lists.{joined}
-use Rattle.parse.proofs.Rule.Amid.{Amid, starts, went}
+use Rattle.parse.proofs.Rule.Amid.{Amid, Grown, grows, went}
 use Rattle.parse.proofs.Rule.Steps.{decided}
-use Rattle.parse.proofs.Rule.Closing.{Opened, shuts-in, Rule}
-use Rattle.parse.proofs.Rule.Chain.{Noded, then-node, eaten, then-eats, advances}
+use Rattle.parse.proofs.Rule.Closing.{shuts-in, Rule}
+use Rattle.parse.proofs.Rule.Entered.{Entered, first, whole}
+use Rattle.parse.proofs.Rule.Chain.{Noded, then-node, eaten, grown-eats, then-eats}
 use Rattle.parse.proofs.Rule.Commas.{AnyN}
 use Rattle.parse.proofs.Rule.Heads.{judged-stands, judged-kept}
-use Rattle.parse.proofs.Rule.SideBySide.{Grown, grows, grown-eats}
 use Rattle.parse.proofs.arms.Laws.{whole_match, match-kind, match-fault}
 use Rattle.parse.proofs.arms.Turned.{scrutiny, arranges, arranges-long}
 
@@ -49,7 +49,7 @@ match-rule = record { category = refl; from_one = refl; kind = refl; rule = refl
 
 pub at-match : (c : ℕ) → choose table n-single c ≡ choice.Match → c ≡ t.Match
 unfolding choose row table look
-at-match c e = eqb→eq c t.Match (where-chosen n-single choice.Match (λ a. eqb a t.Match) tt tt c e)
+at-match c e = only-class n-single choice.Match t.Match tt tt c e
 
 -- The kind of a match: it keeps all tokens, and is that of an expression.
 kinds-two : (P : ℕ → Type 0) → P kind.Match → P kind.EnumMatch → (b : Bool) → P (cond b kind.EnumMatch kind.Match)
@@ -89,9 +89,9 @@ joined-assoc (mark y p) q r = ap (mark y) (joined-assoc p q r)
 joined-assoc (sub k l h js p) q r = ap (sub k l h js) (joined-assoc p q r)
 
 -- The steps: `match`,
-module _ {x : Text} (K : ℕ) {st r : State} {l : List ℕ} (o : Opened x st r none) (c : st.class ≡ t.Match) {a : State} (v : Moved x r a) where
+module _ {x : Text} (K : ℕ) {st r a : State} (l : List ℕ) (n : Entered n-single choice.Match MatchShape match_rhs x st r none) (v : Moved x r a) where
   pub match₁ : Amid x K AnyN match_rhs (nt n-expression ∷ tok t.LBrace ∷ nt n-many-arm ∷ tok t.RBrace ∷ []) r l (word t.Match ∷ []) (tok_at x r.at ∷ []) 1 a l
-  match₁ = advances (starts K AnyN match_rhs l o.stands) (o.class_is ∙ c) (omega arith) v (sign-mark K t.Match tt)
+  match₁ = first K AnyN t.Match l n.opened (at-match st.class n.chosen) (omega arith) v (sign-mark K t.Match tt)
 
   -- an expression,
   module _ {l₁ : List ℕ} {s₁ : Step} {b : State} {i j : ℕ} (p₁ : Parsed x (nt n-expression ∷ []) as_items (Node ExprKind) a l l₁ s₁) (e₁ : s₁ ≡ Next b i j) where
@@ -104,18 +104,18 @@ module _ {x : Text} (K : ℕ) {st r : State} {l : List ℕ} (o : Opened x st r n
       match₃ = then-eats match₂.amid (omega arith) p₂ e₂ (sign-mark K t.LBrace tt)
 
 -- All of a match: s₁ is what the expression answers, s₂ the brace, s₃ the arms,
-module _ {x : Text} {st r a b d f : State} {l l₁ l₂ : List ℕ} {s₁ s₂ s₃ : Step} {order mid i₁ j₁ i₂ j₂ : ℕ} (o : Opened x st r none) (c : st.class ≡ t.Match) (v : Moved x r a)
+module _ {x : Text} {st r a b d f : State} {l l₁ l₂ : List ℕ} {s₁ s₂ s₃ : Step} {order mid i₁ j₁ i₂ j₂ : ℕ} (n : Entered n-single choice.Match MatchShape match_rhs x st r none) (v : Moved x r a)
     (p₁ : Parsed x (nt n-expression ∷ []) as_items (Node ExprKind) a l l₁ s₁) (e₁ : s₁ ≡ Next b i₁ j₁) (p₂ : Eaten x b t.LBrace s₂) (e₂ : s₂ ≡ Next d i₂ j₂)
     (p₃ : Parsed x (nt n-many-arm ∷ []) as_items (Arms d) d l₁ l₂ s₃) (e₃ : s₃ ≡ Next f order mid) where
   abbrev K : ℕ
   K = order_kind order
 
   abbrev inner : Noded x K AnyN match_rhs (tok t.LBrace ∷ nt n-many-arm ∷ tok t.RBrace ∷ []) r l (word t.Match ∷ []) (tok_at x r.at ∷ []) 1 ExprKind b l₁
-  inner = match₂ K o c v p₁ e₁
+  inner = match₂ K l n v p₁ e₁
 
   abbrev third : Amid x K AnyN match_rhs (nt n-many-arm ∷ tok t.RBrace ∷ []) r l
       (word t.Match ∷ child inner.kind inner.low inner.high inner.first ∷ word t.LBrace ∷ []) (tok_at x r.at ∷ tok_at x b.at ∷ []) 2 d l₁
-  third = match₃ K o c v p₁ e₁ p₂ e₂
+  third = match₃ K l n v p₁ e₁ p₂ e₂
 
   abbrev q : Went x (nt n-many-arm ∷ []) as_items (Arms d) d l₁ f l₂ order mid
   q = went e₃ p₃
@@ -155,12 +155,12 @@ module _ {x : Text} {st r a b d f : State} {l l₁ l₂ : List ℕ} {s₁ s₂ s
         match-kind _ _ inner.kind inner.low inner.high inner.first (sorts J) inner.its_kind.3 q.info.armed
         ∙ ap (λ (u : ℕ). plain (order_kind u)) (sym q.info.order_is)
 
-    pub match-refuses : Ready x st → (is : Items) → sorts is ≡ pieces → marks is ≡ tok_at x r.at ∷ tok_at x b.at ∷ tok_at x f.at ∷ [] → earliest (faults_at x.draft MatchShape is) ≡ fault_at (order_fault order) st.start
-    match-refuses y is e₁' e₂' =
+    pub match-refuses : (is : Items) → sorts is ≡ pieces → marks is ≡ tok_at x r.at ∷ tok_at x b.at ∷ tok_at x f.at ∷ [] → earliest (faults_at x.draft MatchShape is) ≡ fault_at (order_fault order) st.start
+    match-refuses is e₁' e₂' =
         match-fault x.draft is inner.kind inner.low inner.high inner.first (sorts J)
         inner.its_kind.2 inner.its_kind.3 q.info.armed e₁' e₂'
-        ∙ ap₂ (λ (u i : ℕ). fault_at (order_fault u) (tok_at x i).start) (sym q.info.order_is) o.at_is
-        ∙ ap (fault_at (order_fault order)) (sym y.stands.start_is)
+        ∙ ap₂ (λ (u i : ℕ). fault_at (order_fault u) (tok_at x i).start) (sym q.info.order_is) n.opened.at_is
+        ∙ ap (fault_at (order_fault order)) (sym n.ready.stands.start_is)
 
     -- The words of the match, as `arrange` leaves them.
     module _ {l₃ : List ℕ} (u : Arranged order l₂ b.out mid g.out l₃) where
@@ -194,8 +194,10 @@ module _ {x : Text} {st r a b d f : State} {l l₁ l₂ : List ℕ} {s₁ s₂ s
           ∙ ap₂ (λ (n : ℕ) (w : Items). sets l (rec_wide * r.out) (concat (arrange (turned (order_kind n) w) (word_groups w)))) (sym order-here) (sym match₅.is)
 
       -- The record of the match.
-      pub match-shut : {l' : List ℕ} {z : State} → Ready x st → Put l₃ st.out K st.start g.end 0 0 (g.out - st.out) l' → Judged st g (fault_at (order_fault order) st.start) z
-          → Went x match_rhs (as_node MatchShape) (Node ExprKind) st l z l' 0 0
-      match-shut y put j =
-          shuts-in MatchShape y o match₅.amid (omega arith) match-decides tt ExprKind (order-expr order) match-long match-words put refl (record { at_is = j.at_is; out_is = j.out_is })
-          (judged-stands match₅.amid.lays.stands j) (judged-kept MatchShape y o match₅.amid (omega arith) match-decides tt j (match-refuses y))
+      pub match-shut : {l' : List ℕ} {z : State} → Put l₃ st.out K st.start g.end 0 0 (g.out - st.out) l' → Judged st g (fault_at (order_fault order) st.start) z
+          → Parsed x (nt n-single ∷ []) as_items (Node ExprKind) st l l' (Next z 0 0)
+      match-shut put j =
+          let y = n.ready in
+          let o = n.opened in
+          whole n (shuts-in MatchShape y o match₅.amid (omega arith) match-decides tt ExprKind (order-expr order) match-long match-words put refl (record { at_is = j.at_is; out_is = j.out_is })
+          (judged-stands match₅.amid.lays.stands j) (judged-kept MatchShape y o match₅.amid (omega arith) match-decides tt j match-refuses))

@@ -3,7 +3,7 @@
 use Rattle.std.proofs.Common.{◌≡◌, ℕ, ◌-◌, ◌*◌, ◌≤◌, Bool, true, false, not, T, eqb, ◌⊎◌, inl, inr, List, [], ◌∷◌, sym, refl, ap, ◌∙◌, subst, ap₂}
 use Rattle.std.specs.Prelude as std
 use Rattle.std.specs.Prelude.{Some, None}
-use mathlib.Core.Option.{Option, none, some}
+use mathlib.Core.Option.{none, some}
 use lib.Seq.{sets}
 use Rattle.lexer.specs.Classes as t
 use Rattle.theory.specs.Grammar.{Sym, tok, nt, row, look}
@@ -20,23 +20,28 @@ use Rattle.text.specs.Lists.{has}
 use Rattle.grammar.specs.Shapes.ShapeKind.{NamedShape, BareShape, TypedShape, FoldingShape, ForWhileShape}
 use Rattle.kinds.specs.Rules.{wrappers}
 use Rattle.grammar.specs.Shapes.Tables.{means, table}
-use Rattle.grammar.specs.Shapes.TablesIndex.{n-single, n-path, n-typed-optional-DoubleColon-choice, n-folding-optional-DoubleColon-choice, n-for_while-optional-DoubleColon-choice}
+use Rattle.grammar.specs.Shapes.TablesIndex.{n-single, n-path}
 use Rattle.grammar.specs.Shapes.Row.{aName}
 use Rattle.grammar.specs.Records.Records.{head, form_of, sees, name_head}
-use Rattle.grammar.specs.Records.Faults.{Fault, faults_at, earliest}
+use Rattle.grammar.specs.Records.Faults.{faults_at, earliest}
 use Rattle.parse.specs.declared.State.{State}
 use Rattle.parse.specs.declared.expr.c.GenericCall.{GenericCall}
 use Rattle.parse.specs.declared.expr.c.GenericCall.TheVariants as generic
 use Rattle.parse.specs.Choice as choice
 use Rattle.parse.specs.Contract.{Text, tok_at, raw, fault_in, sooner, kept, fault_at, Ready, Moved, Put, as_node, Went, Node, reserved, cleaned}
 use Rattle.parse.specs.Infos.{Begun, Generic, Uncalled, Leads, named_leads, bare_leads, generic_leads}
-use Rattle.parse.proofs.Rule.Amid.{Amid, then_turns}
+use Rattle.parse.proofs.Rule.Amid.{Amid}
+use Rattle.parse.proofs.Rule.Chain.{turns}
+use Rattle.parse.proofs.choice.Chosen.{Forked, Optionally}
 use Rattle.parse.proofs.Rule.Steps.{decided}
-use Rattle.parse.proofs.Rule.Closing.{Opened, Rule, shuts-in, its-fault}
+use Rattle.parse.proofs.Rule.Closing.{Opened, reserved-class, Rule, shuts-in, its-fault}
+use Rattle.parse.proofs.Rule.Entered as entered
+use Rattle.parse.proofs.Rule.Entered.{Entered}
 use Rattle.parse.proofs.Rule.Commas.{AnyN}
 use Rattle.parse.proofs.Rule.Heads.{faultless, no_fault, unturned}
 use Rattle.parse.proofs.expr.CallForms as call
 use Rattle.parse.proofs.expr.CallForms.{For}
+use Rattle.parse.proofs.expr.FoldForm.{fold-faultless}
 use Rattle.parse.proofs.expr.CallLaws as law
 
 -- Without `<` among its pieces a record of this shape has no refusal of its own.
@@ -57,19 +62,17 @@ pub record NameRule (c : ℕ) : Type 0 where
   pub flat : sort_of (ex means (nt B)) ≡ shape.flat
   pub quiet : Quiet k
 
--- One that may stand alone.
+-- One that may stand alone: D is what follows `::`.
 pub record AloneRule (c : ℕ) : Type 0 where
   pub by : NameRule c
-  pub alone : {a : ℕ} → (a ≡ t.DoubleColon → ⊥) → expand table by.B a ≡ some []
-
--- One that `::<..>` may follow: D is what follows `::`.
-pub record GenericRule (c : ℕ) : Type 0 where
-  pub by : NameRule c
   pub D : ℕ
-  pub alone : {a : ℕ} → (a ≡ t.DoubleColon → ⊥) → expand table by.B a ≡ some []
-  pub colons : {a : ℕ} → a ≡ t.DoubleColon → expand table by.B a ≡ some (tok t.DoubleColon ∷ nt D ∷ [])
-  pub flat : sort_of (ex means (nt D)) ≡ shape.flat
-  pub path : {a : ℕ} → (a ≡ t.LAngle → ⊥) → expand table D a ≡ some (nt n-path ∷ [])
+  pub optional : Optionally by.B t.DoubleColon (tok t.DoubleColon ∷ nt D ∷ [])
+
+-- One that `::<..>` may follow: `rest` is what follows `<`.
+pub record GenericRule (c : ℕ) : Type 0 where
+  pub named : AloneRule c
+  pub rest : List Sym
+  pub choice_is : Forked named.D t.LAngle (tok t.LAngle ∷ rest) (nt n-path ∷ [])
 
 never : (k : ℕ) → T (faultless k) → Quiet k
 unfolding earliest
@@ -77,7 +80,7 @@ never k h draft is w e f = ap earliest (no_fault draft k is h)
 
 no_bound : Quiet FoldingShape
 unfolding fault_at
-no_bound draft is w e f = call.fold-faultless draft is e f
+no_bound draft is w e f = fold-faultless draft is e f
 
 module _ {c : ℕ} where
   abbrev by_rule : {i k : ℕ} {s : Sym} {B : ℕ} → Rule n-single i k (s ∷ nt B ∷ []) → choose table n-single c ≡ i → For s c → has t.identifiers c ≡ true → form_of k ≡ aName
@@ -91,43 +94,25 @@ module _ {c : ℕ} where
 
   bare-rule : choose table n-single c ≡ choice.Bare → NameRule c
   unfolding form_of
-  bare-rule e = by_rule call.bare-rule e (call.for-bare c e) (call.bare-name c e) refl call.flat-bare (never BareShape tt)
+  bare-rule e = by_rule call.bare-rule e (call.for-bare c e) (call.bare-name c e) refl call.bare-optional.flat (never BareShape tt)
+
+  abbrev angled : (z : NameRule c) {D : ℕ} {rest : List Sym} → Optionally z.B t.DoubleColon (tok t.DoubleColon ∷ nt D ∷ []) → Forked D t.LAngle (tok t.LAngle ∷ rest) (nt n-path ∷ []) → GenericRule c
+  angled z {D} {rest} p q = record { named = record { by = z; D = D; optional = p }; rest = rest; choice_is = q }
 
   typed-rule : choose table n-single c ≡ choice.Typed → GenericRule c
   unfolding form_of
   typed-rule e =
-      record {
-        by = by_rule call.typed-rule e (call.for-typed c e) (call.typed-name c e) refl call.flat-typed (never TypedShape tt);
-        D = n-typed-optional-DoubleColon-choice;
-        alone = λ h. call.typed-alone h;
-        colons = λ h. call.typed-colons h;
-        flat = call.flat-of-type;
-        path = λ h. call.typed-path h;
-      }
+      angled (by_rule call.typed-rule e (call.for-typed c e) (call.typed-name c e) refl call.typed-optional.flat (never TypedShape tt)) call.typed-optional call.typed-choice
 
   folding-rule : choose table n-single c ≡ choice.Folding → GenericRule c
   unfolding form_of
   folding-rule e =
-      record {
-        by = by_rule call.folding-rule e (call.for-folding c e) (call.folding-name c e) refl call.flat-folding no_bound;
-        D = n-folding-optional-DoubleColon-choice;
-        alone = λ h. call.folding-alone h;
-        colons = λ h. call.folding-colons h;
-        flat = call.flat-bounded;
-        path = λ h. call.folding-path h;
-      }
+      angled (by_rule call.folding-rule e (call.for-folding c e) (call.folding-name c e) refl call.folding-optional.flat no_bound) call.folding-optional call.folding-choice
 
   while-rule : choose table n-single c ≡ choice.ForWhile → GenericRule c
   unfolding form_of
   while-rule e =
-      record {
-        by = by_rule call.whiles-rule e (call.for-whiles c e) (call.whiles-name c e) refl call.flat-whiles (never ForWhileShape tt);
-        D = n-for_while-optional-DoubleColon-choice;
-        alone = λ h. call.whiles-alone h;
-        colons = λ h. call.whiles-colons h;
-        flat = call.flat-looped;
-        path = λ h. call.whiles-path h;
-      }
+      angled (by_rule call.whiles-rule e (call.for-whiles c e) (call.whiles-name c e) refl call.whiles-optional.flat (never ForWhileShape tt)) call.whiles-optional call.whiles-choice
 
   generic-rule : (g : GenericCall) → Generic c g → GenericRule c
   generic-rule generic.Typed e = typed-rule e
@@ -137,8 +122,8 @@ module _ {c : ℕ} where
   -- Such a name may stand alone,
   pub uncalled-rule : (g : std.Option GenericCall) → Uncalled c g → AloneRule c
   unfolding bare-rule
-  uncalled-rule None e = record { by = bare-rule e; alone = λ h. call.bare-alone h }
-  uncalled-rule (Some g) e = let z = generic-rule g e in record { by = z.by; alone = z.alone }
+  uncalled-rule None e = record { by = bare-rule e; D = n-path; optional = call.bare-optional }
+  uncalled-rule (Some g) e = (generic-rule g e).named
 
   -- or begin an enum construction where no `<` follows `::`.
   pub uncalled-leads : {b : ℕ} (g : std.Option GenericCall) → Uncalled c g → (b ≡ t.LAngle → ⊥) → Leads c b
@@ -160,38 +145,48 @@ pub by_name : {x : Text} {K : ℕ} {N : ℕ → Type 0} {full left : List Sym} {
     (z : NameRule c) → Amid x K N full left st l w ms m st₁ l₁ → decided x z.k w ms ≡ name_head w
 by_name z d = call.by_form z.k z.form d
 
+-- Such a rule, entered.
+pub enters : {x : Text} {st r : State} (z : NameRule st.class) → Ready x st → r ≡ reserved st → Entered n-single z.i z.k (z.s ∷ nt z.B ∷ []) x st r (kept st)
+enters z y h = entered.by z.rule y z.chosen h
+
 -- A name and `::`, whose records are those of an enum construction: a path follows.
 pub record EnumOf (x : Text) (st r : State) (l : List ℕ) (d : State) (l' : List ℕ) : Type 0 where
   pub by : NameRule st.class
+  pub entered : Entered n-single by.i by.k (by.s ∷ nt by.B ∷ []) x st r (kept st)
   pub ms : List Tok
   pub amid : Amid x kind.EnumConstruction AnyN (by.s ∷ nt by.B ∷ []) (nt n-path ∷ []) r l (word st.class ∷ word t.DoubleColon ∷ []) ms 1 d l'
 
-module _ {x : Text} {st r b d : State} {F : Option Fault} {l l' : List ℕ} (y : Ready x st) (o : Opened x st r F) (g : Begun x r b)
+module _ {x : Text} {st r b d : State} {l l' : List ℕ} (y : Ready x st) (h : r ≡ reserved st) (g : Begun x r b)
     (put : Put l b.out kind.Name st.start st.stop 0 0 1 l') (more : d ≡ reserved b) where
   -- with a path right behind `::`,
   at_once : (z : NameRule st.class) → ((i : ℕ) → i ≡ t.DoubleColon → expand table z.B i ≡ some (tok t.DoubleColon ∷ nt n-path ∷ [])) → EnumOf x st r l d l'
   at_once z k =
+      let n = enters z y h in
       record {
         by = z;
+        entered = n;
         ms = tok_at x r.at ∷ tok_at x (reserved g.a).at ∷ [];
-        amid = law.late-name y o z.one_token AnyN (nt n-path ∷ []) z.flat k z.name g.first g.colons g.second put more;
+        amid = law.late-name y n.opened z.one_token AnyN (nt n-path ∷ []) z.flat k z.name g.first g.colons g.second put more;
       }
 
   -- or where `<` might have stood.
   without-angle : (z : GenericRule st.class) → (b.class ≡ t.LAngle → ⊥) → EnumOf x st r l d l'
-  without-angle z h =
-      let d₁ = law.late-name y o z.by.one_token AnyN (nt z.D ∷ []) z.by.flat (λ i e. z.colons e) z.by.name g.first g.colons g.second put more in
+  without-angle z f =
+      let u = z.named in
+      let n = enters u.by y h in
+      let d₁ = law.late-name y n.opened u.by.one_token AnyN (nt u.D ∷ []) u.optional.flat u.optional.there u.by.name g.first g.colons g.second put more in
       record {
-        by = z.by;
+        by = u.by;
+        entered = n;
         ms = tok_at x r.at ∷ tok_at x (reserved g.a).at ∷ [];
-        amid = then_turns (nt n-path ∷ []) d₁ z.flat (z.path (λ e. h (sym (law.reserved-class b d more) ∙ d₁.lays.stands.class_is ∙ e)));
+        amid = turns (nt n-path ∷ []) d₁ z.choice_is.flat (z.choice_is.elsewhere d.class (λ e. f (sym (reserved-class b more) ∙ e)));
       }
 
   pub enum-begins : Leads st.class b.class → EnumOf x st r l d l'
   unfolding named_rule bare-rule
-  enum-begins (named_leads e) = at_once (named_rule e) (λ i h. call.named-colons h)
-  enum-begins (bare_leads e) = at_once (bare-rule e) (λ i h. call.bare-colons h)
-  enum-begins (generic_leads q z h) = without-angle (generic-rule q z) h
+  enum-begins (named_leads e) = at_once (named_rule e) (λ i c. call.named-colons c)
+  enum-begins (bare_leads e) = at_once (bare-rule e) call.bare-optional.there
+  enum-begins (generic_leads q z f) = without-angle (generic-rule q z) f
 
 -- A record of such a rule, with no `<` among its pieces.
 module _ {x : Text} {st r : State} {K : ℕ} {l : List ℕ} {w : List Sort} {ms : List Tok} {m : ℕ} {st₁ : State} {l₁ l' : List ℕ} {low high : ℕ} where

@@ -1,6 +1,7 @@
 -- A type item and an item: their rules in grammar's table, and the head of a type item's record.
 -- Assumes nothing.
-use Rattle.std.proofs.Common.{◌≡◌, ℕ, ◌-◌, ◌<◌, ◌≤◌, Bool, true, false, cond, ltb, List, [], ◌∷◌, ◌++◌, length, take, drop, sym, refl, ap, ◌∙◌, subst, ap₂, inl, inr, append-nil, arith, length-drop, drop_of_length-le, take_all, ltb-false, ltb-true, le-ltb, lt-ltb, eq-eqb, ne_eqb}
+use Rattle.std.proofs.Common.{◌≡◌, ℕ, ◌-◌, ◌<◌, ◌≤◌, Bool, true, false, cond, ltb, List, [], ◌∷◌, ◌++◌, length, take, drop, sym, refl, ap, ◌∙◌, subst, ap₂, inl, inr, arith}
+use Rattle.std.proofs.Common.{append-nil, length-drop, drop_of_length-le, take_all, ltb-false, ltb-true, le-ltb, lt-ltb, eq-eqb, ne_eqb}
 use types.Run.{OneOf}
 use denote.Enum.Declared.{tag_of}
 use Rattle.text.specs.Lists.{has}
@@ -69,9 +70,9 @@ module _ {x : Text} {st : State} {l l' : List ℕ} {r : Step} where
   at_item : {A : ℕ} → A ≡ item_at st.class → Parsed x (nt A ∷ []) as_items (Node ItemKind) st l l' r → Parsed x (nt (item_at st.class) ∷ []) as_items (Node ItemKind) st l l' r
   at_item e p = subst (λ (A : ℕ). Parsed x (nt A ∷ []) as_items (Node ItemKind) st l l' r) e p
 
-  pub as-type-item : st.class ≡ t.«Type» → Parsed x (nt n-type_item ∷ []) as_items (Node TypeItemKind) st l l' r → Parsed x (nt (item_at st.class) ∷ []) as_items (Node ItemKind) st l l' r
+  pub as_type_item : st.class ≡ t.«Type» → Parsed x (nt n-type_item ∷ []) as_items (Node TypeItemKind) st l l' r → Parsed x (nt (item_at st.class) ∷ []) as_items (Node ItemKind) st l l' r
   unfolding item_at
-  as-type-item e p = at_item (sym (ap (λ (b : Bool). cond b n-type_item n-function) (eq-eqb st.class t.«Type» e))) (as-node (λ k h. inr h) p)
+  as_type_item e p = at_item (sym (ap (λ (b : Bool). cond b n-type_item n-function) (eq-eqb st.class t.«Type» e))) (as-node (λ k h. inr h) p)
 
   pub as_function : (st.class ≡ t.«Type» → ⊥) → Parsed x (nt n-function ∷ []) as_items (Node FunctionKind) st l l' r → Parsed x (nt (item_at st.class) ∷ []) as_items (Node ItemKind) st l l' r
   unfolding item_at

@@ -1,6 +1,6 @@
 -- Items side by side, as the loop of `items` reads them.
 -- Assumes nothing.
-use Rattle.std.proofs.Common.{◌≡◌, ℕ, ◌<◌, Bool, true, false, cond, eqb, List, [], ◌∷◌, ◌++◌, sym, refl, ap, ◌∙◌, arith, eq-eqb, eqb-true}
+use Rattle.std.proofs.Common.{◌≡◌, ℕ, Bool, true, false, cond, eqb, List, [], ◌∷◌, ◌++◌, sym, refl, ◌∙◌, eq-eqb, eqb-true}
 use mathlib.Core.Option.{some}
 use types.Run.{OneOf}
 use denote.Enum.Declared.{tag_of}
@@ -11,7 +11,6 @@ use Rattle.theory.specs.Ebnf as shape
 use Rattle.theory.specs.Ebnf.{sort_of}
 use Rattle.theory.specs.Same.{ex}
 use Rattle.own.specs.Law.{Sort}
-use Rattle.own.specs.Words.{sizes}
 use Rattle.grammar.specs.Shapes.Tables.{means, table}
 use Rattle.grammar.specs.Shapes.TablesIndex.{n-file, n-function, n-type_item}
 use Rattle.lexer.specs.Classes as t
@@ -21,8 +20,8 @@ use Rattle.parse.specs.Infos.{ItemKind, item_at, FileItems}
 use Rattle.parse.specs.declared.State.{State}
 use Rattle.parse.specs.declared.Step.{Step}
 use Rattle.parse.specs.declared.Step.TheVariants.{Next}
-use Rattle.parse.proofs.Rule.Amid.{Amid, starts, then_turns, then-passed, went}
-use Rattle.parse.proofs.Rule.Chain.{then-node}
+use Rattle.parse.proofs.Rule.Amid.{Amid, starts, then-passed}
+use Rattle.parse.proofs.Rule.Chain.{turns, then-node}
 use Rattle.parse.proofs.Rule.Commas.{AnyN, arranged-zero, finish}
 use Rattle.parse.proofs.choice.Chosen.{hit, miss, goes}
 
@@ -54,7 +53,7 @@ module _ {x : Text} {st : State} {l : List ℕ} (y : Ready x st) where
 
   module _ {here : State} {l₁ : List ℕ} (v : ItemsInv x st l here l₁) where
     at_here : {rhs : List Sym} → expand table n-file here.class ≡ some rhs → Amid x 0 AnyN (nt n-file ∷ []) (rhs ++ []) st l v.w [] 0 here l₁
-    at_here {rhs} e = then_turns rhs v.amid flat-file (ap (expand table n-file) (sym v.amid.lays.stands.class_is) ∙ e)
+    at_here {rhs} e = turns rhs v.amid flat-file e
 
     -- They end at the end,
     pub items-ends : here.class ≡ 0 → Went x (nt n-file ∷ []) as_items FileItems st l here l₁ 0 0
@@ -68,12 +67,6 @@ module _ {x : Text} {st : State} {l : List ℕ} (y : Ready x st) where
       items-passed k = then-passed (at_here (one_more here.class n)) k (λ τ q h. h) p
 
       module _ {a : State} {i j : ℕ} (e : r ≡ Next a i j) where
-        -- or there is one item more, which lies ahead.
+        -- or there is one item more.
         pub items-again : ItemsInv x st l a l₂
         items-again = let z = then-node (at_here (one_more here.class n)) p e in record { w = _; amid = z.amid }
-
-        pub item-ahead : here.at < a.at
-        item-ahead =
-            let q = went e p in
-            let s = ap sizes q.info.laid_is in
-            omega (arith, q.lays.few, q.lays.sized, s)

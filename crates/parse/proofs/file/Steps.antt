@@ -1,6 +1,6 @@
 -- The steps of a type item.
 -- Assumes nothing.
-use Rattle.std.proofs.Common.{◌≡◌, ℕ, List, [], ◌∷◌, ◌∙◌, arith}
+use Rattle.std.proofs.Common.{◌≡◌, ℕ, List, [], ◌∷◌, arith}
 use mathlib.Core.Option.{Option}
 use Rattle.theory.specs.Grammar.{tok, nt}
 use Rattle.own.specs.Law.{word, child}
@@ -13,10 +13,11 @@ use Rattle.parse.specs.declared.State.{State}
 use Rattle.parse.specs.declared.Step.{Step}
 use Rattle.parse.specs.declared.Step.TheVariants.{Next}
 use Rattle.parse.proofs.Rule.Marks.{sign-mark}
-use Rattle.parse.proofs.Rule.Amid.{Amid, starts}
+use Rattle.parse.proofs.Rule.Amid.{Amid}
 use Rattle.parse.proofs.Rule.Closing.{Opened}
-use Rattle.parse.proofs.Rule.Chain.{Noded, then-node, then-eats, advances}
+use Rattle.parse.proofs.Rule.Chain.{Noded, then-node, then-eats}
 use Rattle.parse.proofs.Rule.Commas.{AnyN}
+use Rattle.parse.proofs.Rule.Entered.{first}
 use Rattle.parse.proofs.names.Chain.{then-named}
 use Rattle.parse.proofs.names.Rows.{name-role}
 use Rattle.parse.proofs.names.Joined.{alias-name-class}
@@ -25,7 +26,7 @@ use Rattle.parse.proofs.file.Forms as form
 -- `type`,
 module _ {x : Text} {st r a : State} {F : Option Fault} (l : List ℕ) (o : Opened x st r F) (e : st.class ≡ t.«Type») (v : Moved x r a) where
   pub item₁ : Amid x kind.TypeItem AnyN form.type_item_rhs (nt n-alias_name ∷ tok t.Eq ∷ nt n-type ∷ tok t.Semi ∷ []) r l (word t.«Type» ∷ []) (tok_at x r.at ∷ []) 1 a l
-  item₁ = advances (starts kind.TypeItem AnyN form.type_item_rhs l o.stands) (o.class_is ∙ e) (omega arith) v (sign-mark kind.TypeItem t.«Type» tt)
+  item₁ = first kind.TypeItem AnyN t.«Type» l o e (omega arith) v (sign-mark kind.TypeItem t.«Type» tt)
 
   -- the name,
   module _ {l₁ : List ℕ} {s₁ : Step} {b : State} {i₁ j₁ : ℕ} (p₁ : Parsed x (nt n-alias_name ∷ []) as_items (NameAt x a.at) a l l₁ s₁) (q₁ : s₁ ≡ Next b i₁ j₁) where
@@ -44,5 +45,6 @@ module _ {x : Text} {st r a : State} {F : Option Fault} (l : List ℕ) (o : Open
 
         -- `;`.
         pub item₅ : {s₄ : Step} {g : State} {i₄ j₄ : ℕ} → Eaten x f t.Semi s₄ → s₄ ≡ Next g i₄ j₄
-            → Amid x kind.TypeItem AnyN form.type_item_rhs [] r l (word t.«Type» ∷ word (tok_at x a.at).class ∷ word t.Eq ∷ child item₄.kind item₄.low item₄.high item₄.first ∷ word t.Semi ∷ []) (tok_at x r.at ∷ tok_at x a.at ∷ tok_at x b.at ∷ tok_at x f.at ∷ []) 3 g l₂
+            → Amid x kind.TypeItem AnyN form.type_item_rhs [] r l (word t.«Type» ∷ word (tok_at x a.at).class ∷ word t.Eq ∷ child item₄.kind item₄.low item₄.high item₄.first ∷ word t.Semi ∷ [])
+            (tok_at x r.at ∷ tok_at x a.at ∷ tok_at x b.at ∷ tok_at x f.at ∷ []) 3 g l₂
         item₅ p q = then-eats item₄.amid (omega arith) p q (sign-mark kind.TypeItem t.Semi tt)

@@ -29,11 +29,14 @@ use Rattle.parse.specs.declared.Step.TheVariants.{Next, Refused}
 use Rattle.parse.specs.Choice as choice
 use Rattle.parse.proofs.Rule.ByClass.{run, where-passed, beyond, past_classes}
 use Rattle.parse.proofs.choice.Checks.{head-past}
-use Rattle.parse.proofs.choice.Chosen.{alone, is-alone, hit, miss, goes}
-use Rattle.parse.proofs.Rule.Amid.{class-at, inside, went, Amid, starts, then_turns, then-went}
+use Rattle.parse.proofs.choice.Chosen.{Forked, Optionally, forked, optionally, alone, is-alone, goes}
+use Rattle.parse.proofs.Rule.Amid.{class-at, inside, went, Amid, starts, then-went}
 use Rattle.parse.proofs.Rule.Steps.{child-went, reads-tok}
+use Rattle.parse.proofs.Rule.Chain.{turns}
 use Rattle.parse.proofs.Rule.Commas.{AnyN, finish}
-use Rattle.parse.proofs.names.Chain.{NamesOn, then-named}
+use Rattle.parse.proofs.Rule.Told.{Told}
+use Rattle.parse.proofs.Rule.Closing.{reserved-class}
+use Rattle.parse.proofs.names.Chain.{NamePieces, then-named}
 use Rattle.parse.proofs.names.Rows.{name-role}
 use Rattle.parse.proofs.names.Steps.{child-nt}
 use Rattle.parse.proofs.Rule.Pieces.{name_count-append, counted-append, unseen-append, seen_first, seen-second, name_count-name, name_count-other, sign-no-name}
@@ -44,34 +47,18 @@ unfolding sort_of ex means
 flat-head = refl
 
 -- a path or nothing,
-pub flat-optional : sort_of (ex means (nt n-head-optional)) ≡ shape.flat
-unfolding sort_of ex means
-flat-optional = refl
-
-pub optional-row : (c : ℕ) → c ≡ t.DoubleColon → expand table n-head-optional c ≡ some (nt n-head_path ∷ [])
-unfolding choose row table look alt pick
-optional-row c e = goes n-head-optional 2 c (hit t.DoubleColon 2 [] 1 e) refl
-
-pub no-optional-row : (c : ℕ) → (c ≡ t.DoubleColon → ⊥) → expand table n-head-optional c ≡ some []
-unfolding choose row table look alt pick
-no-optional-row c h = goes n-head-optional 1 c (miss t.DoubleColon 2 [] 1 h refl) refl
+pub path-optional : Optionally n-head-optional t.DoubleColon (nt n-head_path ∷ [])
+unfolding sort_of ex means choose row look table alt pick
+path-optional = optionally refl (λ c. refl) refl refl
 
 -- a built-in word, and what follows it,
 pub flat_word : sort_of (ex means (nt n-head-word)) ≡ shape.flat
 unfolding sort_of ex means
 flat_word = refl
 
-pub flat-choice : sort_of (ex means (nt n-head-choice)) ≡ shape.flat
-unfolding sort_of ex means
-flat-choice = refl
-
-pub choice-row : (c : ℕ) → c ≡ t.LParen → expand table n-head-choice c ≡ some (tok t.LParen ∷ nt n-pair ∷ tok t.RParen ∷ [])
-unfolding choose row table look alt pick
-choice-row c e = goes n-head-choice 1 c (hit t.LParen 1 [] 2 e) refl
-
-pub other-choice-row : (c : ℕ) → (c ≡ t.LParen → ⊥) → expand table n-head-choice c ≡ some (nt n-head_path ∷ [])
-unfolding choose row table look alt pick
-other-choice-row c h = goes n-head-choice 2 c (miss t.LParen 1 [] 2 h refl) refl
+pub after-word : Forked n-head-choice t.LParen (tok t.LParen ∷ nt n-pair ∷ tok t.RParen ∷ []) (nt n-head_path ∷ [])
+unfolding sort_of ex means choose row look table alt pick
+after-word = forked refl (λ c. refl) refl refl
 
 -- any other name,
 pub flat-other : sort_of (ex means (nt n-other_name)) ≡ shape.flat
@@ -93,18 +80,21 @@ where-sorted : (k : ℕ) (f : ℕ → Bool) → 0 < k → T (run (λ c. not (eqb
 where-sorted k f pos t c e =
     where-passed f (λ c. eqb (head_sort c) k) t (λ c h u. absurd (omega (arith, head-past c h, eqb→eq (head_sort c) k u))) c (rw (eq-eqb (head_sort c) k e) tt)
 
+only-sorted : (k d : ℕ) → 0 < k → T (run (λ c. not (eqb (head_sort c) k) || eqb c d) past_classes 0) → (c : ℕ) → head_sort c ≡ k → c ≡ d
+only-sorted k d pos t c e = eqb→eq c d (where-sorted k (λ a. eqb a d) pos t c e)
+
 module _ (c : ℕ) where
   pub at-false : head_sort c ≡ choice.FalseHead → c ≡ t.false
   unfolding head_sort choose row table look
-  at-false e = eqb→eq c t.false (where-sorted choice.FalseHead (λ a. eqb a t.false) (omega arith) tt c e)
+  at-false e = only-sorted choice.FalseHead t.false (omega arith) tt c e
 
   pub at_true : head_sort c ≡ choice.TrueHead → c ≡ t.true
   unfolding head_sort choose row table look
-  at_true e = eqb→eq c t.true (where-sorted choice.TrueHead (λ a. eqb a t.true) (omega arith) tt c e)
+  at_true e = only-sorted choice.TrueHead t.true (omega arith) tt c e
 
   pub at_none : head_sort c ≡ choice.NoneHead → c ≡ t.None
   unfolding head_sort choose row table look
-  at_none e = eqb→eq c t.None (where-sorted choice.NoneHead (λ a. eqb a t.None) (omega arith) tt c e)
+  at_none e = only-sorted choice.NoneHead t.None (omega arith) tt c e
 
   module _ (e : head_sort c ≡ choice.WrappedHead) where
     pub word_row : expand table n-head-word c ≡ some (tok c ∷ [])
@@ -175,7 +165,10 @@ unfolding head_sort choose row table look has
 unbegun c e =
     where-passed (λ a. eqb (choose table n-head a) choice.NamedHead && eqb (choose table n-other_name a) 0) (λ a. not (has sorted (head_sort a))) tt (λ a h u. rw (beyond n-head a h, beyond n-other_name a h) tt) c (rw e tt)
 
-unsorted : (i : ℕ) → (((((Unit {0} × (i ≡ choice.FalseHead → ⊥)) × (i ≡ choice.TrueHead → ⊥)) × (i ≡ choice.NoneHead → ⊥)) × (i ≡ choice.WrappedHead → ⊥)) × (i ≡ choice.NamedHead → ⊥)) → has sorted i ≡ false
+abbrev Unsorted : ℕ → Type 0
+Unsorted i = ((((Unit {0} × (i ≡ choice.FalseHead → ⊥)) × (i ≡ choice.TrueHead → ⊥)) × (i ≡ choice.NoneHead → ⊥)) × (i ≡ choice.WrappedHead → ⊥)) × (i ≡ choice.NamedHead → ⊥)
+
+unsorted : (i : ℕ) → Unsorted i → has sorted i ≡ false
 unfolding has
 unsorted i h =
     rw (
@@ -187,7 +180,7 @@ unsorted i h =
     ) refl
 
 pub no-head : {x : Text} {st : State} {I : Info} {l l' : List ℕ} (i : ℕ) → Ready x st → i ≡ head_sort st.class
-    → (((((Unit {0} × (i ≡ choice.FalseHead → ⊥)) × (i ≡ choice.TrueHead → ⊥)) × (i ≡ choice.NoneHead → ⊥)) × (i ≡ choice.WrappedHead → ⊥)) × (i ≡ choice.NamedHead → ⊥)) → Parsed x (nt n-head ∷ []) as_items I st l l' (Refused st.at)
+    → Unsorted i → Parsed x (nt n-head ∷ []) as_items I st l l' (Refused st.at)
 unfolding row table alt pick
 no-head {x} {st} i y e h =
     let c = get_or (classes x) st.at 0 in
@@ -213,23 +206,19 @@ unfolding has
 enum_kind = refl
 
 pub path-went : {x : Text} {st : State} {l : List ℕ} {ms : List Tok} {m : ℕ} {st₁ : State} {l₁ : List ℕ} {st₂ : State} {l₂ : List ℕ} {a b c : ℕ}
-    → NamesOn x kind.EnumArm AnyN (nt n-head_path ∷ []) (nt n-head_path-optional-LParen ∷ []) st l (word t.DoubleColon ∷ []) ms m a st₁ l₁ → Went x (nt n-head_path-optional-LParen ∷ []) as_items ManyPairs st₁ l₁ st₂ l₂ b c → Went x (nt n-head_path ∷ []) as_items HeadPath st l st₂ l₂ a b
+    → Told x kind.EnumArm AnyN (nt n-head_path ∷ []) (nt n-head_path-optional-LParen ∷ []) st l (word t.DoubleColon ∷ []) ms m (NamePieces a) st₁ l₁
+    → Went x (nt n-head_path-optional-LParen ∷ []) as_items ManyPairs st₁ l₁ st₂ l₂ b c → Went x (nt n-head_path ∷ []) as_items HeadPath st l st₂ l₂ a b
 unfolding sees counted
 path-went {x} {st₁ = st₁} d q =
     let z = then-went d.amid q (λ n g. q.info.roles kind.EnumArm n) in
     let P = sorts (raw x st₁.at q.items) in
     finish z (record {
       roles = λ n. z.roles n tt;
-      count_is = ap name_count z.sorted ∙ name_count-other t.DoubleColon (d.W ++ P) (sign-no-name t.DoubleColon tt) ∙ name_count-append d.W P ∙ omega (arith, d.count_is, q.info.names);
-      bounded = d.bounded;
+      count_is = ap name_count z.sorted ∙ name_count-other t.DoubleColon (d.W ++ P) (sign-no-name t.DoubleColon tt) ∙ name_count-append d.W P ∙ omega (arith, d.so.count_is, q.info.names);
+      bounded = d.so.bounded;
       path = ap (sees t.DoubleColon) z.sorted;
-      patterns = ap (counted family.patterns) z.sorted ∙ counted-append family.patterns d.W P ∙ omega (arith, d.no_parts family.patterns, q.info.patterns);
+      patterns = ap (counted family.patterns) z.sorted ∙ counted-append family.patterns d.W P ∙ omega (arith, d.so.no_parts family.patterns, q.info.patterns);
     })
-
--- The state with a record more is at the same token.
-pub reserved-class : (a : State) {c : State} → c ≡ reserved a → c.class ≡ a.class
-unfolding reserved
-reserved-class a e = ap (λ (y : State). y.class) e
 
 -- A word that is a record of its own.
 pub named-token : {x : Text} {st st₁ st₂ : State} {l l' : List ℕ} (c : ℕ) → 0 < c → Ready x st → st.class ≡ c → Moved x st st₁ → Put l st₁.out kind.Name st.start st.stop 0 0 1 l' → st₂ ≡ reserved st₁
@@ -244,7 +233,7 @@ pub named-first : {x : Text} {st : State} {l l₁ : List ℕ} {c : State} {a b :
     → Parsed x (s ∷ []) as_items (Named (tok_at x st.at) kind.Name 0 0) st l l₁ (Next c a b) → Amid x kind.EnumArm AnyN (nt n-head ∷ []) (r ∷ []) st l (word st.class ∷ []) (tok_at x st.at ∷ []) 0 c l₁
 named-first {x} {st} {l} {l₁} {c} s r y e h p =
     let f : (tok_at x st.at).class ≡ st.class = sym (class-at x.ts st.at) ∙ sym y.stands.class_is in
-    let d = then_turns (s ∷ r ∷ []) (starts kind.EnumArm AnyN (nt n-head ∷ []) l y.stands) flat-head (ap (expand table n-head) (sym y.stands.class_is) ∙ e) in
+    let d = turns (s ∷ r ∷ []) (starts kind.EnumArm AnyN (nt n-head ∷ []) l y.stands) flat-head e in
     let z = then-named d p refl (name-role kind.EnumArm (tok_at x st.at).class enum_kind (ap (has t.identifiers) f ∙ h)) in
     subst (λ k. Amid x kind.EnumArm AnyN (nt n-head ∷ []) (r ∷ []) st l (word k ∷ []) (tok_at x st.at ∷ []) 0 c l₁) f z
 
@@ -267,11 +256,6 @@ arm-went {x} {c = c} {st₁ = st₁} {a = a} {b = b} h d p e =
           ap (λ (w : List Sort). arm_head (w ++ v)) z.sorted ∙ (rw (s, n₁, n₂, k) refl);
       low_is = λ f. absurd (omega arith);
     })
-
--- A nonterminal is replaced by what the table has for the class of the state.
-pub turns : {x : Text} {K : ℕ} {N : ℕ → Type 0} {full left : List Sym} {st : State} {l : List ℕ} {w : List Sort} {ms : List Tok} {m : ℕ} {st₁ : State} {l₁ : List ℕ} {A : ℕ} (rhs : List Sym)
-    → Amid x K N full (nt A ∷ left) st l w ms m st₁ l₁ → sort_of (ex means (nt A)) ≡ shape.flat → expand table A st₁.class ≡ some rhs → Amid x K N full (rhs ++ left) st l w ms m st₁ l₁
-turns {A = A} rhs d f e = then_turns rhs d f (ap (expand table A) (sym d.lays.stands.class_is) ∙ e)
 
 -- The words of built-in arms.
 pub unseen-nil : sees t.DoubleColon [] ≡ false
@@ -317,11 +301,11 @@ path-begins {st = st} {a} {c} y (none_begins e n) v put more =
     let k = at_none st.class e in
     let p = named-token t.None (omega arith) y k v put more in
     let b0 = named-first (tok t.None) (nt n-head-optional) y (none_row st.class e) (none-name k) p in
-    (none-name k, turns (nt n-head_path ∷ []) b0 flat-optional (optional-row c.class (reserved-class a more ∙ n)))
+    (none-name k, turns (nt n-head_path ∷ []) b0 path-optional.flat (path-optional.there c.class (reserved-class a more ∙ n)))
 path-begins {st = st} {a} {c} y (word_begins e n) v put more =
     let p = child-nt y (word-pos st.class e) v put more flat_word (word_row st.class e) in
     let b0 = named-first (nt n-head-word) (nt n-head-choice) y (wrapped-row st.class e) (word-name st.class e) p in
-    (word-name st.class e, turns (nt n-head_path ∷ []) b0 flat-choice (other-choice-row c.class (λ h. n (sym (reserved-class a more) ∙ h))))
+    (word-name st.class e, turns (nt n-head_path ∷ []) b0 after-word.flat (after-word.elsewhere c.class (λ h. n (sym (reserved-class a more) ∙ h))))
 path-begins {st = st} y (name_begins e) v put more =
     let p = child-nt y (other-pos st.class e) v put more flat-other (other_row st.class e) in
     (other_name st.class e, named-first (nt n-other_name) (nt n-head_path) y (named-row st.class e) (other_name st.class e) p)

@@ -1,6 +1,6 @@
 -- Pairs `p: T` of arms' heads: their rules in grammar's table, and the steps through them.
 -- Assumes nothing.
-use Rattle.std.proofs.Common.{◌≡◌, ℕ, ◌+◌, ◌<◌, ◌≤◌, false, T, List, [], ◌∷◌, ◌++◌, length, sym, refl, ap, ◌∙◌, subst, arith, ne_eqb}
+use Rattle.std.proofs.Common.{◌≡◌, ℕ, ◌+◌, ◌-◌, ◌<◌, ◌≤◌, false, T, List, [], ◌∷◌, ◌++◌, length, sym, refl, ◌∙◌, subst, arith, ne_eqb}
 use mathlib.Core.Option.{some}
 use types.Run.{OneOf}
 use denote.Enum.Declared.{tag_of}
@@ -23,10 +23,10 @@ use Rattle.parse.specs.Infos.{Pairs, ManyPairs, MorePairs}
 use Rattle.parse.specs.declared.State.{State}
 use Rattle.parse.specs.declared.Step.{Step}
 use Rattle.parse.specs.declared.Step.TheVariants.{Next}
-use Rattle.parse.proofs.choice.Chosen.{hit, miss, goes}
+use Rattle.parse.proofs.choice.Chosen.{Forked, Optionally, forked, optionally}
 use Rattle.parse.proofs.Rule.Marks.{sign, sign-mark, sign_pos}
-use Rattle.parse.proofs.Rule.Amid.{inside, went, Amid, starts, then_turns, then-passed, then-went}
-use Rattle.parse.proofs.Rule.Chain.{advances, then-eats, then-node, onward}
+use Rattle.parse.proofs.Rule.Amid.{inside, went, Amid, starts, then-passed, then-went}
+use Rattle.parse.proofs.Rule.Chain.{turns, advances, then-eats, then-node, onward}
 use Rattle.parse.proofs.Rule.Commas.{AnyN, arranged-zero, finish, went-ahead}
 use Rattle.parse.proofs.Rule.Pieces.{name_count-append, counted-append, unseen-append, name_count-other, Marks, marks-append, arranged-marks, marks-arranged, pattern-counted, type-uncounted, sign-no-name}
 
@@ -40,42 +40,18 @@ unfolding choose row table look alt pick
 pair_row c = refl
 
 -- pairs in parentheses or nothing,
-pub flat-pairs : sort_of (ex means (nt n-head_path-optional-LParen)) ≡ shape.flat
-unfolding sort_of ex means
-flat-pairs = refl
-
-pub pairs-row : (c : ℕ) → c ≡ t.LParen → expand table n-head_path-optional-LParen c ≡ some (tok t.LParen ∷ nt n-pair ∷ nt n-tail-pair ∷ tok t.RParen ∷ [])
-unfolding choose row table look alt pick
-pairs-row c e = goes n-head_path-optional-LParen 2 c (hit t.LParen 2 [] 1 e) refl
-
-pub no-pairs-row : (c : ℕ) → (c ≡ t.LParen → ⊥) → expand table n-head_path-optional-LParen c ≡ some []
-unfolding choose row table look alt pick
-no-pairs-row c h = goes n-head_path-optional-LParen 1 c (miss t.LParen 2 [] 1 h refl) refl
+pub pairs-optional : Optionally n-head_path-optional-LParen t.LParen (tok t.LParen ∷ nt n-pair ∷ nt n-tail-pair ∷ tok t.RParen ∷ [])
+unfolding sort_of ex means choose row look table alt pick
+pairs-optional = optionally refl (λ c. refl) refl refl
 
 -- and what follows a pair.
-pub flat_tail : sort_of (ex means (nt n-tail-pair)) ≡ shape.flat
-unfolding sort_of ex means
-flat_tail = refl
+pub tail-optional : Optionally n-tail-pair t.Comma (tok t.Comma ∷ nt n-list-pair ∷ [])
+unfolding sort_of ex means choose row look table alt pick
+tail-optional = optionally refl (λ c. refl) refl refl
 
-pub flat_list : sort_of (ex means (nt n-list-pair)) ≡ shape.flat
-unfolding sort_of ex means
-flat_list = refl
-
-pub tail-row : (c : ℕ) → c ≡ t.Comma → expand table n-tail-pair c ≡ some (tok t.Comma ∷ nt n-list-pair ∷ [])
-unfolding choose row table look alt pick
-tail-row c e = goes n-tail-pair 2 c (hit t.Comma 2 [] 1 e) refl
-
-pub no-tail-row : (c : ℕ) → (c ≡ t.Comma → ⊥) → expand table n-tail-pair c ≡ some []
-unfolding choose row table look alt pick
-no-tail-row c h = goes n-tail-pair 1 c (miss t.Comma 2 [] 1 h refl) refl
-
-pub list-row : (c : ℕ) → (c ≡ t.RParen → ⊥) → expand table n-list-pair c ≡ some (nt n-pair ∷ nt n-tail-pair ∷ [])
-unfolding choose row table look alt pick
-list-row c h = goes n-list-pair 2 c (miss t.RParen 1 [] 2 h refl) refl
-
-pub no-list-row : (c : ℕ) → c ≡ t.RParen → expand table n-list-pair c ≡ some []
-unfolding choose row table look alt pick
-no-list-row c e = goes n-list-pair 1 c (hit t.RParen 1 [] 2 e) refl
+pub list-choice : Forked n-list-pair t.RParen [] (nt n-pair ∷ nt n-tail-pair ∷ [])
+unfolding sort_of ex means choose row look table alt pick
+list-choice = forked refl (λ c. refl) refl refl
 
 -- Pieces of pairs: tokens that are marks of every record, no `::`, no name, and n patterns.
 pub record Paired (n : ℕ) (w : List Sort) : Type 0 where
@@ -151,7 +127,7 @@ module _ {x : Text} {full : List Sym} {st : State} {l : List ℕ} {n : ℕ} {st�
     w = v.w;
     ms = v.ms;
     m = v.m;
-    amid = then_turns rhs v.amid f (ap (expand table A) (sym v.amid.lays.stands.class_is) ∙ e);
+    amid = turns rhs v.amid f e;
     paired = v.paired;
   }
 
@@ -239,22 +215,22 @@ module _ {x : Text} {st : State} {l : List ℕ} (y : Ready x st) where
 
     -- They end where no comma stands,
     pub more-ends : (here.class ≡ t.Comma → ⊥) → Went x (nt n-tail-pair ∷ []) as_items MorePairs st l here l₁ number 0
-    more-ends n = whole (on-turns [] v.on flat_tail (no-tail-row here.class n)) refl
+    more-ends n = whole (on-turns [] v.on tail-optional.flat (tail-optional.elsewhere here.class n)) refl
 
     module _ (c : here.class ≡ t.Comma) {next : State} (mv : Moved x here next) where
       comma : On x (nt n-tail-pair ∷ []) (nt n-list-pair ∷ []) st l (v.k + 0) next l₁
-      comma = on-sign (on-turns (tok t.Comma ∷ nt n-list-pair ∷ []) v.on flat_tail (tail-row here.class c)) tt (λ e. omega arith) c mv
+      comma = on-sign (on-turns (tok t.Comma ∷ nt n-list-pair ∷ []) v.on tail-optional.flat (tail-optional.there here.class c)) tt (λ e. omega arith) c mv
 
       comma-next : next.at ≡ here.at + 1
       comma-next = mv.ahead (inside x here.at (omega arith) (sym v.on.amid.lays.stands.class_is ∙ c))
 
       -- or behind a last comma,
       pub more-closes : next.class ≡ t.RParen → Went x (nt n-tail-pair ∷ []) as_items MorePairs st l next l₁ number 0
-      more-closes e = whole (on-turns [] comma flat_list (no-list-row next.class e)) (omega arith)
+      more-closes e = whole (on-turns [] comma list-choice.flat (list-choice.there next.class e)) (omega arith)
 
       module _ (n : next.class ≡ t.RParen → ⊥) where
         pub more-into : On x (nt n-tail-pair ∷ []) (nt n-pair ∷ nt n-tail-pair ∷ []) st l (v.k + 0) next l₁
-        more-into = on-turns (nt n-pair ∷ nt n-tail-pair ∷ []) comma flat_list (list-row next.class n)
+        more-into = on-turns (nt n-pair ∷ nt n-tail-pair ∷ []) comma list-choice.flat (list-choice.elsewhere next.class n)
 
         -- or a pair is refused,
         pub more-passed : {I J : Info} {l₂ l' : List ℕ} {r : Step} → OneOf (1 ∷ []) (tag_of the_type r) → Parsed x (nt n-pair ∷ []) as_items I next l₁ l₂ r → Parsed x (nt n-tail-pair ∷ []) as_items J st l l' r
@@ -262,11 +238,11 @@ module _ {x : Text} {st : State} {l : List ℕ} (y : Ready x st) where
 
         -- or there is one more.
         module _ {l₂ : List ℕ} {r : Step} {st₂ : State} {a b : ℕ} (p : Parsed x (nt n-pair ∷ []) as_items (Pairs 1) next l₁ l₂ r) (e : r ≡ Next st₂ a b) where
-          pub more-less : here.at < st₂.at
-          more-less = omega (arith, comma-next, went-ahead p e)
-
           pub more_within : st₂.at ≤ length x.ts
           more_within = (went e p).lays.stands.within
+
+          pub more-fewer : length x.ts - st₂.at < length x.ts - here.at
+          more-fewer = omega (arith, comma-next, went-ahead p e, more_within)
 
           pub more-again : More x st l st₂ l₂ (number + 1)
           more-again = record { k = v.k + 0 + 1; on = on-pair more-into p e; one_more = omega (arith, v.one_more); far = omega (arith, v.far, comma-next, went-ahead p e) }

@@ -1,6 +1,6 @@
 -- More steps of a rule: names, a number, and names joined by `::`.
 -- Assumes nothing.
-use Rattle.std.proofs.Common.{◌≡◌, ℕ, ◌+◌, ◌≤◌, true, false, List, [], ◌∷◌, ◌++◌, sym, ap, ◌∙◌, subst, ap₂, add-zero}
+use Rattle.std.proofs.Common.{◌≡◌, ℕ, ◌+◌, ◌≤◌, true, false, List, [], ◌∷◌, ◌++◌, sym, ap, ◌∙◌, ap₂, add-zero}
 use types.Run.{OneOf}
 use denote.Enum.Declared.{tag_of}
 use Rattle.text.specs.Lists.{has}
@@ -16,22 +16,19 @@ use Rattle.lexer.specs.Classes as t
 use Rattle.grammar.specs.Shapes.TablesIndex.{n-identifier, n-path-many-DoubleColon}
 use Rattle.grammar.specs.Records.Records.{Role, asName, as_number, role_of, placed, arranged, low_half, high_half, sees, name_count}
 use Rattle.parse.specs.contracts.Step.{the_type}
-use Rattle.parse.specs.Contract.{Text, tok_at, Stuck, raw, Info, as_items, Parsed, Named, Decimal, Names, value_at, countable}
+use Rattle.parse.specs.Contract.{Text, tok_at, Stuck, Info, as_items, Parsed, Named, Decimal, Names, value_at, countable}
 use Rattle.parse.specs.declared.State.{State}
 use Rattle.parse.specs.declared.Step.{Step}
 use Rattle.parse.specs.declared.Step.TheVariants.{Next}
-use Rattle.parse.proofs.Rule.Amid.{went, Amid, then-went, went_on, passed_on}
+use Rattle.parse.proofs.Rule.Told.{Told, told-on}
+use Rattle.parse.proofs.Rule.Amid.{went, Amid, grows, passed_on}
 
--- Names more: W is what they are made of, `own` are their tokens, k of which are no records; there are a names.
-pub record NamesOn (x : Text) (K : ℕ) (N : ℕ → Type 0) (full left : List Sym) (st : State) (l : List ℕ) (w : List Sort) (ms : List Tok) (m a : ℕ) (st₂ : State) (l₂ : List ℕ) : Type 0 where
-  pub W : List Sort
-  pub own : List Tok
-  pub k : ℕ
+-- The pieces of names more: a names, and `::` between them.
+pub record NamePieces (a : ℕ) (W : List Sort) : Type 0 where
   pub count_is : name_count W ≡ a
   pub bounded : a ≤ countable
   pub others : (c : ℕ) → has t.identifiers c ≡ false → (c ≡ t.DoubleColon → ⊥) → sees c W ≡ false
   pub no_parts : (ks : List ℕ) → counted ks W ≡ 0
-  pub amid : Amid x K N full left st l (w ++ W) (ms ++ own) (m + k) st₂ l₂
 
 module _ {x : Text} {K : ℕ} {N : ℕ → Type 0} {full left : List Sym} {st : State} {l : List ℕ} {w : List Sort} {ms : List Tok} {m : ℕ} {st₁ : State} {l₁ : List ℕ} where
   -- a token that is a record of its own
@@ -39,16 +36,12 @@ module _ {x : Text} {K : ℕ} {N : ℕ → Type 0} {full left : List Sym} {st : 
       → Parsed x (s ∷ []) as_items (Named (tok_at x st₁.at) kind low high) st₁ l₁ l₂ r → r ≡ Next st₂ a b
       → ((n : ℕ) → N n → arranged K n (mark (tok_at x st₁.at) own.none) ≡ sub kind low high (mark (tok_at x st₁.at) own.none) own.none)
       → Amid x K N full left st l (w ++ (word (tok_at x st₁.at).class ∷ [])) (ms ++ (tok_at x st₁.at ∷ [])) m st₂ l₂
-  named-as kind low high {st₂} {l₂} d p e f =
+  named-as {s} kind low high d p e f =
       let q = went e p in
       let i = q.info in
-      let z = then-went d q (λ n g. ap (arranged K n) i.raw_is ∙ f n g ∙ sym i.laid_is) in
-      let e₁ : sorts (raw x st₁.at q.items) ≡ word (tok_at x st₁.at).class ∷ [] = ap sorts i.raw_is in
-      let e₂ : marks (raw x st₁.at q.items) ≡ tok_at x st₁.at ∷ [] = ap marks i.raw_is in
-      let e₃ : m + q.m ≡ m = ap (λ b. m + b) i.none_left ∙ add-zero m in
-      subst (λ c. Amid x K N full left st l (w ++ (word (tok_at x st₁.at).class ∷ [])) (ms ++ (tok_at x st₁.at ∷ [])) c st₂ l₂) e₃
-      (subst (λ b. Amid x K N full left st l (w ++ (word (tok_at x st₁.at).class ∷ [])) b (m + q.m) st₂ l₂) (ap (λ b. ms ++ b) e₂)
-      (subst (λ a. Amid x K N full left st l a (ms ++ marks (raw x st₁.at q.items)) (m + q.m) st₂ l₂) (ap (λ a. w ++ a) e₁) z))
+      let z = grows (s ∷ []) left d q (λ n g. ap (arranged K n) i.raw_is ∙ f n g ∙ sym i.laid_is)
+      (ap (λ u. w ++ u) (ap sorts i.raw_is)) (ap (λ u. ms ++ u) (ap marks i.raw_is)) (ap (λ u. m + u) i.none_left ∙ add-zero m) in
+      z.amid
 
   -- A name that a function read.
   pub then-named : {s : Sym} {st₂ : State} {l₂ : List ℕ} {a b : ℕ} {r : Step} → Amid x K N full (s ∷ left) st l w ms m st₁ l₁
@@ -69,20 +62,11 @@ module _ {x : Text} {K : ℕ} {N : ℕ → Type 0} {full left : List Sym} {st : 
   -- Names joined by `::` that a function read,
   pub then-names : {st₂ : State} {l₂ : List ℕ} {a b : ℕ} {r : Step} → Amid x K N full (nt n-identifier ∷ nt n-path-many-DoubleColon ∷ left) st l w ms m st₁ l₁
       → Parsed x (nt n-identifier ∷ nt n-path-many-DoubleColon ∷ []) as_items Names st₁ l₁ l₂ r → r ≡ Next st₂ a b → has family.names_kept K ≡ true
-      → NamesOn x K N full left st l w ms m a st₂ l₂
+      → Told x K N full left st l w ms m (NamePieces a) st₂ l₂
   then-names d p e h =
       let q = went e p in
       let i = q.info in
-      record {
-        W = sorts (raw x st₁.at q.items);
-        own = marks (raw x st₁.at q.items);
-        k = q.m;
-        count_is = i.count_is;
-        bounded = i.bounded;
-        others = i.others;
-        no_parts = i.no_parts;
-        amid = went_on (nt n-identifier ∷ nt n-path-many-DoubleColon ∷ []) left d q (λ n g. i.roles K n h);
-      }
+      told-on (nt n-identifier ∷ nt n-path-many-DoubleColon ∷ []) left d q (λ n g. i.roles K n h) (record { count_is = i.count_is; bounded = i.bounded; others = i.others; no_parts = i.no_parts })
 
   -- or refused.
   pub then-names-passed : {I : Info} {l₂ : List ℕ} {r : Step} {σ' : List Sym} {wrap wrap' : shape.Items → shape.Items} {J : Info} {st₀ : State} {l₀ l' : List ℕ}

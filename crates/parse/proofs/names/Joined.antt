@@ -1,6 +1,6 @@
 -- Names joined by `::`, as a loop reads them.
 -- Assumes nothing.
-use Rattle.std.proofs.Common.{◌≡◌, ℕ, suc, ◌+◌, ◌<◌, ◌≤◌, Bool, true, false, ◌||◌, ◌⊎◌, List, [], ◌∷◌, ◌++◌, length, get_or, sym, refl, ap, ◌∙◌, ap₂, inl, inr, arith, ne_eqb}
+use Rattle.std.proofs.Common.{◌≡◌, ℕ, suc, ◌+◌, ◌-◌, ◌<◌, ◌≤◌, Bool, true, false, ◌||◌, ◌⊎◌, List, [], ◌∷◌, ◌++◌, length, get_or, sym, refl, ap, ◌∙◌, ap₂, inl, inr, arith, ne_eqb}
 use mathlib.Core.Option.{some}
 use types.Run.{OneOf}
 use denote.Enum.Declared.{tag_of}
@@ -11,9 +11,8 @@ use Rattle.theory.specs.Machine.{choose, expand}
 use Rattle.theory.specs.Ebnf as shape
 use Rattle.theory.specs.Walk.{n-flat, n-sub}
 use Rattle.own.specs.Tree as own
-use Rattle.own.specs.Tree.{Tok, Items, mark, sub}
+use Rattle.own.specs.Tree.{Tok, Items}
 use Rattle.own.specs.Law.{Sort, word, child, sorts}
-use Rattle.own.specs.Words.{sizes}
 use Rattle.own.specs.Kinds as kind
 use Rattle.kinds.specs.Fields.{counted}
 use Rattle.kinds.specs.Families as family
@@ -27,12 +26,13 @@ use Rattle.parse.specs.declared.State.{State}
 use Rattle.parse.specs.declared.Step.{Step}
 use Rattle.parse.specs.declared.Step.TheVariants.{Next}
 use Rattle.parse.proofs.Rule.Marks.{sign-mark}
-use Rattle.parse.proofs.Rule.Amid.{class-at, inside, Amid, starts, then_turns, then-passed, then-went, went}
-use Rattle.parse.proofs.Rule.Chain.{advances, onward}
+use Rattle.parse.proofs.Rule.Amid.{class-at, inside, Amid, starts, then-passed, then-went, went}
+use Rattle.parse.proofs.Rule.Chain.{turns, advances, onward}
 use Rattle.parse.proofs.Rule.Pieces.{name_count-append, name_count-name}
-use Rattle.parse.proofs.Rule.Commas.{AnyN, finish}
+use Rattle.parse.proofs.Rule.Commas.{AnyN, finish, laid-ahead}
 use Rattle.parse.proofs.names.Chain.{then-named}
-use Rattle.parse.proofs.names.Rows.{expanded-identifier, expanded-function-name, expanded-alias-name, flat-more, more-names, no-more-names, name-role, arranged-names}
+use Rattle.parse.specs.declared.names.NameSort.TheVariants as name
+use Rattle.parse.proofs.names.Rows.{expanded-name, expanded-function-name, names-optional, name-role, arranged-names}
 
 -- What was chosen is what the table has.
 chosen : (A i a : ℕ) {rhs : List Sym} → choose table A a ≡ i → alt table A i ≡ some rhs → expand table A a ≡ some rhs
@@ -46,7 +46,7 @@ expands x {A} {at = at} (n-sub {rhs = rhs} C i k c y f e p q) = (rhs, chosen A (
 module _ {x : Text} {wrap : shape.Items → shape.Items} {I : Info} {st : State} {l l' : List ℕ} {r : Step} {st' : State} {a b : ℕ} {σ : List Sym} where
   -- The token that was read as an identifier is one,
   pub identifier-class : Parsed x (nt n-identifier ∷ σ) wrap I st l l' r → r ≡ Next st' a b → has t.identifiers (tok_at x st.at).class ≡ true
-  identifier-class p e = let q = expands x (went e p).reads in ap (has t.identifiers) (sym (class-at x.ts st.at)) ∙ expanded-identifier (get_or (classes x) st.at 0) q.1
+  identifier-class p e = let q = expands x (went e p).reads in ap (has t.identifiers) (sym (class-at x.ts st.at)) ∙ expanded-name name.Identifier (get_or (classes x) st.at 0) q.1
 
   -- and so is one that was read as a function's name.
   pub function-name-class : Parsed x (nt n-function_name ∷ σ) wrap I st l l' r → r ≡ Next st' a b → has t.function_names (tok_at x st.at).class ≡ true
@@ -54,14 +54,11 @@ module _ {x : Text} {wrap : shape.Items → shape.Items} {I : Info} {st : State}
 
   -- and one that was read as a type item's name.
   pub alias-name-class : Parsed x (nt n-alias_name ∷ σ) wrap I st l l' r → r ≡ Next st' a b → has t.identifiers (tok_at x st.at).class ≡ true
-  alias-name-class p e = let q = expands x (went e p).reads in ap (has t.identifiers) (sym (class-at x.ts st.at)) ∙ expanded-alias-name (get_or (classes x) st.at 0) q.1
+  alias-name-class p e = let q = expands x (went e p).reads in ap (has t.identifiers) (sym (class-at x.ts st.at)) ∙ expanded-name name.Alias (get_or (classes x) st.at 0) q.1
 
 -- A token that is a record of its own lies ahead.
 pub named-ahead : {x : Text} {σ : List Sym} {t : Tok} {kind low high : ℕ} {st : State} {l l' : List ℕ} {r : Step} {st' : State} {a b : ℕ} → Parsed x σ as_items (Named t kind low high) st l l' r → r ≡ Next st' a b → st.at < st'.at
-named-ahead {t = t} {kind = kind} {low = low} {high = high} p e =
-    let q = went e p in
-    let s : sizes q.L ≡ sizes (sub kind low high (mark t own.none) own.none) = ap sizes q.info.laid_is in
-    omega (arith, q.lays.few, q.lays.sized)
+named-ahead p e = let q = went e p in laid-ahead q q.info.laid_is
 
 -- Names and `::` only.
 abbrev pub Paths : List Sort → Type 0
@@ -128,25 +125,24 @@ module _ {x : Text} {st : State} {l : List ℕ} {here : State} {l₁ : List ℕ}
   -- They end where no `::` stands,
   joined-ends : (here.class ≡ t.DoubleColon → ⊥) → Went x (nt n-path-many-DoubleColon ∷ []) as_items (Rest v.w) st l here l₁ number 0
   joined-ends n =
-      let d = then_turns [] v.amid flat-more (ap (expand table n-path-many-DoubleColon) (sym v.amid.lays.stands.class_is) ∙ no-more-names here.class n) in
+      let d = turns [] v.amid names-optional.flat (names-optional.elsewhere here.class n) in
       finish d (record { roles = λ n. d.roles n tt; sorted = d.sorted })
 
   module _ (c : here.class ≡ t.DoubleColon) {next : State} (mv : Moved x here next) where
     -- or go on with one more.
     pub joined-into : Amid x kind.EnumConstruction AnyN (nt n-path-many-DoubleColon ∷ []) (nt n-identifier ∷ nt n-path-many-DoubleColon ∷ []) st l (v.w ++ (word t.DoubleColon ∷ [])) (v.ms ++ (tok_at x here.at ∷ [])) (v.m + 1) next l₁
     joined-into =
-        advances (then_turns (tok t.DoubleColon ∷ nt n-identifier ∷ nt n-path-many-DoubleColon ∷ []) v.amid flat-more
-        (ap (expand table n-path-many-DoubleColon) (sym v.amid.lays.stands.class_is) ∙ more-names here.class c)) c (omega arith) mv colon-mark
+        advances (turns (tok t.DoubleColon ∷ nt n-identifier ∷ nt n-path-many-DoubleColon ∷ []) v.amid names-optional.flat (names-optional.there here.class c)) c (omega arith) mv colon-mark
 
     joined-next : next.at ≡ here.at + 1
     joined-next = mv.ahead (inside x here.at (omega arith) (sym v.amid.lays.stands.class_is ∙ c))
 
     module _ {l₂ : List ℕ} {r : Step} {st₂ : State} {a b : ℕ} (p : Parsed x (nt n-identifier ∷ []) as_items (Named (tok_at x next.at) kind.Name 0 0) next l₁ l₂ r) (e : r ≡ Next st₂ a b) where
-      pub joined-less : here.at < st₂.at
+      joined-less : here.at < st₂.at
       joined-less = omega (arith, joined-next, named-ahead p e)
 
-      pub joined-within : st₂.at ≤ length x.ts
-      joined-within = (went e p).lays.stands.within
+      pub joined-fewer : length x.ts - st₂.at < length x.ts - here.at
+      joined-fewer = let q = went e p in omega (arith, joined-less, q.lays.stands.within)
 
       pub joined-again : Joined x st l st₂ l₂ (number + 1)
       joined-again =

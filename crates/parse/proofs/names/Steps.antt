@@ -2,7 +2,7 @@
 -- Assumes nothing.
 use Rattle.std.proofs.Common.{◌≡◌, ℕ, ◌<◌, ◌≤◌, List, [], ◌∷◌, length, sym, ap, ◌∙◌, arith}
 use mathlib.Core.Option.{none, some}
-use Rattle.num.specs.Value.{Value, decimal_of, fitted, number_of}
+use Rattle.num.specs.Value.{Value, number_of}
 use Rattle.text.specs.Part.{part_of}
 use Rattle.theory.specs.Grammar.{tok, nt}
 use Rattle.theory.specs.Machine.{expand}
@@ -11,15 +11,15 @@ use Rattle.theory.specs.Ebnf.{sort_of}
 use Rattle.theory.specs.Same.{ex}
 use Rattle.theory.specs.Walk.{k_tok, k_nt}
 use Rattle.grammar.specs.Shapes.Tables.{means, table}
-use Rattle.grammar.specs.Records.Records.{text_of}
 use Rattle.lexer.specs.Classes as t
 use Rattle.own.specs.Kinds as kind
-use Rattle.parse.specs.Contract.{Text, tok_at, Stands, Ready, Near, Moved, Put, PutNumber, Info, as_items, Parsed, read, stuck, reserved, Named, Decimal, value_at, countable}
+use Rattle.parse.specs.Contract.{Text, tok_at, Ready, Near, Moved, Put, PutNumber, Info, as_items, Parsed, read, stuck, reserved, Named, Decimal, value_at, countable}
 use Rattle.parse.specs.declared.State.{State}
 use Rattle.parse.specs.declared.Step.TheVariants.{Next, Refused}
 use Rattle.parse.proofs.tree.Numbers.{number-numbered, put-number}
 use Rattle.parse.proofs.Rule.Amid.{inside}
 use Rattle.parse.proofs.Rule.Steps.{child-went, reads-tok, reads-one}
+use Rattle.parse.proofs.Rule.Heads.{value-here}
 
 -- Where nothing was reserved there is room.
 pub ready-near : {x : Text} {st : State} → Ready x st → Near x st
@@ -61,14 +61,9 @@ module _ {x : Text} {st : State} (y : Ready x st) where
       → Parsed x (nt A ∷ []) as_items (Named (tok_at x st.at) kind low high) st l l' (Next st₂ 0 0)
   child-nt pos v put more f e = child-near (ready-near y) pos v put more f e
 
--- The number that the code reads is that of the token.
-value-is : {x : Text} {st : State} → Stands x st → number_of (part_of x.draft st.start st.stop) ≡ fitted (value_at x st.at)
-unfolding text_of number_of
-value-is {x} {st} h = λ i. fitted (decimal_of (part_of x.draft (h.start_is i) (h.stop_is i)))
-
 -- A decimal, with the halves of its number.
 pub child-decimal : {x : Text} {st st₁ st₂ : State} {l l' : List ℕ} {v : Value} → Ready x st → st.class ≡ t.DecLiteral → Moved x st st₁
     → PutNumber l st₁.out kind.Number st.start st.stop v 1 l' → st₂ ≡ reserved st₁ → v ≡ number_of (part_of x.draft st.start st.stop)
     → Parsed x (tok t.DecLiteral ∷ []) as_items (Decimal x st.at) st l l' (Next st₂ 0 0)
 child-decimal {x} {st} y c m put more e =
-    child-tok (ready-near y) (omega arith) m (put-number (value_at x st.at) (e ∙ value-is y.stands) number-numbered put) more c
+    child-tok (ready-near y) (omega arith) m (put-number (value_at x st.at) (e ∙ value-here y.stands) number-numbered put) more c

@@ -1,6 +1,6 @@
 -- Patterns: their rules in grammar's table, and the heads of their records.
 -- Assumes nothing.
-use Rattle.std.proofs.Common.{◌≡◌, ℕ, zero, suc, ◌<◌, ◌≤◌, Bool, true, false, cond, not, ◌&&◌, ◌||◌, T, eqb, ltb, ◌⊎◌, List, [], ◌∷◌, sym, refl, ap, ◌∙◌, ap₂, inl, inr, arith, eqb→eq, ltb→lt, eq-eqb, ne_eqb, eqb-true}
+use Rattle.std.proofs.Common.{◌≡◌, ℕ, ◌<◌, ◌≤◌, Bool, true, false, cond, not, ◌&&◌, ◌||◌, T, eqb, ◌⊎◌, List, [], ◌∷◌, sym, refl, ap, ◌∙◌, ap₂, inl, inr, arith, eq-eqb, ne_eqb, eqb-true}
 use mathlib.Core.Option.{none, some}
 use Rattle.text.specs.Part.{part_of}
 use Rattle.text.specs.Ascii.{ascii}
@@ -26,7 +26,7 @@ use Rattle.parse.specs.declared.token.Brackets.TheVariants as brackets
 use Rattle.parse.specs.declared.State.{State}
 use Rattle.parse.specs.declared.token.Source.{Source}
 use Rattle.parse.specs.Choice as choice
-use Rattle.parse.proofs.choice.Chosen.{where-chosen, alone, is-alone, hit, miss, goes}
+use Rattle.parse.proofs.choice.Chosen.{Unpicked, no-alternative, only-class, alone-there, pos-there, Optionally, optionally, hit, miss, goes}
 use Rattle.parse.proofs.Rule.Marks.{keeping, keeping-mark, keeps-between}
 use Rattle.parse.proofs.Rule.Amid.{Amid}
 use Rattle.parse.proofs.Rule.Steps.{decided}
@@ -59,16 +59,16 @@ list-rule brackets.Square = record { category = refl; from_one = refl; kind = re
 module _ (c : ℕ) where
   pub at_named : choose table n-pattern c ≡ choice.NamePattern → expand table n-identifier c ≡ some (tok c ∷ [])
   unfolding choose row table look alt pick
-  at_named e = is-alone (expand table n-identifier c) c (where-chosen n-pattern choice.NamePattern (λ a. alone (expand table n-identifier a) a) tt tt c e)
+  at_named e = alone-there n-pattern n-identifier choice.NamePattern tt tt c e
 
   pub named-pos : choose table n-pattern c ≡ choice.NamePattern → 0 < c
   unfolding choose row table look
-  named-pos e = ltb→lt 0 c (where-chosen n-pattern choice.NamePattern (λ a. ltb 0 a) tt tt c e)
+  named-pos e = pos-there n-pattern choice.NamePattern tt tt c e
 
   pub at-list : (b : Brackets) → choose table n-pattern c ≡ pattern_choice b → c ≡ opening_class b
   unfolding choose row table look
-  at-list brackets.Round e = eqb→eq c t.LParen (where-chosen n-pattern choice.TuplePattern (λ a. eqb a t.LParen) tt tt c e)
-  at-list brackets.Square e = eqb→eq c t.LBracket (where-chosen n-pattern choice.ArrayPattern (λ a. eqb a t.LBracket) tt tt c e)
+  at-list brackets.Round e = only-class n-pattern choice.TuplePattern t.LParen tt tt c e
+  at-list brackets.Square e = only-class n-pattern choice.ArrayPattern t.LBracket tt tt c e
 
 -- A list has no refusal of its own, and is a pattern.
 pub list-faultless : (b : Brackets) → T (faultless (list_shape b))
@@ -88,16 +88,9 @@ unfolding sort_of ex means
 flat-named = refl
 
 -- No pattern begins with another class.
-pub no-pattern : (c i : ℕ) → i ≡ choose table n-pattern c → (((Unit {0} × (i ≡ choice.NamePattern → ⊥)) × (i ≡ choice.TuplePattern → ⊥)) × (i ≡ choice.ArrayPattern → ⊥)) → expand table n-pattern c ≡ none
-unfolding row table alt pick
-no-pattern c i e h = ap (alt table n-pattern) (sym e) ∙ go i h
-  where
-    go : (i : ℕ) → (((Unit {0} × (i ≡ choice.NamePattern → ⊥)) × (i ≡ choice.TuplePattern → ⊥)) × (i ≡ choice.ArrayPattern → ⊥)) → alt table n-pattern i ≡ none
-    go zero h = refl
-    go (suc zero) h = absurd (h.0.0.1 refl)
-    go (suc (suc zero)) h = absurd (h.0.1 refl)
-    go (suc (suc (suc zero))) h = absurd (h.1 refl)
-    go (suc (suc (suc (suc i)))) h = refl
+pub no-pattern : (c i : ℕ) → i ≡ choose table n-pattern c → Unpicked 3 i → expand table n-pattern c ≡ none
+unfolding row table
+no-pattern = no-alternative n-pattern
 
 -- A list ends at `)` and at `]`.
 abbrev pub Closes : ℕ → Type 0
@@ -117,7 +110,7 @@ shut_at {r = true} c e f = sym e
 shut_at {r = false} c e f = absurd (differ (sym f))
 
 -- The rows of a list that ends at both.
-pub both_ends : (c : ℕ) → Closes c → look (on t.RParen 1 ∷ on t.RBracket 1 ∷ []) 2 c ≡ 1
+both_ends : (c : ℕ) → Closes c → look (on t.RParen 1 ∷ on t.RBracket 1 ∷ []) 2 c ≡ 1
 both_ends c h = go (or_cases (eqb c t.RParen) (eqb c t.RBracket) h)
   where
     go : (eqb c t.RParen ≡ true) ⊎ (eqb c t.RBracket ≡ true) → look (on t.RParen 1 ∷ on t.RBracket 1 ∷ []) 2 c ≡ 1
@@ -128,20 +121,24 @@ both_ends c h = go (or_cases (eqb c t.RParen) (eqb c t.RBracket) h)
         both true f g = hit t.RParen 1 (on t.RBracket 1 ∷ []) 2 (eqb-true c t.RParen f)
         both false f g = miss t.RParen 1 (on t.RBracket 1 ∷ []) 2 (λ h. differ (sym f ∙ eq-eqb c t.RParen h)) (hit t.RBracket 1 [] 2 g)
 
-pub both-more : (c : ℕ) → (Closes c → ⊥) → look (on t.RParen 1 ∷ on t.RBracket 1 ∷ []) 2 c ≡ 2
+both-more : (c : ℕ) → (Closes c → ⊥) → look (on t.RParen 1 ∷ on t.RBracket 1 ∷ []) 2 c ≡ 2
 unfolding look
 both-more c h = miss t.RParen 1 (on t.RBracket 1 ∷ []) 2 (closes-not c t.RParen h (inl refl)) (miss t.RBracket 1 [] 2 (closes-not c t.RBracket h (inr refl)) refl)
 
-pub pattern-rows : Rows n-list-pattern n-tail-pattern n-pattern Closes
-unfolding sort_of ex means choose row table look alt pick
-pattern-rows = record {
-  flat_list = refl;
-  flat_tail = refl;
-  ends = λ c h. goes n-list-pattern 1 c (both_ends c h) refl;
-  more = λ c h. goes n-list-pattern 2 c (both-more c h) refl;
-  stops = λ c h. goes n-tail-pattern 1 c (miss t.Comma 2 [] 1 h refl) refl;
-  goes = λ c h. goes n-tail-pattern 2 c (hit t.Comma 2 [] 1 h) refl;
+pub rows-to-brackets : {L T A : ℕ} → sort_of (ex means (nt L)) ≡ shape.flat → ((c : ℕ) → choose table L c ≡ look (on t.RParen 1 ∷ on t.RBracket 1 ∷ []) 2 c)
+    → alt table L 1 ≡ some [] → alt table L 2 ≡ some (nt A ∷ nt T ∷ []) → Optionally T t.Comma (tok t.Comma ∷ nt L ∷ []) → Rows L T A Closes
+rows-to-brackets {L} f e g h z = record {
+  flat_list = f;
+  flat_tail = z.flat;
+  ends = λ c p. goes L 1 c (e c ∙ both_ends c p) g;
+  more = λ c n. goes L 2 c (e c ∙ both-more c n) h;
+  stops = z.elsewhere;
+  goes = z.there;
 }
+
+pub pattern-rows : Rows n-list-pattern n-tail-pattern n-pattern Closes
+unfolding sort_of ex means choose row look table alt pick
+pattern-rows = rows-to-brackets refl (λ c. refl) refl refl (optionally refl (λ c. refl) refl refl)
 
 -- The heads of patterns.
 module _ {x : Text} {K : ℕ} {N : ℕ → Type 0} {full left : List Sym} {st : State} {l : List ℕ} {w : List Sort} {ms : List Tok} {m : ℕ} {st₁ : State} {l₁ : List ℕ} where

@@ -1,10 +1,9 @@
--- The function and its parameters: their rules in grammar's table, and the heads of their records.
+-- The function and its parameters: their rules in grammar's table, and what stands in their records.
 -- Assumes nothing.
-use Rattle.std.proofs.Common.{◌≡◌, ℕ, ◌+◌, ◌<◌, ◌≤◌, Bool, true, false, cond, not, ◌||◌, T, eqb, ltb, ◌⊎◌, List, [], ◌∷◌, ◌++◌, get_or, sym, refl, ap, ◌∙◌, subst, ap₂, inl, inr, arith, eqb→eq, ltb-false, ltb-true, eq-eqb, ne_eqb}
+use Rattle.std.proofs.Common.{◌≡◌, ℕ, ◌+◌, ◌<◌, ◌≤◌, Bool, true, false, cond, not, ◌&&◌, ◌||◌, T, eqb, ◌⊎◌, List, [], ◌∷◌, ◌++◌, get_or, sym, refl, ap, ◌∙◌, subst, ap₂, inl, inr, arith, eqb→eq, eq-eqb, ne_eqb}
 use mathlib.Core.Option.{Option, none, some}
 use types.Run.{OneOf}
 use denote.Enum.Declared.{tag_of}
-use Rattle.text.proofs.Table.{implied}
 use Rattle.text.proofs.Same.{differ}
 use Rattle.text.specs.Lists.{has}
 use Rattle.theory.specs.Grammar.{Sym, tok, nt, on, look, row, alt, pick}
@@ -13,7 +12,7 @@ use Rattle.theory.specs.Ebnf as shape
 use Rattle.theory.specs.Ebnf.{sort_of, kinds_of}
 use Rattle.theory.specs.Same.{ex}
 use Rattle.theory.specs.Walk.{n-tok, n-flat, n-sub, k_tok, k_nt, k_eat, k_in}
-use Rattle.own.specs.Tree.{Tok, marks}
+use Rattle.own.specs.Tree.{Tok}
 use Rattle.own.specs.Law.{Sort, word, child, sorts}
 use Rattle.own.specs.Kinds as kind
 use Rattle.kinds.specs.Fields.{counted}
@@ -21,26 +20,27 @@ use Rattle.kinds.specs.Families as family
 use Rattle.lexer.specs.Classes as t
 use Rattle.grammar.specs.Shapes.Shapes.{shapes}
 use Rattle.grammar.specs.Shapes.Tables.{means, table}
-use Rattle.grammar.specs.Records.Records.{head, sees, head_of, form_of, function_head}
+use Rattle.grammar.specs.Records.Records.{head, sees, head_of, form_of}
 use Rattle.grammar.specs.Records.Faults.{Fault}
 use Rattle.grammar.specs.Shapes.ShapeKind.{FunctionShape, ParameterShape}
 use Rattle.grammar.specs.Shapes.TablesIndex.{n-block, n-function, n-function-optional-Arrow, n-function-optional-Pub, n-function_name, n-identifier, n-list-parameter, n-parameter, n-tail-parameter, n-type}
 use Rattle.parse.specs.contracts.Step.{the_type}
-use Rattle.parse.specs.Contract.{Text, classes, name_sort, Read, Stuck, raw, Ready, Near, Info, as_items, Went, Parsed, read, stuck, Only, TypeKind, ExprKind, u32_count}
+use Rattle.parse.specs.Contract.{Text, classes, name_sort, Read, Stuck, raw, Ready, Near, Info, as_items, Went, Parsed, read, stuck, Only, TypeKind}
 use Rattle.parse.specs.Infos.{Optional, Parameters}
 use Rattle.parse.specs.declared.State.{State}
 use Rattle.parse.specs.declared.Step.{Step}
 use Rattle.parse.specs.declared.Step.TheVariants.{Next}
 use Rattle.parse.specs.Choice as choice
-use Rattle.parse.proofs.Rule.ByClass.{run, sweep, beyond, has-past, past_classes}
-use Rattle.parse.proofs.choice.Chosen.{hit, miss, goes}
+use Rattle.parse.proofs.Rule.ByClass.{run, where-passed, either-passed, beyond, past_classes, has-past, and_both}
+use Rattle.parse.proofs.choice.Chosen.{Optionally, optionally, forked, miss, goes}
 use Rattle.parse.proofs.Rule.Marks.{sign, sign-mark}
 use Rattle.parse.proofs.names.Rows.{sort-identifier}
-use Rattle.parse.proofs.Rule.Amid.{Amid, then-went, went}
+use Rattle.parse.proofs.Rule.Amid.{Amid, went}
 use Rattle.parse.proofs.Rule.Steps.{stuck-here, decided}
 use Rattle.parse.proofs.Rule.Closing.{Opened, Rule, enters}
-use Rattle.parse.proofs.Rule.Commas.{AnyN, Rows, arranged-zero, arranged-only, comma-mark, finish}
-use Rattle.parse.proofs.Rule.Pieces.{sees-append, counted-append, unseen-append}
+use Rattle.parse.proofs.Rule.Told.{Told, then-told}
+use Rattle.parse.proofs.Rule.Commas.{AnyN, Rows, rows-to-paren, arranged-zero, arranged-only, comma-mark, finish}
+use Rattle.parse.proofs.Rule.Pieces.{counted-append}
 
 -- The rules of a function and of a parameter.
 abbrev pub function_rhs : List Sym
@@ -59,41 +59,17 @@ parameter-rule = record { category = refl; from_one = refl; kind = refl; rule = 
 
 -- The rows of a list of parameters.
 pub parameter-rows : Rows n-list-parameter n-tail-parameter n-parameter (λ c. c ≡ t.RParen)
-unfolding sort_of ex means choose row table look alt pick
-parameter-rows = record {
-  flat_list = refl;
-  flat_tail = refl;
-  ends = λ c h. goes n-list-parameter 1 c (hit t.RParen 1 [] 2 h) refl;
-  more = λ c h. goes n-list-parameter 2 c (miss t.RParen 1 [] 2 h refl) refl;
-  stops = λ c h. goes n-tail-parameter 1 c (miss t.Comma 2 [] 1 h refl) refl;
-  goes = λ c h. goes n-tail-parameter 2 c (hit t.Comma 2 [] 1 h) refl;
-}
+unfolding sort_of ex means choose row look table alt pick
+parameter-rows = rows-to-paren (forked refl (λ c. refl) refl refl) (optionally refl (λ c. refl) refl refl)
 
 -- What may stand before `fn` and after `)`.
-pub flat-public : sort_of (ex means (nt n-function-optional-Pub)) ≡ shape.flat
-unfolding sort_of ex means
-flat-public = refl
+pub public-optional : Optionally n-function-optional-Pub t.Pub (tok t.Pub ∷ [])
+unfolding sort_of ex means choose row look table alt pick
+public-optional = optionally refl (λ c. refl) refl refl
 
-pub flat-arrow : sort_of (ex means (nt n-function-optional-Arrow)) ≡ shape.flat
-unfolding sort_of ex means
-flat-arrow = refl
-
-module _ {a : ℕ} where
-  pub no-public : (a ≡ t.Pub → ⊥) → expand table n-function-optional-Pub a ≡ some []
-  unfolding choose row table look alt pick
-  no-public h = goes n-function-optional-Pub 1 a (miss t.Pub 2 [] 1 h refl) refl
-
-  pub is-public : a ≡ t.Pub → expand table n-function-optional-Pub a ≡ some (tok t.Pub ∷ [])
-  unfolding choose row table look alt pick
-  is-public h = goes n-function-optional-Pub 2 a (hit t.Pub 2 [] 1 h) refl
-
-  pub no-arrow : (a ≡ t.Arrow → ⊥) → expand table n-function-optional-Arrow a ≡ some []
-  unfolding choose row table look alt pick
-  no-arrow h = goes n-function-optional-Arrow 1 a (miss t.Arrow 2 [] 1 h refl) refl
-
-  pub is-arrow : a ≡ t.Arrow → expand table n-function-optional-Arrow a ≡ some (tok t.Arrow ∷ nt n-type ∷ [])
-  unfolding choose row table look alt pick
-  is-arrow h = goes n-function-optional-Arrow 2 a (hit t.Arrow 2 [] 1 h) refl
+pub arrow-optional : Optionally n-function-optional-Arrow t.Arrow (tok t.Arrow ∷ nt n-type ∷ [])
+unfolding sort_of ex means choose row look table alt pick
+arrow-optional = optionally refl (λ c. refl) refl refl
 
 -- A parameter begins with an identifier, and with nothing else.
 
@@ -102,38 +78,30 @@ unfolding has choose row look table
 is-test = tt
 
 pub at-parameter : (c : ℕ) → has t.identifiers c ≡ true → choose table n-parameter c ≡ 1
-at-parameter c e = go (ltb c past_classes) refl
-  where
-    go : (b : Bool) → ltb c past_classes ≡ b → choose table n-parameter c ≡ 1
-    go true h = eqb→eq (choose table n-parameter c) 1 (implied (has t.identifiers c) (eqb (choose table n-parameter c) 1) (sweep (λ c. not (has t.identifiers c) || eqb (choose table n-parameter c) 1) is-test c (ltb-true c past_classes h)) (rw e tt))
-    go false h = absurd (differ (sym (has-past t.identifiers c tt (ltb-false c past_classes h)) ∙ e))
+at-parameter c e =
+    eqb→eq (choose table n-parameter c) 1
+    (where-passed (λ c. eqb (choose table n-parameter c) 1) (λ c. has t.identifiers c) is-test (λ c h u. absurd (rw (has-past t.identifiers c tt h) at u)) c (rw e tt))
 
-either-test : T (run (λ c. eqb (choose table n-parameter c) 1 || (eqb (choose table n-parameter c) 0 || false)) past_classes 0)
+abbrev no_parameter : ℕ → Bool
+no_parameter c = eqb (choose table n-parameter c) 0 && eqb (choose table n-identifier c) 0
+
+either-test : T (run (λ c. eqb (choose table n-parameter c) 1 || no_parameter c) past_classes 0)
 unfolding choose row look table
 either-test = tt
 
-lacks-test : T (run (λ c. not (eqb (choose table n-parameter c) 0) || eqb (choose table n-identifier c) 0) past_classes 0)
-unfolding choose row look table
-lacks-test = tt
-
 -- Where a parameter begins or the table has nothing, neither for it nor for an identifier.
-pub parameter-or : (c : ℕ) → (choose table n-parameter c ≡ 1) ⊎ ((expand table n-parameter c ≡ none) × (expand table n-identifier c ≡ none))
+abbrev MaybeParameter : ℕ → Type 0
+MaybeParameter c = (choose table n-parameter c ≡ 1) ⊎ ((expand table n-parameter c ≡ none) × (expand table n-identifier c ≡ none))
+
+pub parameter-or : (c : ℕ) → MaybeParameter c
 unfolding row table alt pick
-parameter-or c = go (ltb c past_classes) refl
+parameter-or c = go (either-passed (λ c. eqb (choose table n-parameter c) 1) no_parameter either-test (λ c h. rw (beyond n-parameter c h, beyond n-identifier c h) tt) c)
   where
-    lacks : choose table n-parameter c ≡ 0 → choose table n-identifier c ≡ 0 → (choose table n-parameter c ≡ 1) ⊎ ((expand table n-parameter c ≡ none) × (expand table n-identifier c ≡ none))
-    lacks e f = inr (ap (alt table n-parameter) e, ap (alt table n-identifier) f)
-
-    low : c < past_classes → (b d : Bool) → eqb (choose table n-parameter c) 1 ≡ b → eqb (choose table n-parameter c) 0 ≡ d → T (b || (d || false)) → (choose table n-parameter c ≡ 1) ⊎ ((expand table n-parameter c ≡ none) × (expand table n-identifier c ≡ none))
-    low l true d e f h = inl (eqb→eq (choose table n-parameter c) 1 (rw e tt))
-    low l false true e f h =
-        lacks (eqb→eq (choose table n-parameter c) 0 (rw f tt))
-        (eqb→eq (choose table n-identifier c) 0 (implied (eqb (choose table n-parameter c) 0) (eqb (choose table n-identifier c) 0) (sweep (λ c. not (eqb (choose table n-parameter c) 0) || eqb (choose table n-identifier c) 0) lacks-test c l) (rw f tt)))
-    low l false false e f h = absurd h
-
-    go : (b : Bool) → ltb c past_classes ≡ b → (choose table n-parameter c ≡ 1) ⊎ ((expand table n-parameter c ≡ none) × (expand table n-identifier c ≡ none))
-    go true h = low (ltb-true c past_classes h) (eqb (choose table n-parameter c) 1) (eqb (choose table n-parameter c) 0) refl refl (sweep (λ c. eqb (choose table n-parameter c) 1 || (eqb (choose table n-parameter c) 0 || false)) either-test c (ltb-true c past_classes h))
-    go false h = lacks (beyond n-parameter c (ltb-false c past_classes h)) (beyond n-identifier c (ltb-false c past_classes h))
+    go : T (eqb (choose table n-parameter c) 1) ⊎ T (no_parameter c) → MaybeParameter c
+    go (inl u) = inl (eqb→eq (choose table n-parameter c) 1 u)
+    go (inr u) =
+        let p = and_both (eqb (choose table n-parameter c) 0) (eqb (choose table n-identifier c) 0) u in
+        inr (goes n-parameter 0 c (eqb→eq (choose table n-parameter c) 0 p.0) refl, goes n-identifier 0 c (eqb→eq (choose table n-identifier c) 0 p.1) refl)
 
 -- A parameter is refused where its name is.
 pub parameter-passed : {x : Text} {st r : State} {F : Option Fault} {wrap wrap' : shape.Items → shape.Items} {I J : Info} {l l₁ l₀ l' : List ℕ} {s : Step} → Ready x st → Opened x st r F
@@ -144,7 +112,7 @@ parameter-passed {x} {st} {r} y o k (stuck {p = p} h g) = stuck h (λ τ. go τ 
     cls : get_or (classes x) st.at 0 ≡ st.class
     cls = sym y.stands.class_is
 
-    go : (τ : List Sym) → (choose table n-parameter st.class ≡ 1) ⊎ ((expand table n-parameter st.class ≡ none) × (expand table n-identifier st.class ≡ none)) → Stuck x (nt n-parameter ∷ τ) st.at p
+    go : (τ : List Sym) → MaybeParameter st.class → Stuck x (nt n-parameter ∷ τ) st.at p
     go τ (inl e) = enters parameter-rule y e o τ p (g (tok t.Colon ∷ nt n-type ∷ τ))
     go τ (inr e) =
         let here : Stuck x (nt n-identifier ∷ τ) st.at p = subst (λ i. Stuck x (nt n-identifier ∷ τ) i p) o.at_is (g τ) in
@@ -173,7 +141,7 @@ counted-one : (k l h c : ℕ) → k ≡ kind.Parameter → counted (kind.Paramet
 unfolding counted has
 counted-one k l h c e = ap (λ (k : ℕ). counted (kind.Parameter ∷ []) (child k l h c ∷ [])) e
 
-counted-word : (c : ℕ) → counted (kind.Parameter ∷ []) (word c ∷ []) ≡ 0
+pub counted-word : (c : ℕ) → counted (kind.Parameter ∷ []) (word c ∷ []) ≡ 0
 unfolding counted
 counted-word c = refl
 
@@ -196,7 +164,7 @@ many-again w number k l h c st here next q f n =
     (omega (arith, counted-append (kind.Parameter ∷ []) (w ++ (child k l h c ∷ [])) (word t.Comma ∷ []), counted-word t.Comma, many_more w k l h c q.0 f), omega (arith, q.1))
 
 -- Nothing, or what begins with a token of the class c.
-only-others : (c d : ℕ) → (d ≡ c → ⊥) → (w : List Sort) → Only c w → sees d w ≡ false
+pub only-others : (c d : ℕ) → (d ≡ c → ⊥) → (w : List Sort) → Only c w → sees d w ≡ false
 unfolding sees
 only-others c d n [] o = refl
 only-others c d n (word a ∷ w) o = ap₂ (λ (a b : Bool). a || b) (ne_eqb a d (λ e. n (sym e ∙ o.0))) (only-others c d n w o.1)
@@ -237,7 +205,10 @@ unfolding choose row look table
 at-function c (inl e) = ap (choose table n-function) e
 at-function c (inr e) = ap (choose table n-function) e
 
-pub function-or : (c : ℕ) → (choose table n-function c ≡ 1) ⊎ ((expand table n-function c ≡ none) × (Begins c → ⊥))
+abbrev MaybeFunction : ℕ → Type 0
+MaybeFunction c = (choose table n-function c ≡ 1) ⊎ ((expand table n-function c ≡ none) × (Begins c → ⊥))
+
+pub function-or : (c : ℕ) → MaybeFunction c
 unfolding choose row look table alt pick
 function-or c = go (eqb c t.Pub) refl (eqb c t.Fn) refl
   where
@@ -245,7 +216,7 @@ function-or c = go (eqb c t.Pub) refl (eqb c t.Fn) refl
     neither e f (inl h) = differ (sym e ∙ eq-eqb c t.Pub h)
     neither e f (inr h) = differ (sym f ∙ eq-eqb c t.Fn h)
 
-    go : (a : Bool) → eqb c t.Pub ≡ a → (b : Bool) → eqb c t.Fn ≡ b → (choose table n-function c ≡ 1) ⊎ ((expand table n-function c ≡ none) × (Begins c → ⊥))
+    go : (a : Bool) → eqb c t.Pub ≡ a → (b : Bool) → eqb c t.Fn ≡ b → MaybeFunction c
     go true e b f = inl (at-function c (inl (eqb→eq c 1 (rw e tt))))
     go false e true f = inl (at-function c (inr (eqb→eq c t.Fn (rw f tt))))
     go false e false f = inr (goes n-function 0 c (miss t.Pub 1 (on t.Fn 1 ∷ []) 0 (λ h. neither e f (inl h)) (miss t.Fn 1 [] 0 (λ h. neither e f (inr h)) refl)) refl, neither e f)
@@ -257,7 +228,7 @@ flatly (shape.node C) = false
 
 no_node : {C : ℕ} → ex means (nt n-function-optional-Pub) ≡ shape.child C → ⊥
 unfolding sort_of
-no_node e = differ (sym (ap flatly (sym flat-public ∙ ap sort_of e)))
+no_node e = differ (sym (ap flatly (sym public-optional.flat ∙ ap sort_of e)))
 
 abbrev or_nothing : Option (List Sym) → List Sym
 or_nothing none = []
@@ -265,7 +236,7 @@ or_nothing (some l) = l
 
 -- what stands for the optional `pub` where there is none
 empty-rhs : {c : ℕ} {rhs : List Sym} → (c ≡ t.Pub → ⊥) → expand table n-function-optional-Pub c ≡ some rhs → rhs ≡ []
-empty-rhs h e = ap or_nothing (sym e ∙ no-public h)
+empty-rhs {c} h e = ap or_nothing (sym e ∙ public-optional.elsewhere c h)
 
 four-read : (x : Text) {σ : List Sym} {at j : ℕ} {r : shape.Items} → Read x (tok t.Fn ∷ σ) at r j → Begins (get_or (classes x) at 0)
 four-read x (n-tok h e p) = inr e
@@ -301,7 +272,7 @@ function-enters {x} {st} {r} y o τ p h = go (function-or st.class)
     here : Stuck x (function_rhs ++ τ) st.at p
     here = subst (λ i. Stuck x (function_rhs ++ τ) i p) o.at_is h
 
-    go : (choose table n-function st.class ≡ 1) ⊎ ((expand table n-function st.class ≡ none) × (Begins st.class → ⊥)) → Stuck x (nt n-function ∷ τ) st.at p
+    go : MaybeFunction st.class → Stuck x (nt n-function ∷ τ) st.at p
     go (inl e) = enters function-rule y e o τ p h
     go (inr e) =
         subst (λ q. Stuck x (nt n-function ∷ τ) st.at q) (sym (begins-stuck x (λ b. e.1 (subst Begins cls b)) here)) (k_nt (ap (expand table n-function) cls ∙ e.0))
@@ -312,131 +283,31 @@ unfolding choose row look table alt pick
 no_block c h = goes n-block 0 c (miss t.LBrace 1 [] 0 h refl) refl
 
 -- What a function has of its own: nothing or `pub`, and nothing or an arrow with a type.
-pub record Optioned (x : Text) (K : ℕ) (N : ℕ → Type 0) (full left : List Sym) (st : State) (l : List ℕ) (w : List Sort) (ms : List Tok) (m c n a : ℕ) (st₂ : State) (l₂ : List ℕ) : Type 0 where
-  pub W : List Sort
-  pub more : List Tok
-  pub k : ℕ
+pub record OptionPieces (c n a : ℕ) (W : List Sort) : Type 0 where
   pub there : a ≡ cond (sees c W) n 0
   pub others : (d : ℕ) → (d ≡ c → ⊥) → sees d W ≡ false
   pub no_parameters : counted (kind.Parameter ∷ []) W ≡ 0
-  pub amid : Amid x K N full left st l (w ++ W) (ms ++ more) (m + k) st₂ l₂
 
 -- Its parameters: a of them.
-pub record Listed (x : Text) (K : ℕ) (N : ℕ → Type 0) (full left : List Sym) (st : State) (l : List ℕ) (w : List Sort) (ms : List Tok) (m a : ℕ) (st₂ : State) (l₂ : List ℕ) : Type 0 where
-  pub W : List Sort
-  pub more : List Tok
-  pub k : ℕ
+pub record ParameterPieces (a : ℕ) (W : List Sort) : Type 0 where
   pub commas : Only t.Comma W
   pub count_is : counted (kind.Parameter ∷ []) W ≡ a
-  pub amid : Amid x K N full left st l (w ++ W) (ms ++ more) (m + k) st₂ l₂
 
 module _ {x : Text} {K : ℕ} {N : ℕ → Type 0} {full left : List Sym} {st : State} {l : List ℕ} {w : List Sort} {ms : List Tok} {m : ℕ} {st₁ : State} {l₁ : List ℕ} {s : Sym} {st₂ : State} {l₂ : List ℕ} {a b : ℕ} {r : Step} where
-  pub then-optional : {c n : ℕ} → Amid x K N full (s ∷ left) st l w ms m st₁ l₁ → Parsed x (s ∷ []) as_items (Optional c n) st₁ l₁ l₂ r → r ≡ Next st₂ a b → Optioned x K N full left st l w ms m c n a st₂ l₂
+  pub then-optional : {c n : ℕ} → Amid x K N full (s ∷ left) st l w ms m st₁ l₁ → Parsed x (s ∷ []) as_items (Optional c n) st₁ l₁ l₂ r → r ≡ Next st₂ a b → Told x K N full left st l w ms m (OptionPieces c n a) st₂ l₂
   then-optional d p e =
       let q = went e p in
-      record {
-        W = sorts (raw x st₁.at q.items);
-        more = marks (raw x st₁.at q.items);
-        k = q.m;
-        there = q.info.there;
-        others = q.info.others;
-        no_parameters = q.info.no_parameters;
-        amid = then-went d q (λ n g. q.info.roles K n);
-      }
+      then-told d q (λ n g. q.info.roles K n) (record { there = q.info.there; others = q.info.others; no_parameters = q.info.no_parameters })
 
-  pub then-parameters : Amid x K N full (s ∷ left) st l w ms m st₁ l₁ → Parsed x (s ∷ []) as_items Parameters st₁ l₁ l₂ r → r ≡ Next st₂ a b → Listed x K N full left st l w ms m a st₂ l₂
+  pub then-parameters : Amid x K N full (s ∷ left) st l w ms m st₁ l₁ → Parsed x (s ∷ []) as_items Parameters st₁ l₁ l₂ r → r ≡ Next st₂ a b → Told x K N full left st l w ms m (ParameterPieces a) st₂ l₂
   then-parameters d p e =
       let q = went e p in
-      record {
-        W = sorts (raw x st₁.at q.items);
-        more = marks (raw x st₁.at q.items);
-        k = q.m;
-        commas = q.info.commas;
-        count_is = q.info.count_is;
-        amid = then-went d q (λ n g. arranged-only K n t.Comma (comma-mark K) (raw x st₁.at q.items) q.info.commas ∙ sym q.info.same);
-      }
+      then-told d q (λ n g. arranged-only K n t.Comma (comma-mark K) (raw x st₁.at q.items) q.info.commas ∙ sym q.info.same) (record { commas = q.info.commas; count_is = q.info.count_is })
 
--- A function's name is an identifier, and neither `pub` nor an arrow.
+-- A function's name is an identifier.
 pub name-identifier : (c : ℕ) → has t.function_names c ≡ true → has t.identifiers c ≡ true
 unfolding name_sort
 name-identifier c e = sort-identifier c (λ z. two (sym (ap (λ (b : Bool). cond b choice.FunctionName (cond (has t.identifiers c) choice.ReservedName 0)) e) ∙ z))
   where
     two : ◌≡◌ {A = ℕ} choice.FunctionName 0 → ⊥
     two z = omega arith
-
-name-no-pub : (c : ℕ) → has t.function_names c ≡ true → c ≡ t.Pub → ⊥
-unfolding has
-name-no-pub c e q = differ (sym (ap (has t.function_names) q) ∙ e)
-
-name-no-arrow : (c : ℕ) → has t.function_names c ≡ true → c ≡ t.Arrow → ⊥
-unfolding has
-name-no-arrow c e q = differ (sym (ap (has t.function_names) q) ∙ e)
-
--- What is seen in one piece.
-sees-word : (c d : ℕ) → (d ≡ c → ⊥) → sees c (word d ∷ []) ≡ false
-unfolding sees
-sees-word c d h = ap (λ (b : Bool). b || false) (ne_eqb d c h)
-
-sees_child : (c k l h d : ℕ) → sees c (child k l h d ∷ []) ≡ false
-unfolding sees
-sees_child c k l h d = refl
-
-counted_none : (k l h c : ℕ) → ExprKind k → counted (kind.Parameter ∷ []) (child k l h c ∷ []) ≡ 0
-unfolding counted has
-counted_none k l h c e = ap (λ (b : Bool). cond (b || false) 1 0 + 0) (ne_eqb kind.Parameter k (λ q. omega (arith, e.0)))
-
-uncounted : (w v : List Sort) {n : ℕ} → counted (kind.Parameter ∷ []) w ≡ n → counted (kind.Parameter ∷ []) v ≡ 0 → counted (kind.Parameter ∷ []) (w ++ v) ≡ n
-uncounted w v e f = omega (arith, counted-append (kind.Parameter ∷ []) w v)
-
--- The head of a function, of what it is made of: nothing or `pub`, `fn`, its name, its parameters in parentheses, nothing or its type, its block.
-module _ (W₁ W₃ W₄ : List Sort) (c k l h d : ℕ) {low more number : ℕ} (name : has t.function_names c ≡ true) (there₁ : low ≡ cond (sees t.Pub W₁) 1 0) (others₁ : (d : ℕ) → (d ≡ t.Pub → ⊥) → sees d W₁ ≡ false)
-    (none₁ : counted (kind.Parameter ∷ []) W₁ ≡ 0) (commas : Only t.Comma W₃) (count : counted (kind.Parameter ∷ []) W₃ ≡ number) (there₄ : more ≡ cond (sees t.Arrow W₄) 2 0)
-    (others₄ : (d : ℕ) → (d ≡ t.Arrow → ⊥) → sees d W₄ ≡ false) (none₄ : counted (kind.Parameter ∷ []) W₄ ≡ 0) (body : ExprKind k) where
-  abbrev w₄ : List Sort
-  w₄ = ((W₁ ++ (word t.Fn ∷ [])) ++ (word c ∷ [])) ++ (word t.LParen ∷ [])
-
-  abbrev w₆ : List Sort
-  w₆ = (w₄ ++ W₃) ++ (word t.RParen ∷ [])
-
-  abbrev w₈ : List Sort
-  w₈ = (w₆ ++ W₄) ++ (child k l h d ∷ [])
-
-  before-arrow : (a : ℕ) {b : Bool} → sees a W₁ ≡ b → (t.Fn ≡ a → ⊥) → (c ≡ a → ⊥) → (t.LParen ≡ a → ⊥) → (a ≡ t.Comma → ⊥) → (t.RParen ≡ a → ⊥) → sees a w₆ ≡ b
-  before-arrow a e n₁ n₂ n₃ n₄ n₅ =
-      unseen-append a (w₄ ++ W₃) (word t.RParen ∷ []) (unseen-append a w₄ W₃ (unseen-append a ((W₁ ++ (word t.Fn ∷ [])) ++ (word c ∷ [])) (word t.LParen ∷ []) (unseen-append a (W₁ ++ (word t.Fn ∷ [])) (word c ∷ []) (unseen-append a W₁ (word t.Fn ∷ []) e (sees-word a t.Fn n₁)) (sees-word a c n₂)) (sees-word a t.LParen n₃))
-      (only-others t.Comma a n₄ W₃ commas)) (sees-word a t.RParen n₅)
-
-  sees-pub : sees t.Pub w₈ ≡ sees t.Pub W₁
-  sees-pub =
-      unseen-append t.Pub (w₆ ++ W₄) (child k l h d ∷ []) (unseen-append t.Pub w₆ W₄ (before-arrow t.Pub refl (λ e. omega arith) (name-no-pub c name) (λ e. omega arith) (λ e. omega arith) (λ e. omega arith)) (others₄ t.Pub (λ e. omega arith)))
-      (sees_child t.Pub k l h d)
-
-  sees-arrow : sees t.Arrow w₈ ≡ sees t.Arrow W₄
-  sees-arrow =
-      unseen-append t.Arrow (w₆ ++ W₄) (child k l h d ∷ [])
-      (sees-append t.Arrow w₆ W₄
-      ∙ ap (λ (b : Bool). b || sees t.Arrow W₄) (before-arrow t.Arrow (others₁ t.Arrow (λ e. omega arith)) (λ e. omega arith) (name-no-arrow c name) (λ e. omega arith) (λ e. omega arith) (λ e. omega arith)))
-      (sees_child t.Arrow k l h d)
-
-  counts : counted (kind.Parameter ∷ []) w₈ ≡ number
-  counts =
-      let a = uncounted ((W₁ ++ (word t.Fn ∷ [])) ++ (word c ∷ [])) (word t.LParen ∷ []) (uncounted (W₁ ++ (word t.Fn ∷ [])) (word c ∷ []) (uncounted W₁ (word t.Fn ∷ []) none₁ (counted-word t.Fn)) (counted-word c)) (counted-word t.LParen) in
-      let b : counted (kind.Parameter ∷ []) (w₄ ++ W₃) ≡ number = omega (arith, counted-append (kind.Parameter ∷ []) w₄ W₃, a, count) in
-      uncounted (w₆ ++ W₄) (child k l h d ∷ []) (uncounted w₆ W₄ (uncounted (w₄ ++ W₃) (word t.RParen ∷ []) b (counted-word t.RParen)) none₄) (counted_none k l h d body)
-
-  pub function-head : (x : Text) (ms : List Tok) → decided x FunctionShape w₈ ms ≡ head kind.Function (low + more) number
-  unfolding head_of form_of function_head
-  function-head x ms =
-      (λ i. head kind.Function (cond (sees-pub i) 1 0 + cond (sees-arrow i) 2 0) (counts i)) ∙ ap₂ (λ (a b : ℕ). head kind.Function (a + b) number) (sym there₁) (sym there₄)
-
--- Its low is small.
-pub low_fits : (v w : List Sort) {low more : ℕ} → low ≡ cond (sees t.Pub v) 1 0 → more ≡ cond (sees t.Arrow w) 2 0 → low + more < u32_count
-low_fits v w {low} {more} e f = omega (arith, most (sees t.Pub v) 1, most (sees t.Arrow w) 2)
-  where
-    most : (b : Bool) (n : ℕ) → cond b n 0 ≤ n
-    most true n = omega arith
-    most false n = omega arith
-
--- A token of its own.
-pub owns : (a b : ℕ) → 1 ≤ (a + 1) + b
-owns a b = omega arith

@@ -1,6 +1,6 @@
 -- Types: their rules in grammar's table, and the heads of their records.
 -- Assumes nothing.
-use Rattle.std.proofs.Common.{◌≡◌, ℕ, zero, suc, ◌-◌, ◌^◌, ◌<◌, ◌≤◌, Bool, true, false, cond, not, ◌&&◌, ◌||◌, T, eqb, ltb, leb, List, [], ◌∷◌, length, take, drop, sym, refl, ap, ◌∙◌, ap₂, arith, eqb→eq, ltb→lt, ne_eqb}
+use Rattle.std.proofs.Common.{◌≡◌, ℕ, ◌-◌, ◌^◌, ◌<◌, ◌≤◌, Bool, true, false, cond, not, ◌&&◌, ◌||◌, T, eqb, leb, List, [], ◌∷◌, length, take, drop, sym, refl, ap, ◌∙◌, ap₂, arith, ne_eqb}
 use mathlib.Core.Option.{none, some}
 use Rattle.text.specs.Part.{part_of}
 use Rattle.text.specs.Refusals.{refusal_number}
@@ -29,13 +29,13 @@ use Rattle.grammar.specs.Shapes.TablesIndex.{n-either_type-optional-LAngle, n-li
 use Rattle.parse.specs.declared.State.{State}
 use Rattle.parse.specs.Contract.{Text, fault, fault_at, bound_fault, length_fault}
 use Rattle.parse.specs.Choice as choice
-use Rattle.parse.proofs.choice.Chosen.{where-chosen, alone, is-alone, hit, miss, goes}
+use Rattle.parse.proofs.choice.Chosen.{Unpicked, no-alternative, only-class, alone-there, pos-there, Optionally, optionally, forked}
 use Rattle.parse.proofs.Rule.Marks.{keeping, keeping-mark, keeps-between}
 use Rattle.parse.proofs.Rule.Amid.{Amid}
 use Rattle.parse.proofs.Rule.Steps.{number_in, decided}
 use Rattle.parse.proofs.Rule.Closing.{Rule}
 use Rattle.parse.proofs.Rule.Heads.{unless-is}
-use Rattle.parse.proofs.Rule.Commas.{Rows}
+use Rattle.parse.proofs.Rule.Commas.{Rows, rows-to-paren}
 
 -- The rules of types.
 abbrev pub either_rhs : List Sym
@@ -84,96 +84,54 @@ array-rule = record { category = refl; from_one = refl; kind = refl; rule = refl
 module _ (c : ℕ) where
   pub at-either : choose table n-type c ≡ choice.EitherType → c ≡ t.Either
   unfolding choose row table look
-  at-either e = eqb→eq c t.Either (where-chosen n-type choice.EitherType (λ a. eqb a t.Either) tt tt c e)
+  at-either e = only-class n-type choice.EitherType t.Either tt tt c e
 
   pub at_option : choose table n-type c ≡ choice.OptionType → c ≡ t.Option
   unfolding choose row table look
-  at_option e = eqb→eq c t.Option (where-chosen n-type choice.OptionType (λ a. eqb a t.Option) tt tt c e)
+  at_option e = only-class n-type choice.OptionType t.Option tt tt c e
 
   pub at-list : choose table n-type c ≡ choice.ListType → c ≡ t.List
   unfolding choose row table look
-  at-list e = eqb→eq c t.List (where-chosen n-type choice.ListType (λ a. eqb a t.List) tt tt c e)
+  at-list e = only-class n-type choice.ListType t.List tt tt c e
 
   pub at_named : choose table n-type c ≡ choice.NamedType → expand table n-named_type c ≡ some (tok c ∷ [])
   unfolding choose row table look alt pick
-  at_named e = is-alone (expand table n-named_type c) c (where-chosen n-type choice.NamedType (λ a. alone (expand table n-named_type a) a) tt tt c e)
+  at_named e = alone-there n-type n-named_type choice.NamedType tt tt c e
 
   pub at-tuple : choose table n-type c ≡ choice.TupleType → c ≡ t.LParen
   unfolding choose row table look
-  at-tuple e = eqb→eq c t.LParen (where-chosen n-type choice.TupleType (λ a. eqb a t.LParen) tt tt c e)
+  at-tuple e = only-class n-type choice.TupleType t.LParen tt tt c e
 
   pub at-array : choose table n-type c ≡ choice.ArrayType → c ≡ t.LBracket
   unfolding choose row table look
-  at-array e = eqb→eq c t.LBracket (where-chosen n-type choice.ArrayType (λ a. eqb a t.LBracket) tt tt c e)
+  at-array e = only-class n-type choice.ArrayType t.LBracket tt tt c e
 
 pub flat-named : sort_of (ex means (nt n-named_type)) ≡ shape.flat
 unfolding sort_of ex means has
 flat-named = refl
 
 -- No type begins with another class.
-pub no-type : (c i : ℕ) → i ≡ choose table n-type c → ((((((Unit {0} × (i ≡ choice.EitherType → ⊥)) × (i ≡ choice.OptionType → ⊥)) × (i ≡ choice.ListType → ⊥)) × (i ≡ choice.NamedType → ⊥)) × (i ≡ choice.TupleType → ⊥)) × (i ≡ choice.ArrayType → ⊥)) → expand table n-type c ≡ none
-unfolding row table alt pick
-no-type c i e h = ap (alt table n-type) (sym e) ∙ go i h
-  where
-    go : (i : ℕ) → ((((((Unit {0} × (i ≡ choice.EitherType → ⊥)) × (i ≡ choice.OptionType → ⊥)) × (i ≡ choice.ListType → ⊥)) × (i ≡ choice.NamedType → ⊥)) × (i ≡ choice.TupleType → ⊥)) × (i ≡ choice.ArrayType → ⊥)) → alt table n-type i ≡ none
-    go zero h = refl
-    go (suc zero) h = absurd (h.0.0.0.0.0.1 refl)
-    go (suc (suc zero)) h = absurd (h.0.0.0.0.1 refl)
-    go (suc (suc (suc zero))) h = absurd (h.0.0.0.1 refl)
-    go (suc (suc (suc (suc zero)))) h = absurd (h.0.0.1 refl)
-    go (suc (suc (suc (suc (suc zero))))) h = absurd (h.0.1 refl)
-    go (suc (suc (suc (suc (suc (suc zero)))))) h = absurd (h.1 refl)
-    go (suc (suc (suc (suc (suc (suc (suc i))))))) h = refl
+pub no-type : (c i : ℕ) → i ≡ choose table n-type c → Unpicked 6 i → expand table n-type c ≡ none
+unfolding row table
+no-type = no-alternative n-type
 
 -- What may follow `Either`, `Option` and `List`.
-module _ {a : ℕ} where
-  pub either-alone : (a ≡ t.LAngle → ⊥) → expand table n-either_type-optional-LAngle a ≡ some []
-  unfolding choose row table look alt pick
-  either-alone h = goes n-either_type-optional-LAngle 1 a (miss t.LAngle 2 [] 1 h refl) refl
+pub either-optional : Optionally n-either_type-optional-LAngle t.LAngle (tok t.LAngle ∷ nt n-type ∷ tok t.Comma ∷ nt n-type ∷ tok t.RAngle ∷ [])
+unfolding sort_of ex means choose row look table alt pick
+either-optional = optionally refl (λ c. refl) refl refl
 
-  pub either-angle : a ≡ t.LAngle → expand table n-either_type-optional-LAngle a ≡ some (tok t.LAngle ∷ nt n-type ∷ tok t.Comma ∷ nt n-type ∷ tok t.RAngle ∷ [])
-  unfolding choose row table look alt pick
-  either-angle h = goes n-either_type-optional-LAngle 2 a (hit t.LAngle 2 [] 1 h) refl
+pub option-optional : Optionally n-option_type-optional-LAngle t.LAngle (tok t.LAngle ∷ nt n-type ∷ tok t.RAngle ∷ [])
+unfolding sort_of ex means choose row look table alt pick
+option-optional = optionally refl (λ c. refl) refl refl
 
-  pub option-alone : (a ≡ t.LAngle → ⊥) → expand table n-option_type-optional-LAngle a ≡ some []
-  unfolding choose row table look alt pick
-  option-alone h = goes n-option_type-optional-LAngle 1 a (miss t.LAngle 2 [] 1 h refl) refl
-
-  pub option-angle : a ≡ t.LAngle → expand table n-option_type-optional-LAngle a ≡ some (tok t.LAngle ∷ nt n-type ∷ tok t.RAngle ∷ [])
-  unfolding choose row table look alt pick
-  option-angle h = goes n-option_type-optional-LAngle 2 a (hit t.LAngle 2 [] 1 h) refl
-
-  pub list-alone : (a ≡ t.LAngle → ⊥) → expand table n-list_type-optional-LAngle a ≡ some []
-  unfolding choose row table look alt pick
-  list-alone h = goes n-list_type-optional-LAngle 1 a (miss t.LAngle 2 [] 1 h refl) refl
-
-  pub list-angle : a ≡ t.LAngle → expand table n-list_type-optional-LAngle a ≡ some (tok t.LAngle ∷ nt n-type ∷ tok t.Comma ∷ tok t.DecLiteral ∷ tok t.RAngle ∷ [])
-  unfolding choose row table look alt pick
-  list-angle h = goes n-list_type-optional-LAngle 2 a (hit t.LAngle 2 [] 1 h) refl
-
-pub flat-either : sort_of (ex means (nt n-either_type-optional-LAngle)) ≡ shape.flat
-unfolding sort_of ex means
-flat-either = refl
-
-pub flat-option : sort_of (ex means (nt n-option_type-optional-LAngle)) ≡ shape.flat
-unfolding sort_of ex means
-flat-option = refl
-
-pub flat_list : sort_of (ex means (nt n-list_type-optional-LAngle)) ≡ shape.flat
-unfolding sort_of ex means
-flat_list = refl
+pub list-optional : Optionally n-list_type-optional-LAngle t.LAngle (tok t.LAngle ∷ nt n-type ∷ tok t.Comma ∷ tok t.DecLiteral ∷ tok t.RAngle ∷ [])
+unfolding sort_of ex means choose row look table alt pick
+list-optional = optionally refl (λ c. refl) refl refl
 
 -- The rows of lists of types and of patterns.
 pub type-rows : Rows n-list-type n-tail-type n-type (λ c. c ≡ t.RParen)
-unfolding sort_of ex means choose row table look alt pick
-type-rows = record {
-  flat_list = refl;
-  flat_tail = refl;
-  ends = λ c h. goes n-list-type 1 c (hit t.RParen 1 [] 2 h) refl;
-  more = λ c h. goes n-list-type 2 c (miss t.RParen 1 [] 2 h refl) refl;
-  stops = λ c h. goes n-tail-type 1 c (miss t.Comma 2 [] 1 h refl) refl;
-  goes = λ c h. goes n-tail-type 2 c (hit t.Comma 2 [] 1 h) refl;
-}
+unfolding sort_of ex means choose row look table alt pick
+type-rows = rows-to-paren (forked refl (λ c. refl) refl refl) (optionally refl (λ c. refl) refl refl)
 
 -- The heads of types.
 module _ {x : Text} {K : ℕ} {N : ℕ → Type 0} {full left : List Sym} {st : State} {l : List ℕ} {ms : List Tok} {m : ℕ} {st₁ : State} {l₁ : List ℕ} where
@@ -253,7 +211,7 @@ module _ (draft : List ℕ) where
 module _ (c : ℕ) where
   pub named-pos : choose table n-type c ≡ choice.NamedType → 0 < c
   unfolding choose row table look
-  named-pos e = ltb→lt 0 c (where-chosen n-type choice.NamedType (λ a. ltb 0 a) tt tt c e)
+  named-pos e = pos-there n-type choice.NamedType tt tt c e
 
 type-kind : (c : ℕ) → (kind.Alias ≤ (type_name_head c).kind) × ((type_name_head c).kind ≤ kind.Unsigned)
 unfolding type_name_head

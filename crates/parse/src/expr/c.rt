@@ -142,8 +142,8 @@ pub(crate) fn named(source: &Source, tree: &mut [u32], st: State) -> Step
 }
 
 // A call of a name, from its arguments on; a wrapper where it is one expression and no comma. The record begins at `st`, the name, and reading goes on
-// at `a`. Two states go together here and in the functions below. A struct of both and the source could say what is required of them in a ghost field, but
-// each call would make one and each function take it apart, as lib.rt says of a cursor.
+// at `a`. Two states go together here, in the functions below and in `heads::enum_path`. A struct of both and the source could say what is required of them
+// in a ghost field, but each call would make one and each function take it apart, as lib.rt says of a cursor.
 #[cycle(expression)]
 #[inline(never)]
 fn called(source: &Source, tree: &mut [u32], st: State, a: State) -> Step

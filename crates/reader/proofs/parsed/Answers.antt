@@ -9,21 +9,18 @@ use Rattle.reader.specs.Read.{meant}
 use Rattle.reader.proofs.Laws as law
 use Rattle.reader.proofs.parsed.Goals as goal
 
-pub returns-clause-answer : goal.returns-clause-answer
-returns-clause-answer c =
-    c.in_ok-records.ensures.answer
-    ∙ law.parsed-answer (entry_of c.args.what) c.args.lexed.now.draft.now c.args.lexed.now.words.now c.args.lexed.now.count (length c.args.tree.now) c.args.lexed.now.counted c.args.lexed.now.held
-
-pub returns-clause-tree : goal.returns-clause-tree
-returns-clause-tree c = record {
-  holds = λ n m e.
-      c.way_up.ensures
-      ∙ law.parsed-raised (entry_of c.args.what) c.args.lexed.now.draft.now c.args.lexed.now.words.now c.args.lexed.now.count (length c.args.tree.now) c.args.lexed.now.counted c.args.lexed.now.held
-      c.args.tree.now (sym (returns-clause-answer c)) (c.in_ok-records.ensures.held.holds _ _ refl);
-}
+pub returns : goal.returns
+returns c =
+    let en = entry_of c.args.what in
+    let x = c.args.lexed.now in
+    let room = length c.args.tree.now in
+    let its = c.in_ok-records.ensures.answer ∙ law.parsed-answer en x room in
+    record {
+      answer = its;
+      tree = record { holds = λ n m e. c.way_up.ensures ∙ law.parsed-raised en x room c.args.tree.now (sym its) (c.in_ok-records.ensures.held.holds _ _ refl) };
+    }
 
 pub returns-in_err-records-clause-answer : goal.returns-in_err-records-clause-answer
 returns-in_err-records-clause-answer c =
     let p = err_from_is_err_and c.from_residual.result c.from_residual.ensures.1 in
-    ap meant p.1 ∙ ap refused_by p.2 ∙ c.in_err-records.ensures.answer
-    ∙ law.parsed-answer (entry_of c.args.what) c.args.lexed.now.draft.now c.args.lexed.now.words.now c.args.lexed.now.count (length c.args.tree.now) c.args.lexed.now.counted c.args.lexed.now.held
+    ap meant p.1 ∙ ap refused_by p.2 ∙ c.in_err-records.ensures.answer ∙ law.parsed-answer (entry_of c.args.what) c.args.lexed.now (length c.args.tree.now)

@@ -2,7 +2,7 @@
 -- Assumes nothing.
 use Rattle.std.proofs.Common.{sym, ◌∙◌, ap, arith}
 use Rattle.lexer.specs.Limits.{judged_in}
-use Rattle.lexer.proofs.Filling.{fill_start, leads-to, fill-trivia, fill-token, fill-over, fill-refused, fill-answer, fill-held}
+use Rattle.lexer.proofs.Filling.{fill_start, leads-to, nearer-token, nearer-trivia, fill-trivia, fill-token, fill-over, fill-refused, fill-answer, fill-held}
 use Rattle.lexer.proofs.limits.fill.Goals as goal
 
 pub loop-kind-init : goal.loop-kind-init
@@ -14,9 +14,7 @@ overflow_cast-end c =
     omega (arith, m.1, c.requires.0)
 
 pub loop-kind-smaller-in-Token : goal.loop-kind-smaller-in-Token
-loop-kind-smaller-in-Token c =
-    let m = leads-to _ _ _ (sym c.step_with-found.ensures ∙ c.in-Token.is) in
-    omega arith
+loop-kind-smaller-in-Token c = nearer-token _ _ _ _ (sym c.step_with-found.ensures ∙ c.in-Token.is)
 
 pub loop-kind-preserved-in-Token : goal.loop-kind-preserved-in-Token
 loop-kind-preserved-in-Token c =
@@ -25,9 +23,7 @@ loop-kind-preserved-in-Token c =
     (fill-token l.invariant _ _ (sym c.step_with-found.ensures ∙ c.in-Token.is) c.requires.1 (omega (arith, l.invariant.fits, c.if-n-room.false)))
 
 pub loop-kind-smaller : goal.loop-kind-smaller
-loop-kind-smaller c =
-    let m = leads-to _ _ _ (sym c.step_with-found.ensures ∙ c.in-Trivia.is) in
-    omega arith
+loop-kind-smaller c = nearer-trivia _ _ _ (sym c.step_with-found.ensures ∙ c.in-Trivia.is)
 
 pub loop-kind-preserved : goal.loop-kind-preserved
 loop-kind-preserved c = fill-trivia c.loop-kind.invariant _ (sym c.step_with-found.ensures ∙ c.in-Trivia.is)

@@ -1,10 +1,9 @@
 -- The first name, and as long as `::` stands there one more: each is a record.
 -- Assumes nothing.
-use Rattle.std.proofs.Common.{arith}
 use Rattle.parse.specs.Contract.{read}
 use Rattle.parse.proofs.Rule.Refused.{refusal}
 use Rattle.parse.proofs.names.Steps.{ready-near}
-use Rattle.parse.proofs.names.Joined.{joined-starts, joined-less, joined-within, joined-again, names-passed, first-ready, next-ready, next-passed, names-went}
+use Rattle.parse.proofs.names.Joined.{joined-starts, joined-fewer, joined-again, names-passed, first-ready, next-ready, next-passed, names-went}
 use Rattle.parse.proofs.names.names.Goals as goal
 
 pub returns-in_default : goal.returns-in_default
@@ -20,13 +19,7 @@ pub returns-in_default-next : goal.returns-in_default-next
 returns-in_default-next c = next-passed c.requires c.name-first.ensures c.in-Next.is c.loop-here.invariant c.loop-here-test.true c.advance-b.ensures (refusal c.in_default-next.is) c.name-next.ensures
 
 pub loop-here-smaller : goal.loop-here-smaller
-loop-here-smaller c =
-    let v = c.loop-here.invariant in
-    let t = c.loop-here-test.true in
-    let a = c.advance-b.ensures in
-    let p = c.name-next.ensures in
-    let e = c.in-Next-next.is in
-    omega (arith, joined-less v t a p e, joined-within v t a p e)
+loop-here-smaller c = joined-fewer c.loop-here.invariant c.loop-here-test.true c.advance-b.ensures c.name-next.ensures c.in-Next-next.is
 
 pub loop-here-preserved : goal.loop-here-preserved
 loop-here-preserved c = joined-again c.loop-here.invariant c.loop-here-test.true c.advance-b.ensures c.name-next.ensures c.in-Next-next.is

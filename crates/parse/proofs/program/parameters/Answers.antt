@@ -1,5 +1,5 @@
 -- Assumes nothing.
-use Rattle.std.proofs.Common.{◌+◌, ◌∷◌, [], ap, arith, ◌∙◌}
+use Rattle.std.proofs.Common.{[], ◌∷◌, ap, ◌∙◌}
 use Rattle.kinds.specs.Fields.{counted}
 use Rattle.own.specs.Kinds as kind
 use Rattle.parse.specs.Contract.{read}
@@ -16,29 +16,21 @@ returns-in_default c = lined.lined-passed form.parameter-rows c.requires c.loop-
 
 pub returns-then-a-ne-COMMA : goal.returns-then-a-ne-COMMA
 returns-then-a-ne-COMMA c =
-    let y = c.requires in
     let v = c.loop-here.invariant in
-    let it = lined.item form.parameter-rows y v c.loop-here-test.true c.parameter-inner.ensures c.in-Next.is in
-    read (lined.lined-last form.parameter-rows y v c.loop-here-test.true c.parameter-inner.ensures c.in-Next.is c.if-a-ne-COMMA.true
+    let it = lined.item form.parameter-rows c.requires c.loop-here.invariant c.loop-here-test.true c.parameter-inner.ensures c.in-Next.is in
+    read (lined.lined-last form.parameter-rows c.requires c.loop-here.invariant c.loop-here-test.true c.parameter-inner.ensures c.in-Next.is c.if-a-ne-COMMA.true
     (λ J K m a b e. record { same = a; commas = b; count_is = ap (counted (kind.Parameter ∷ [])) e ∙ form.many_more v.w it.kind it.low it.high it.first v.so.0 it.its_kind }))
 
 pub loop-here-smaller : goal.loop-here-smaller
 loop-here-smaller c =
-    let y = c.requires in
-    let v = c.loop-here.invariant in
-    let it = lined.item form.parameter-rows y v c.loop-here-test.true c.parameter-inner.ensures c.in-Next.is in
-    let less = lined.again-less form.parameter-rows y v c.loop-here-test.true c.parameter-inner.ensures c.in-Next.is c.if-a-ne-COMMA.false c.advance-here.ensures in
-    let next = lined.lined-again form.parameter-rows y v c.loop-here-test.true c.parameter-inner.ensures c.in-Next.is {Q' = form.Many (c.loop-here.number + 1) c.args.st c.advance-here.result} c.if-a-ne-COMMA.false c.advance-here.ensures
-    (form.many-again v.w c.loop-here.number it.kind it.low it.high it.first c.args.st c.loop-here.here c.advance-here.result v.so it.its_kind less) in
-    omega (arith, less, next.amid.lays.stands.within)
+    lined.again-fewer form.parameter-rows c.requires c.loop-here.invariant c.loop-here-test.true c.parameter-inner.ensures c.in-Next.is c.if-a-ne-COMMA.false c.advance-here.ensures
 
 pub loop-here-preserved : goal.loop-here-preserved
 loop-here-preserved c =
-    let y = c.requires in
     let v = c.loop-here.invariant in
-    let it = lined.item form.parameter-rows y v c.loop-here-test.true c.parameter-inner.ensures c.in-Next.is in
-    let less = lined.again-less form.parameter-rows y v c.loop-here-test.true c.parameter-inner.ensures c.in-Next.is c.if-a-ne-COMMA.false c.advance-here.ensures in
-    lined.lined-again form.parameter-rows y v c.loop-here-test.true c.parameter-inner.ensures c.in-Next.is c.if-a-ne-COMMA.false c.advance-here.ensures
+    let it = lined.item form.parameter-rows c.requires c.loop-here.invariant c.loop-here-test.true c.parameter-inner.ensures c.in-Next.is in
+    let less = lined.again-less form.parameter-rows c.requires c.loop-here.invariant c.loop-here-test.true c.parameter-inner.ensures c.in-Next.is c.if-a-ne-COMMA.false c.advance-here.ensures in
+    lined.lined-again form.parameter-rows c.requires c.loop-here.invariant c.loop-here-test.true c.parameter-inner.ensures c.in-Next.is c.if-a-ne-COMMA.false c.advance-here.ensures
     (form.many-again v.w c.loop-here.number it.kind it.low it.high it.first c.args.st c.loop-here.here c.advance-here.result v.so it.its_kind less)
 
 pub returns : goal.returns

@@ -1,51 +1,30 @@
 -- Assumes nothing.
-use Rattle.std.proofs.Common.{[], ◌∷◌, sym, ap, ◌∙◌, arith}
+use Rattle.std.proofs.Common.{[], ◌∷◌}
 use Rattle.lexer.specs.Classes as class
-use Rattle.theory.specs.Grammar.{tok, nt}
-use Rattle.theory.specs.Machine.{expand}
-use Rattle.grammar.specs.Shapes.Tables.{table}
-use Rattle.grammar.specs.Shapes.TablesIndex.{n-function-optional-Arrow, n-type}
+use Rattle.theory.specs.Grammar.{nt}
+use Rattle.grammar.specs.Shapes.TablesIndex.{n-function-optional-Arrow}
 use Rattle.parse.specs.Contract.{read}
 use Rattle.parse.specs.Infos.{typed}
-use Rattle.parse.proofs.Rule.Amid.{starts, then_turns, then-passed}
-use Rattle.parse.proofs.Rule.Chain.{onward, advances, then-node}
+use Rattle.parse.proofs.Rule.Amid.{starts}
+use Rattle.parse.proofs.Rule.Chain.{onward, turns, then-node}
 use Rattle.parse.proofs.Rule.Commas.{AnyN}
-use Rattle.parse.proofs.Rule.Marks.{sign-mark}
+use Rattle.parse.proofs.Rule.Entered.{part-passed}
 use Rattle.parse.proofs.program.Forms as form
-use Rattle.parse.proofs.Rule.Refused.{refusal}
+use Rattle.parse.proofs.program.Steps as step
 use Rattle.parse.proofs.program.result.Goals as goal
 
 pub returns-then-st-ne-ARROW : goal.returns-then-st-ne-ARROW
 returns-then-st-ne-ARROW c =
-    let y = c.requires in
-    let cls = sym y.stands.class_is in
-    let d0 = starts 0 AnyN (nt n-function-optional-Arrow ∷ []) c.args.tree.now y.stands in
-    read (form.nothing-went class.Arrow typed tt (then_turns [] d0 form.flat-arrow (ap (expand table n-function-optional-Arrow) cls ∙ form.no-arrow c.if-st-ne-ARROW.true)))
+    let d = starts 0 AnyN (nt n-function-optional-Arrow ∷ []) c.args.tree.now c.requires.stands in
+    read (form.nothing-went class.Arrow typed tt (turns [] d form.arrow-optional.flat (form.arrow-optional.elsewhere c.args.st.class c.if-st-ne-ARROW.true)))
 
 pub ty-inner-requires : goal.ty-inner-requires
-ty-inner-requires c =
-    let y = c.requires in
-    let cls = sym y.stands.class_is in
-    let d0 = starts 0 AnyN (nt n-function-optional-Arrow ∷ []) c.args.tree.now y.stands in
-    let d1 = then_turns (tok class.Arrow ∷ nt n-type ∷ []) d0 form.flat-arrow (ap (expand table n-function-optional-Arrow) cls ∙ form.is-arrow c.if-st-ne-ARROW.false) in
-    let d2 = advances d1 c.if-st-ne-ARROW.false (omega arith) c.advance-a.ensures (sign-mark 0 class.Arrow tt) in
-    onward y d2
+ty-inner-requires c = onward c.requires (step.arrow₁ c.args.tree.now c.requires c.if-st-ne-ARROW.false c.advance-a.ensures)
 
 pub returns-in_default : goal.returns-in_default
-returns-in_default c =
-    let y = c.requires in
-    let cls = sym y.stands.class_is in
-    let d0 = starts 0 AnyN (nt n-function-optional-Arrow ∷ []) c.args.tree.now y.stands in
-    let d1 = then_turns (tok class.Arrow ∷ nt n-type ∷ []) d0 form.flat-arrow (ap (expand table n-function-optional-Arrow) cls ∙ form.is-arrow c.if-st-ne-ARROW.false) in
-    let d2 = advances d1 c.if-st-ne-ARROW.false (omega arith) c.advance-a.ensures (sign-mark 0 class.Arrow tt) in
-    then-passed d2 (refusal c.in_default.is) (λ τ p h. h) c.ty-inner.ensures
+returns-in_default c = part-passed (step.arrow₁ c.args.tree.now c.requires c.if-st-ne-ARROW.false c.advance-a.ensures) c.in_default.is c.ty-inner.ensures
 
 pub returns : goal.returns
 returns c =
-    let y = c.requires in
-    let cls = sym y.stands.class_is in
-    let d0 = starts 0 AnyN (nt n-function-optional-Arrow ∷ []) c.args.tree.now y.stands in
-    let d1 = then_turns (tok class.Arrow ∷ nt n-type ∷ []) d0 form.flat-arrow (ap (expand table n-function-optional-Arrow) cls ∙ form.is-arrow c.if-st-ne-ARROW.false) in
-    let d2 = advances d1 c.if-st-ne-ARROW.false (omega arith) c.advance-a.ensures (sign-mark 0 class.Arrow tt) in
-    let d3 = then-node d2 c.ty-inner.ensures c.in-Next.is in
-    read (form.arrow-went d3.its_kind d3.amid)
+    let d = then-node (step.arrow₁ c.args.tree.now c.requires c.if-st-ne-ARROW.false c.advance-a.ensures) c.ty-inner.ensures c.in-Next.is in
+    read (form.arrow-went d.its_kind d.amid)

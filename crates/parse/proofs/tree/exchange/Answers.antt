@@ -5,8 +5,8 @@ use Rattle.text.specs.Widths.{rec_wide}
 use Rattle.parse.proofs.tree.Splice.{turns}
 use Rattle.parse.proofs.tree.exchange.Goals as goal
 
-pub returns-then-m-b : goal.returns-then-m-b
-returns-then-m-b c =
+pub returns-then-b-tree : goal.returns-then-b-tree
+returns-then-b-tree c =
     let a = c.args in
     let t : List ℕ = a.tree.now in
     let i : ℕ = rec_wide * a.from in

@@ -6,15 +6,8 @@ use Rattle.reader.proofs.EntryLaws.{roomy_is}
 use Rattle.reader.proofs.Fits.{nothing-only}
 use Rattle.reader.proofs.entry.list_draft.Goals as goal
 
-pub returns-clause-used : goal.returns-clause-used
-returns-clause-used c =
+pub returns : goal.returns
+returns c =
     let h = c.with_words.ensures in
-    (roomy_is c.args.draft.now c.with_words.result (omega (arith, h.1, c.saturating_mul-words.ensures)) h.2 h.3.zeros h.3.lent h.3.left (search rules)).0
-
-pub returns-clause-bytes : goal.returns-clause-bytes
-returns-clause-bytes c =
-    let h = c.with_words.ensures in
-    (roomy_is c.args.draft.now c.with_words.result (omega (arith, h.1, c.saturating_mul-words.ensures)) h.2 h.3.zeros h.3.lent h.3.left (search rules)).1
-
-pub returns-clause-nothing : goal.returns-clause-nothing
-returns-clause-nothing c = nothing-only c.args.draft.now (length c.args.out.now) (returns-clause-used c)
+    let e = roomy_is c.args.draft.now c.with_words.result (omega (arith, h.1, c.saturating_mul-words.ensures)) h.2 h.3.zeros h.3.lent h.3.left (search rules) in
+    record { used = e.0; bytes = e.1; nothing = nothing-only c.args.draft.now (length c.args.out.now) e.0 }

@@ -12,5 +12,8 @@ pub returns : goal.returns
 unfolding in_classes
 returns c =
     let test = in_classes c.args.least c.args.most in
-    let found = position_from_yields_List (λ b. not (test b)) _ _ c.position.result c.position.ensures.ran (YieldsList-from_slice (drop c.args.i c.args.s.now) (c.iter.ensures.rest ∙ take_all _ (drop c.args.i c.args.s.now) (omega (arith, length-drop c.args.i c.args.s.now)))) (λ x b q k. search (rules, tests)) in
+    let rest = drop c.args.i c.args.s.now in
+    let whole = c.iter.ensures.rest ∙ take_all _ rest (omega (arith, length-drop c.args.i c.args.s.now)) in
+    let found =
+    position_from_yields_List (λ b. not (test b)) _ _ c.position.result c.position.ensures.ran (YieldsList-from_slice rest whole) (λ x b q k. search (rules, tests)) in
     run_placed test c.args.i c.args.s.now c.map_or.result c.requires found c.map_or.ensures (λ n k. search (rules, tests))

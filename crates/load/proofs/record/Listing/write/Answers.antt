@@ -2,10 +2,11 @@
 -- Assumes nothing.
 use Rattle.std.proofs.Common.{◌*◌, drop, ◌∙◌, arith}
 use Rattle.lines.specs.Form.{wide}
+use Rattle.lines.proofs.Part.{part-written}
 use Rattle.load.specs.Checks.Listed.{fields}
 use Rattle.load.specs.Meant.{as_form}
 use Rattle.load.proofs.Listing.LineForm.{its-form, first-six}
-use Rattle.load.proofs.WriteLaws.{numbers-put, six-numbers, record_fits, writing-start, writing-more}
+use Rattle.load.proofs.WriteLaws.{six-numbers, record_fits, writing-start, writing-more}
 use Rattle.load.proofs.record.Listing.write.Goals as goal
 
 pub loop-i-init : goal.loop-i-init
@@ -14,4 +15,4 @@ loop-i-init c = writing-start _ _ _ _
 pub loop-i-preserved : goal.loop-i-preserved
 loop-i-preserved c =
     writing-more c.loop-i.invariant (its-form (as_form c.args.self.now.form)) (first-six (as_form c.args.self.now.form)) (omega arith) c.requires.n_in_words
-    (numbers-put _ _ _ (c.copy_from_slice.ensures.after ∙ c.numbers.ensures) (omega (arith, six-numbers (drop (wide (fields c.args.self.now) * c.loop-i.i) c.args.self.now.text.now))) (omega (arith, c.loop-i.invariant.long, record_fits c.loop-i.invariant (omega arith) c.requires.n_in_words)))
+    (part-written _ _ _ (c.copy_from_slice.ensures.after ∙ c.numbers.ensures) (omega (arith, six-numbers (drop (wide (fields c.args.self.now) * c.loop-i.i) c.args.self.now.text.now))) (omega (arith, c.loop-i.invariant.long, record_fits c.loop-i.invariant (omega arith) c.requires.n_in_words)))
