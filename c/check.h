@@ -1,4 +1,4 @@
-/* What the tests of the entries for C share: checks that are counted, and the lines of documents 01 and 02. */
+/* What the tests of the entries for C share: checks that are counted, and the lines of drafts with known results. */
 #ifndef CHECK_H
 #define CHECK_H
 

@@ -2,7 +2,8 @@
  * Loads the listing on standard input and writes its records, seven decimal numbers a line, or its refusal. An argument is the number of words of the
  * buffer that is lent; without it there is room for every line. The status is 1 where the listing is refused, and 2, with a line on standard error,
  * where there is no answer: the argument is no number, there is not enough memory, or a read or a write failed.
- * An example of togmelic_load, and the program of the tests of docs/REFUSALS.md.
+ * An example of togmelic_load, and the program of the tests of docs/REFUSALS.md. docs/KINDS.md says what the numbers of a record mean. The listing and
+ * the words have memory of their own: buffers that overlap are never lent.
  */
 #include <errno.h>
 #include <stdio.h>

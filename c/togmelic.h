@@ -1,4 +1,5 @@
-/* The proved reader of escrow drafts, for C and C++. Link crates/togmelic/out/libtogmelic.a, which `rt lib` in crates/togmelic writes (x86-64-v2). */
+/* The proved reader of escrow drafts, for C and C++. Link crates/togmelic/out/libtogmelic.a, which `rt lib` in crates/togmelic writes
+ * (for x86-64-v2; a processor older than that, of before 2009 or so, stops at an instruction that it has not: README.md, "In a server"). */
 #ifndef TOGMELIC_H
 #define TOGMELIC_H
 
@@ -21,10 +22,102 @@ extern "C" {
 #define TOGMELIC_RECORD_WORDS 7
 /* Which of them, from 0, is the way up. */
 #define TOGMELIC_UP 6
-/* Kinds of the records at the top: a function, a program, which is the record of a whole file, and a type item in it. */
-#define TOGMELIC_FUNCTION 1
-#define TOGMELIC_PROGRAM 41
-#define TOGMELIC_TYPE_ITEM 42
+
+/* Made by tools/kinds.py, up to the line that says so: the numbers of docs/KINDS.md. */
+/* Kinds of records: the first word of each, and in hexadecimal the first number of its line. */
+#define TOGMELIC_FUNCTION 1 /* 01: function */
+#define TOGMELIC_NAME 2 /* 02: name */
+#define TOGMELIC_PARAMETER 3 /* 03: parameter */
+#define TOGMELIC_ALIAS 4 /* 04: alias */
+#define TOGMELIC_BUILTIN 5 /* 05: builtin */
+#define TOGMELIC_BOOL_TYPE 6 /* 06: bool type */
+#define TOGMELIC_UNSIGNED 7 /* 07: unsigned */
+#define TOGMELIC_EITHER_TYPE 8 /* 08: Either type */
+#define TOGMELIC_OPTION_TYPE 9 /* 09: Option type */
+#define TOGMELIC_TUPLE_TYPE 10 /* 0A: tuple type */
+#define TOGMELIC_ARRAY_TYPE 11 /* 0B: array type */
+#define TOGMELIC_LIST_TYPE 12 /* 0C: list type */
+#define TOGMELIC_IDENTIFIER_PATTERN 13 /* 0D: identifier pattern */
+#define TOGMELIC_IGNORE_PATTERN 14 /* 0E: ignore pattern */
+#define TOGMELIC_TUPLE_PATTERN 15 /* 0F: tuple pattern */
+#define TOGMELIC_ARRAY_PATTERN 16 /* 10: array pattern */
+#define TOGMELIC_LET 17 /* 11: let */
+#define TOGMELIC_BLOCK 18 /* 12: block */
+#define TOGMELIC_LEFT 19 /* 13: Left */
+#define TOGMELIC_RIGHT 20 /* 14: Right */
+#define TOGMELIC_SOME 21 /* 15: Some */
+#define TOGMELIC_NONE 22 /* 16: None */
+#define TOGMELIC_BOOLEAN 23 /* 17: boolean */
+#define TOGMELIC_DECIMAL 24 /* 18: decimal */
+#define TOGMELIC_HEXADECIMAL 25 /* 19: hexadecimal */
+#define TOGMELIC_BINARY 26 /* 1A: binary */
+#define TOGMELIC_WITNESS 27 /* 1B: witness */
+#define TOGMELIC_PARAMETER_VALUE 28 /* 1C: parameter value */
+#define TOGMELIC_VARIABLE 29 /* 1D: variable */
+#define TOGMELIC_PARENTHESISED 30 /* 1E: parenthesised */
+#define TOGMELIC_TUPLE 31 /* 1F: tuple */
+#define TOGMELIC_ARRAY 32 /* 20: array */
+#define TOGMELIC_LIST 33 /* 21: list */
+#define TOGMELIC_ENUM_CONSTRUCTION 34 /* 22: enum construction */
+#define TOGMELIC_MATCH 35 /* 23: match */
+#define TOGMELIC_ENUM_MATCH 36 /* 24: enum match */
+#define TOGMELIC_BUILTIN_ARM 37 /* 25: built-in arm */
+#define TOGMELIC_ENUM_ARM 38 /* 26: enum arm */
+#define TOGMELIC_CALL 39 /* 27: call */
+#define TOGMELIC_NUMBER 40 /* 28: number */
+#define TOGMELIC_PROGRAM 41 /* 29: program */
+#define TOGMELIC_TYPE_ITEM 42 /* 2A: type item */
+
+/* Calls: low of TOGMELIC_CALL. */
+#define TOGMELIC_CALL_JET 1 /* jet::x(..) */
+#define TOGMELIC_CALL_UNWRAP_LEFT 2 /* unwrap_left::<T>(..) */
+#define TOGMELIC_CALL_UNWRAP_RIGHT 3 /* unwrap_right::<T>(..) */
+#define TOGMELIC_CALL_UNWRAP 4 /* unwrap(..) */
+#define TOGMELIC_CALL_IS_NONE 5 /* is_none::<T>(..) */
+#define TOGMELIC_CALL_ASSERT 6 /* assert!(..) */
+#define TOGMELIC_CALL_PANIC 7 /* panic!(..) */
+#define TOGMELIC_CALL_DEBUG 8 /* dbg!(..) */
+#define TOGMELIC_CALL_TYPE_CAST 9 /* <T>::into(..) */
+#define TOGMELIC_CALL_CUSTOM 10 /* f(..) */
+#define TOGMELIC_CALL_FOLD 11 /* fold::<f, n>(..) */
+#define TOGMELIC_CALL_ARRAY_FOLD 12 /* array_fold::<f, n>(..) */
+#define TOGMELIC_CALL_FOR_WHILE 13 /* for_while::<f>(..) */
+#define TOGMELIC_CALL_RAW_HASH 14 /* raw_hash::<T>(..) */
+
+/* Built-in arms: low of TOGMELIC_BUILTIN_ARM. Of the two in a match the first is LEFT, NONE or FALSE. */
+#define TOGMELIC_ARM_LEFT 1 /* Left(p: T) => e, */
+#define TOGMELIC_ARM_RIGHT 2 /* Right(p: T) => e, */
+#define TOGMELIC_ARM_NONE 3 /* None => e, */
+#define TOGMELIC_ARM_SOME 4 /* Some(p: T) => e, */
+#define TOGMELIC_ARM_FALSE 5 /* false => e, */
+#define TOGMELIC_ARM_TRUE 6 /* true => e, */
+
+/* Built-in types: low of TOGMELIC_BUILTIN. TOGMELIC_BUILTIN_ARM, above, is a kind, and none of these. */
+#define TOGMELIC_BUILTIN_CTX8 0 /* Ctx8 */
+#define TOGMELIC_BUILTIN_PUBKEY 1 /* Pubkey */
+#define TOGMELIC_BUILTIN_MESSAGE 2 /* Message */
+#define TOGMELIC_BUILTIN_MESSAGE64 3 /* Message64 */
+#define TOGMELIC_BUILTIN_SIGNATURE 4 /* Signature */
+#define TOGMELIC_BUILTIN_SCALAR 5 /* Scalar */
+#define TOGMELIC_BUILTIN_FE 6 /* Fe */
+#define TOGMELIC_BUILTIN_GE 7 /* Ge */
+#define TOGMELIC_BUILTIN_GEJ 8 /* Gej */
+#define TOGMELIC_BUILTIN_POINT 9 /* Point */
+#define TOGMELIC_BUILTIN_HEIGHT 10 /* Height */
+#define TOGMELIC_BUILTIN_TIME 11 /* Time */
+#define TOGMELIC_BUILTIN_DISTANCE 12 /* Distance */
+#define TOGMELIC_BUILTIN_DURATION 13 /* Duration */
+#define TOGMELIC_BUILTIN_LOCK 14 /* Lock */
+#define TOGMELIC_BUILTIN_OUTPOINT 15 /* Outpoint */
+#define TOGMELIC_BUILTIN_CONFIDENTIAL1 16 /* Confidential1 */
+#define TOGMELIC_BUILTIN_EXPLICIT_ASSET 17 /* ExplicitAsset */
+#define TOGMELIC_BUILTIN_ASSET1 18 /* Asset1 */
+#define TOGMELIC_BUILTIN_EXPLICIT_AMOUNT 19 /* ExplicitAmount */
+#define TOGMELIC_BUILTIN_AMOUNT1 20 /* Amount1 */
+#define TOGMELIC_BUILTIN_EXPLICIT_NONCE 21 /* ExplicitNonce */
+#define TOGMELIC_BUILTIN_NONCE 22 /* Nonce */
+#define TOGMELIC_BUILTIN_TOKEN_AMOUNT1 23 /* TokenAmount1 */
+/* End of what tools/kinds.py makes. */
 
 /*
  * Lists a draft, a file of any number of functions and types: writes its lines into out and returns the bytes used, 41
@@ -38,6 +131,8 @@ extern "C" {
  * of the draft from 0, end being the byte after; size counts the record and all beneath it. Up is the way up: the
  * parent's line stands so many lines before this one, and only the first line, which has no parent, has 0. Lines stand
  * in the order of the tree, in which the two arms of a match may be exchanged, so the way up is not told by places.
+ * docs/KINDS.md has the kinds and what low and high hold, docs/LANGUAGE.md which drafts are accepted. To have the records as
+ * words, load what was written: togmelic_load with out and the bytes used, not out_length.
  *
  * Comments may hold any text in UTF-8, and everything else is ASCII. Places count bytes, not characters, also behind
  * such a comment. No start or end of a record cuts a character in two; the place of refusal 1, 16,384, may.
@@ -46,7 +141,8 @@ extern "C" {
  * the number of lines. Its children are the items in the order of the draft, functions, kind 1, and type items, kind 42,
  * written 2A. A draft without items has the program's line alone.
  *
- * A refused draft has one line: kind 00, the place twice, the number of the refusal as low, high 0, size 1, up 0. The place
+ * A refused draft, and no other, has a line that begins with 00, and that one alone: kind 00, the place twice, the number of
+ * the refusal as low, high 0, size 1, up 0. The number is in hexadecimal too: refusal 19 is written 00000013. The place
  * is a byte number, or the draft's length where something is missing at its end. The number is one of 1 to 14, or 19
  * for an array type whose length is over 18,446,744,073,709,551,615, or 21 for a comment that is not well-formed UTF-8
  * (RFC 3629), at the first byte of the bad sequence. docs/REFUSALS.md has them all.
@@ -56,8 +152,12 @@ extern "C" {
  * Returns 0 only where the lines do not fit; then every byte of out is zero. A refusal needs 41 bytes.
  *
  * The draft may be any bytes of any length. Both lengths count bytes, and each pointer must be good for its length;
- * it may be NULL only where that length is 0. The two buffers must not overlap. The draft must not change during the
- * call: copy a file that is mapped into memory first, unless no one can write to it.
+ * it may be NULL only where that length is 0. The draft must not change during the call: copy a file that is mapped into
+ * memory first, unless no one can write to it.
+ *
+ * The two buffers must not overlap, since the proof and the compiler take it that they do not. Where they do, nothing is
+ * promised: neither the answer, nor that memory outside of them is left alone. To have the listing where the draft stands,
+ * copy the draft first, and list the copy.
  *
  * The answer depends on the draft and on out_length alone. Nothing is allocated, and nothing is kept: calls may be
  * made from several threads at once, each with an out of its own. A call takes up to 400,000 bytes of stack, so give
@@ -76,7 +176,8 @@ struct togmelic_refusal {
 /*
  * Loads a listing, which may have been kept without its draft: writes its records into words, one a line and in the
  * order of the lines, and returns how many there are. A record is seven words, kind, start, end, low, high, size and the
- * way up. *refusal is then {0, 0}.
+ * way up. *refusal is then {0, 0}. Look at the kind before low: 0 is also TOGMELIC_BUILTIN_CTX8. Where low and high hold a
+ * number of 64 bits (TOGMELIC_ARRAY_TYPE, TOGMELIC_LIST_TYPE, TOGMELIC_NUMBER) it is (uint64_t)high << 32 | low.
  *
  * The way up says how many records back the parent of a record begins: records, not words. It is 0 for the first record,
  * which nothing holds, and for no other. From the record with number at, counted from 0, this goes to each that holds it, its
@@ -107,7 +208,7 @@ struct togmelic_refusal {
  *     16  a line is in neither form, its last byte, LF, included, or in another than the first line is; the line is the
  *         first such. Lines are counted in the form of the first; where it is in neither, it is line 1 itself
  *     17  the lines form neither one file nor one function: there are none, or it is a refusal's line, or two listings
- *         stand one behind the other, or a record's kind, low, high and children are not as the kinds table has them,
+ *         stand one behind the other, or a record's kind, low, high and children are not as docs/KINDS.md has them,
  *         two built-in arms are not in the order Left, None or False first, a size is not one more than those of the
  *         children, a program does not start at 0, any other start is not before its end, a child's place is not inside
  *         its parent's, or the way up in a line of 41 bytes does not lead to the parent, or is not 0 in the first line,
@@ -124,9 +225,12 @@ struct togmelic_refusal {
  * The listing may be any bytes of any length, such as those of a file, but no more than its lines: with the zeros that
  * togmelic_list puts behind them it is refused. listing_length counts bytes, words_length counts words, and each
  * pointer must be good for its length; it may be NULL only where that length is 0. words must be aligned for uint32_t.
- * refusal must not be NULL; what it held before the call does not matter. The three must not overlap. The listing must
- * not change during the call, which reads each byte more than once: copy a file that is mapped into memory first,
- * unless no one can write to it.
+ * refusal must not be NULL; what it held before the call does not matter. The listing must not change during the call,
+ * which reads each byte more than once: copy a file that is mapped into memory first, unless no one can write to it.
+ *
+ * The listing, words and *refusal must not overlap, since the proof and the compiler take it that they do not. Where two of
+ * them do, nothing is promised: neither the answer, nor that memory outside of them is left alone. To have the records
+ * where the listing stands, copy the listing first, and load the copy.
  *
  * The answer depends on the listing and on words_length alone. Nothing is allocated, and nothing is kept: calls may be
  * made from several threads at once, each with words and a refusal of its own. A call takes less than 4,096 bytes of

@@ -1,8 +1,8 @@
 """Reads the definitions of antt files that hold only names for numbers, lists and expressions of a grammar, and computes them.
 
 It knows what specs/Classes of crate `lexer`, specs/Kinds of `own`, the rules of `kinds` and the definitions of specs/Shapes of `grammar` use: clauses
-by name, variable, [] and ( x ∷ .. ); constructors of data; application; the operators below; λ; pairs and .0, .1 of them; numerals; one form of record. A
-file may be read under a short name, as `use .. as t` has it: then its names are t.NAME.
+by name, variable, [] and ( x ∷ .. ); constructors of data; application; the operators below; λ; pairs and .0, .1 of them; numerals; texts, which `ascii` leaves
+as they are; one form of record. A file may be read under a short name, as `use .. as t` has it: then its names are t.NAME.
 """
 import os
 import re
@@ -31,7 +31,7 @@ def definitions(text):
     out = {}
     for lines in clauses:
         text = re.sub(r"(\w+)\.(\d)(?!\w)", r"(\1 .\2)", " ".join(lines))  # a projection, written tight
-        words = re.findall(r"[(){};,]|[^\s(){};,]+", text)
+        words = re.findall(r'"[^"]*"|[(){};,]|[^\s(){};,]+', text)
         cut = words.index("=")
         left, right = words[:cut], words[cut + 1:]
         infix = [i for i, w in enumerate(left) if w in OPERATORS and left[:i].count("(") == left[:i].count(")")]
@@ -112,6 +112,8 @@ class Reader:
             return ("lambda", [n.rstrip(".") for n in names], self.expr(0))
         if w.isdigit():
             return ("number", int(w))
+        if w[0] == '"':
+            return ("text", w[1:-1])
         return ("name", w)
 
     def application(self):
@@ -145,6 +147,7 @@ class Values:
         "map": lambda f: lambda l: [f(x) for x in l],
         "foldr": lambda f: lambda z: lambda l: f(l[0])(Values.LISTS["foldr"](f)(z)(l[1:])) if l else z,
         "span": lambda a: lambda b: list(range(a, b + 1)),
+        "ascii": lambda text: text,
     }
 
     def __init__(self, sources):
@@ -201,7 +204,7 @@ class Values:
         raise SystemExit("no clause fits")
 
     def eval(self, e, env):
-        if e[0] == "number":
+        if e[0] in ("number", "text"):
             return e[1]
         if e[0] == "name":
             return env[e[1]] if e[1] in env else self.value(e[1])

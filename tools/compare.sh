@@ -4,7 +4,8 @@
 # files of up to 30 items and to random drafts, and every word of what is loaded from listings: of records with every few children, and of random drafts,
 # whole and damaged, in both forms of a line. Any step that fails ends it.
 #     tools/compare.sh [SEED [COUNT]]    COUNT random functions of each kind, 20,000 unless said, and half as many files and drafts with comments
-# Needs cargo and Python 3, and crates/togmelic/out/libtogmelic.a, which `rt lib` in crates/togmelic writes; TOGMELIC_LIB may name another folder for it.
+# Needs cargo and Python 3, and crates/togmelic/out/libtogmelic.a, which `rt lib` in crates/togmelic writes; TOGMELIC_LIB may name another folder for it,
+# by an absolute path.
 set -euo pipefail
 cd "$(dirname "$0")/.."
 seed=${1:-1}

@@ -119,15 +119,15 @@ DIRECT = direct_rules()
 class Earley:
     """Sets of items (rule, place in it, origin); a list of tokens can be continued as long as the last set is not empty."""
 
-    def __init__(self, start):
-        self.start, self.nullable = start, set()
+    def __init__(self, start, rules=DIRECT, texts=TERMINALS):
+        self.start, self.rules, self.texts, self.nullable = start, rules, texts, set()
         while True:
-            more = {n for n, alternatives in DIRECT.items() if any(all(x in self.nullable for x in a) for a in alternatives)}
+            more = {n for n, alternatives in rules.items() if any(all(x in self.nullable for x in a) for a in alternatives)}
             if more == self.nullable:
                 break
             self.nullable = more
         self.sets, self.waiting = [], []
-        self.close({(start, i, 0, 0) for i in range(len(DIRECT[start]))})
+        self.close({(start, i, 0, 0) for i in range(len(rules[start]))})
 
     def close(self, items):
         here, waiting, todo, at = set(items), {}, list(items), len(self.sets)
@@ -135,15 +135,15 @@ class Earley:
         self.waiting.append(waiting)
         while todo:
             name, alternative, dot, origin = todo.pop()
-            right = DIRECT[name][alternative]
+            right = self.rules[name][alternative]
             new = []
             if dot == len(right):
                 new = [(n, a, d + 1, o) for n, a, d, o in self.waiting[origin].get(name, ())]
             else:
                 x = right[dot]
                 waiting.setdefault(x, []).append((name, alternative, dot, origin))
-                if x in DIRECT:
-                    new = [(x, i, 0, at) for i in range(len(DIRECT[x]))]
+                if x in self.rules:
+                    new = [(x, i, 0, at) for i in range(len(self.rules[x]))]
                     if x in self.nullable:
                         new.append((name, alternative, dot + 1, origin))
             for item in new:
@@ -152,10 +152,10 @@ class Earley:
                     todo.append(item)
 
     def terminals(self):
-        return [x for x in self.waiting[-1] if x not in DIRECT]
+        return [x for x in self.waiting[-1] if x not in self.rules]
 
     def fits(self, terminal, text):
-        return text == terminal[1:-1] if terminal[0] == "'" else text in TERMINALS[terminal]
+        return text == terminal[1:-1] if terminal[0] == "'" else text in self.texts[terminal]
 
     def push(self, text):
         items = {(n, a, d + 1, o) for x in self.terminals() if self.fits(x, text) for n, a, d, o in self.waiting[-1][x]}
@@ -169,7 +169,7 @@ class Earley:
         del self.waiting[length + 1:]
 
     def whole(self):
-        return any(n == self.start and d == len(DIRECT[n][a]) and o == 0 for n, a, d, o in self.sets[-1])
+        return any(n == self.start and d == len(self.rules[n][a]) and o == 0 for n, a, d, o in self.sets[-1])
 
 
 # ------------------------------------------------------------------------------------------------ the table

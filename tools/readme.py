@@ -1,10 +1,14 @@
 #!/usr/bin/env python3
-"""Sees that README.md shows the four good examples, the listings of all five as the program writes them, and what is loaded of a listing.
+"""Sees that README.md shows the four good examples, the listings of three of them and of the broken one as the program writes them, and what is loaded of a
+listing; with the command, that README.md and docs/COMMAND.md show what it writes.
 
 tools/readme.py [LISTING [LOAD]]; the first program lists the draft on its standard input, by default crates/listing/out/listing, the second, c/load.c, loads a
 listing, by default target/load.
+tools/readme.py --command TOGMELIC KINDS; the command, and the wrapper's example of the name (rust/togmelic/examples/kinds.rs).
 """
 import re
+import subprocess
+import sys
 
 from program import ROOT, finish, listing, loaded
 
@@ -14,11 +18,36 @@ def indented(text):
     return "".join("    " + line if line.strip() else line for line in text.splitlines(keepends=True))
 
 
-def main():
+def said(*words, stdin=None):
+    """What a program writes to its standard output."""
+    return subprocess.run(words, cwd=ROOT, input=stdin, stdout=subprocess.PIPE).stdout.decode()
+
+
+def behind(page, words):
+    """The first code block of the page behind these words, without its four spaces."""
+    block = re.search(r"\n((?:    .*\n|\n(?=    ))+)", page[page.index(words) + len(words):])
+    return re.sub(r"^    ", "", block[1], flags=re.M)
+
+
+def command(togmelic, kinds):
+    """What the command and the wrapper's example write, and where that should be shown."""
+    readme, page = ((ROOT / name).read_text(encoding="utf-8") for name in ("README.md", "docs/COMMAND.md"))
+    broken, draft = said(togmelic, "check", "examples/broken.simf"), behind(page, "The tree of\n")
+    shown = [("README.md", readme, "examples/broken.simf", broken),
+             ("README.md", readme, "examples/polish.simf", said(togmelic, "tree", "examples/polish.simf")),
+             ("README.md", readme, "the wrapper's example", (ROOT / "rust/togmelic/examples/kinds.rs").read_text().split("\n\n", 1)[1]),
+             ("README.md", readme, "what the wrapper's example writes", said(kinds)),
+             ("docs/COMMAND.md", page, "examples/broken.simf", broken),
+             ("docs/COMMAND.md", page, "the tree of its draft", said(togmelic, "tree", "-", stdin=draft.encode()))]
+    missing = [f"{name} does not show {what}" for name, text, what, lines in shown if not lines or indented(lines) not in text]
+    finish("readme", f"{len(shown) - len(missing)} texts of the command", missing)
+
+
+def listings():
     readme = (ROOT / "README.md").read_text(encoding="utf-8")
     good = ("escrow", "file", "greek", "polish")
     shown = {f"examples/{name}.simf": (ROOT / f"examples/{name}.simf").read_text(encoding="utf-8") for name in good}
-    for name in (*good, "broken"):
+    for name in ("escrow", "file", "greek", "broken"):
         shown[f"the listing of examples/{name}.simf"] = listing((ROOT / f"examples/{name}.simf").read_bytes()).decode()
     # The draft that is kept, and how many bytes of it are loaded then.
     draft, length = re.search(r"printf '([^']+)' \| crates/listing/out/listing > target/kept", readme), re.search(r"head -c (\d+) target/kept", readme)
@@ -30,4 +59,4 @@ def main():
 
 
 if __name__ == "__main__":
-    main()
+    command(*sys.argv[2:]) if sys.argv[1:2] == ["--command"] else listings()

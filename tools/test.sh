@@ -1,8 +1,8 @@
 #!/usr/bin/env bash
-# All tests: generated files are what their scripts write, the grammar's table beside Earley's method, then `rt ci` (every crate proved and in its layout, every
+# All tests: generated files are what their scripts write, the first command's way to tell how far it is, the grammar's table beside Earley's method, then `rt ci` (every crate proved and in its layout, every
 # must-fail edit refused, every program run), that no edit is bad and each refused for a fact, then what stands on that: UTF-8 in comments beside Python's decoder, the machine code of the digit reader, the
-# definition of the answer beside the partner, the entry for C from C and from Rust, the drafts and listings of docs/REFUSALS.md, the instructions of a
-# reading beside the partner's, the comparison of the library with the partner.
+# definition of the answer beside the partner, the entry for C from C and from Rust, the drafts and listings of docs/REFUSALS.md, streams that fail, the command on its
+# cases, on terminals and on random drafts, the instructions of a reading beside the partner's, the comparison of the library with the partner.
 # The last line, 'N passed, 0 failed', is printed only where everything passed.
 set -euo pipefail
 cd "$(dirname "$0")/.."
@@ -37,9 +37,10 @@ finish() {
 }
 
 for script in tools/words.py tools/words_cases.py tools/bytes.py tools/lexer_cases.py tools/grammar.py tools/choice.py tools/digits.py tools/pairs.py \
-    tools/children.py tools/believed.py; do
+    tools/children.py tools/kinds.py tools/believed.py tools/architecture.py tools/advice.py; do
     run python3 "$script" --check
 done
+run python3 tools/progress_tests.py
 run diff <(python3 tools/num_cases.py) crates/num_cases/stdout
 run python3 tools/compare_grammar.py
 CARGO_TARGET_DIR=$work/rust cargo build --manifest-path rust/Cargo.toml --offline --release --quiet --package partner
@@ -55,13 +56,14 @@ last=$(tail -n 1 "$log")
 passed=$((passed + BASH_REMATCH[1]))
 run python3 tools/edits.py "$log"
 
-# Both libraries stand before the comparison of the definition begins: it copies what rt keeps, which a build beside it would change.
+# The first command and both libraries stand before the comparison of the definition begins: it copies what rt keeps, which a build beside it would change.
 run library num_speed
-run library togmelic
+run bash tools/build.sh
 start python3 tools/compare_answer.py "$work/rust/release/partner" 1 150 200
 run python3 tools/utf8.py
 run python3 tools/multiply.py crates/num_speed/out/libnum_speed.a num_speed_number num_speed_digits
 run bash tools/bindings.sh
+run bash tools/command.sh
 run bash bench/reader/limits.sh
 run bash tools/compare.sh
 run finish tools/compare_answer.py

@@ -5,6 +5,9 @@
 //! the items are its children, in the order of the draft. Comments may hold any text in UTF-8, and everything else is
 //! ASCII; places count bytes, not characters.
 //!
+//! In the repository, docs/LANGUAGE.md says which drafts are read and within what limits, docs/KINDS.md which records there
+//! are and what they hold, and docs/REFUSALS.md what each refusal means and what to do about it.
+//!
 //! [`list`] and [`load_into`] write into a lent buffer and allocate nothing; [`listing`], [`read`] and [`load`] bring
 //! their own. Each of them may be called with any bytes and from any thread, and no answer depends on an earlier call.
 //! The reader keeps its tokens and its tree on the stack and calls itself for what is nested: the deepest drafts
@@ -12,15 +15,15 @@
 //! nested.
 //!
 //! ```
-//! use togmelic::Record;
+//! use togmelic::Kind;
 //!
 //! let draft = b"fn f(){Left(1)}";
 //! let tree = togmelic::read(draft).expect("an accepted draft");
 //! assert_eq!(tree.len(), 6);
-//! assert_eq!((tree[0].kind, tree[1].kind), (Record::PROGRAM, Record::FUNCTION));
-//! // Kind 19 is `Left`.
-//! assert_eq!(tree[4].kind, 19);
+//! assert_eq!((tree[0].kind, tree[1].kind), (Kind::Program, Kind::Function));
+//! assert_eq!((tree[4].kind, tree[4].kind.number()), (Kind::Left, 19));
 //! assert_eq!(&draft[tree[4].place()], b"Left(1)");
+//! assert_eq!(format!("{}, {}", tree[4].kind, tree[5].kind), "Left, decimal");
 //!
 //! let refusal = togmelic::read(b"fn f(){fold(x)}").unwrap_err();
 //! assert_eq!((refusal.number, refusal.place), (8, 11));
@@ -44,14 +47,21 @@
 //! assert_eq!((refusal.number, refusal.line), (16, 2));
 //! ```
 
+mod kinds;
+mod lines;
 mod load;
+mod numbered;
 mod record;
 mod refusal;
 
+pub use kinds::{Alias, Arm, Call, Kind};
+pub use lines::{records, NoRecord};
 pub use load::{load, load_into, RECORD_WORDS};
-pub use record::{holders, records, Record};
+pub use record::{holders, Record};
 pub use refusal::{LoadRefusal, Refusal};
 
+/// Bytes of the longest draft that is read; one with more is refused with 1.
+pub const MOST_DRAFT: usize = 16_384;
 /// Bytes of a line, its line end among them.
 pub const LINE: usize = 41;
 /// Bytes of a line as it was written before records had the way up; [`load`] takes such lines too.
@@ -92,9 +102,11 @@ pub fn listing(draft: &[u8]) -> Vec<u8> {
 /// The records of a draft, a parent before its children, or the refusal. The first is the program's, so there is one
 /// also where the draft has no item.
 pub fn read(draft: &[u8]) -> Result<Vec<Record>, Refusal> {
-    let tree: Vec<Record> = records(&listing(draft)).collect();
-    match tree.first().copied().and_then(Refusal::from_line) {
-        Some(refusal) => Err(refusal),
-        None => Ok(tree),
-    }
+    let tree: Result<_, NoRecord> = records(&listing(draft)).collect();
+    tree.map_err(|reason| match reason {
+        NoRecord::Refused(refusal) => refusal,
+        NoRecord::BadLine(line) => {
+            unreachable!("line {line}: each that the library writes is proved to be in form")
+        }
+    })
 }

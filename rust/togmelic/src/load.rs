@@ -16,9 +16,9 @@ extern "C" {
 }
 
 /// Loads a listing into `words`, seven a record, and answers the number of records, never 0, with zeros in the rest of
-/// `words`. Where it is refused, every word is zero. The first word is [`Record::PROGRAM`], or [`Record::FUNCTION`] in a
-/// listing of one function alone. No draft is at hand, so a listing may be taken that is not your draft's, or no draft's
-/// at all: see [`Record::place`].
+/// `words`. Where it is refused, every word is zero. The first word is the number of [`Kind::Program`](crate::Kind), or of
+/// `Kind::Function` in a listing of one function alone. No draft is at hand, so a listing may be taken that is not your
+/// draft's, or no draft's at all: see [`Record::place`].
 ///
 /// The lines are as [`list`](crate::list) writes them, or all of them are of [`SHORT_LINE`] bytes, as they were kept
 /// before records had the way up, which is worked out then.
@@ -51,8 +51,14 @@ pub fn load(listing: &[u8]) -> Result<Vec<Record>, LoadRefusal> {
     let mut words = vec![0; listing.len() / SHORT_LINE * RECORD_WORDS];
     let count = load_into(listing, &mut words)?;
     let (records, _) = words.as_chunks();
-    let loaded = records[..count]
-        .iter()
-        .map(|words| Record::from_words(*words).expect("a loaded kind is at most 42"));
-    Ok(loaded.collect())
+    let loaded = records.iter().take(count).copied();
+    // The library is proved to take no kind but 1 to 42. Lines with another would form no file.
+    let no_file = LoadRefusal {
+        number: 17,
+        line: 0,
+    };
+    loaded
+        .map(Record::from_words)
+        .collect::<Option<_>>()
+        .ok_or(no_file)
 }

@@ -1,14 +1,13 @@
-//! Records, parsed from the lines of a listing or taken from their seven words, and the way from one to what holds it.
+//! Records, of their seven words, and the way from one to what holds it.
 
-use crate::{LINE, RECORD_WORDS};
+use crate::{Alias, Arm, Call, Kind, RECORD_WORDS};
 use std::ops::Range;
 
-/// One line of a listing. The kinds and what `low` and `high` hold are in document 01, "Records and the marks they
-/// own"; 41 and 42 in document 02, order 3; the way up in order 7.
+/// One record of a tree. What `low` and `high` hold depends on the kind: docs/KINDS.md has a table of them.
 #[derive(Clone, Copy, Debug, PartialEq, Eq, Hash)]
 pub struct Record {
-    /// 1 to 42; 0 in the one line of a refusal.
-    pub kind: u8,
+    /// What it is of.
+    pub kind: Kind,
     /// The first byte of the record's place in the draft.
     pub start: usize,
     /// The byte after its place.
@@ -19,20 +18,12 @@ pub struct Record {
     pub high: u32,
     /// How many records this one and all beneath it are; its children follow it in order.
     pub size: usize,
-    /// The way up: how many records back the parent begins. 0 for the first record, which nothing holds, and in the line
-    /// of a refusal. [`Record::parent`] and [`holders`] take it.
+    /// The way up: how many records back the parent begins. 0 for the first record, which nothing holds.
+    /// [`Record::parent`] and [`holders`] take it.
     pub up: usize,
 }
 
 impl Record {
-    /// The kind of a function: an item, or the first record of a listing that is one function alone.
-    pub const FUNCTION: u8 = 1;
-    /// The kind of the first record of a draft, which holds all the others. Its place is the whole draft; it
-    /// alone may be empty.
-    pub const PROGRAM: u8 = 41;
-    /// The kind of a type item, `type A = u8;`, a child of the program: its own children are the name and the type.
-    pub const TYPE_ITEM: u8 = 42;
-
     /// The place in bytes, to cut the record's text out of its draft; it cuts no character in two. A loaded listing may be
     /// that of another draft, or of none, and its places may lie behind the end of yours, or within a character: then cut
     /// with `draft.get(record.place())`, which does not panic.
@@ -40,9 +31,41 @@ impl Record {
         self.start..self.end
     }
 
-    /// `low` and `high` as one number, for the kinds that hold one.
+    /// `low` and `high` as one number, for the kinds that hold one: `ArrayType`, `ListType` and `Number`.
     pub fn number(&self) -> u64 {
         u64::from(self.high) << 32 | u64::from(self.low)
+    }
+
+    /// What a call calls; `None` where this is no call, or `low` no call's number.
+    ///
+    /// ```
+    /// use togmelic::Call;
+    ///
+    /// let tree = togmelic::read(b"fn f(){unwrap(jet::one())}").expect("an accepted draft");
+    /// let calls: Vec<Call> = tree.iter().filter_map(|record| record.call()).collect();
+    /// assert_eq!(calls, [Call::Unwrap, Call::Jet]);
+    /// ```
+    pub fn call(&self) -> Option<Call> {
+        match self.kind {
+            Kind::Call => Call::from_number(self.low),
+            _ => None,
+        }
+    }
+
+    /// What a built-in arm is for; `None` where this is no built-in arm, or `low` no arm's number.
+    pub fn arm(&self) -> Option<Arm> {
+        match self.kind {
+            Kind::BuiltinArm => Arm::from_number(self.low),
+            _ => None,
+        }
+    }
+
+    /// Which built-in type a record of [`Kind::Builtin`] is; `None` where it is of another kind, or `low` no type's number.
+    pub fn alias(&self) -> Option<Alias> {
+        match self.kind {
+            Kind::Builtin => Alias::from_number(self.low),
+            _ => None,
+        }
     }
 
     /// The number of the record that holds this one, if this is record `at` of a tree, counted from 0; `None` for the
@@ -63,11 +86,12 @@ impl Record {
         at.checked_sub(self.up)
     }
 
-    /// The record of seven words, as [`load_into`](crate::load_into) writes them; `None` where the kind is over 255.
+    /// The record of seven words, as [`load_into`](crate::load_into) writes them; `None` where the first is no kind's
+    /// number.
     pub fn from_words(words: [u32; RECORD_WORDS]) -> Option<Record> {
         let [kind, start, end, low, high, size, up] = words;
         Some(Record {
-            kind: u8::try_from(kind).ok()?,
+            kind: Kind::from_number(kind)?,
             start: start as usize,
             end: end as usize,
             low,
@@ -76,18 +100,6 @@ impl Record {
             up: up as usize,
         })
     }
-
-    fn from_line(line: &[u8]) -> Record {
-        Record {
-            kind: hexadecimal(&line[0..2]) as u8,
-            start: hexadecimal(&line[3..7]) as usize,
-            end: hexadecimal(&line[8..12]) as usize,
-            low: hexadecimal(&line[13..21]),
-            high: hexadecimal(&line[22..30]),
-            size: hexadecimal(&line[31..35]) as usize,
-            up: hexadecimal(&line[36..40]) as usize,
-        }
-    }
 }
 
 /// The numbers of the records that hold record `at` of a tree, its parent first and the top last: none for the top
@@ -95,7 +107,7 @@ impl Record {
 /// and [`load`](crate::load) answer is a tree.
 ///
 /// ```
-/// use togmelic::{holders, Record};
+/// use togmelic::{holders, Kind};
 ///
 /// // From the name `e` to what holds it. The arm of `true` was written first, and stands behind that of `false`.
 /// let draft = b"fn f(){match b{true=>g(e),false=>h,}}";
@@ -105,30 +117,11 @@ impl Record {
 /// assert_eq!(texts[0], b"g(e)");
 /// assert_eq!(texts[1], b"true=>g(e),");
 /// assert_eq!(texts[2], b"match b{true=>g(e),false=>h,}");
-/// let kinds: Vec<u8> = holders(&tree, at).map(|at| tree[at].kind).collect();
-/// // Call, arm, match, block.
-/// assert_eq!(kinds, [39, 37, 35, 18, Record::FUNCTION, Record::PROGRAM]);
+/// let kinds: Vec<Kind> = holders(&tree, at).map(|at| tree[at].kind).collect();
+/// use Kind::{Block, BuiltinArm, Call, Function, Match, Program};
+/// assert_eq!(kinds, [Call, BuiltinArm, Match, Block, Function, Program]);
 /// ```
 pub fn holders(tree: &[Record], at: usize) -> impl Iterator<Item = usize> + '_ {
     let parent = |at: &usize| tree.get(*at)?.parent(*at);
     std::iter::successors(parent(&at), parent)
-}
-
-/// The records of the lines that [`list`](crate::list) answers, without an allocation.
-/// A refusal is one record of kind 0.
-///
-/// # Panics
-///
-/// At a line that has another byte where a digit stands. For a listing from elsewhere, such as a file, use
-/// [`load`](crate::load), which refuses it instead, and takes lines of 36 bytes too.
-pub fn records(lines: &[u8]) -> impl Iterator<Item = Record> + '_ {
-    lines.chunks_exact(LINE).map(Record::from_line)
-}
-
-/// The value of at most eight hexadecimal digits.
-fn hexadecimal(digits: &[u8]) -> u32 {
-    digits.iter().fold(0, |value, digit| {
-        let digit = char::from(*digit).to_digit(16);
-        value << 4 | digit.expect("a listing has hexadecimal digits here")
-    })
 }

@@ -1,55 +1,40 @@
 //! Refusals, with their reasons in words.
 
-use crate::Record;
 use std::fmt;
 
-/// Why a draft is refused, and where.
+/// Why a draft is refused, and where. docs/REFUSALS.md says of each number what it means and what to do about it.
 #[derive(Clone, Copy, Debug, PartialEq, Eq, Hash)]
 pub struct Refusal {
-    /// 1 to 14, as in document 01, or 19 or 21, as in document 02, orders 2 and 6; 15 needs a tree buffer shorter than
-    /// the one used here.
+    /// 1 to 14, 19 or 21; 15 needs a tree buffer shorter than the one used here.
     pub number: u32,
     /// Number of a byte of the draft, from 0; the draft's length where something is missing at its end. For refusal 1 it
     /// is 16,384, which may stand within a character of a comment: cut bytes there, not a `str`.
     pub place: usize,
 }
 
-/// The reasons of 1 to 15, in order.
-const REASONS: [&str; 15] = [
-    "the draft is over 16,384 bytes",
-    "a byte outside comments is over 127",
-    "no lexeme starts here",
-    "a block comment is never closed",
-    "the word simc is reserved",
-    "there are over 2,048 tokens",
-    "over 48 brackets are open, or over 8 match stand in a row",
-    "no well-shaped file goes on like this",
-    "the bound is not a power of two from 2 to 9,223,372,036,854,775,808",
-    "the size is 0 or over 18,446,744,073,709,551,615",
-    "the match has no arms",
-    "the match has enum arms and built-in arms",
-    "the match does not have two built-in arms",
-    "the two built-in arms do not belong together",
-    "the tree buffer is too short",
-];
-
 impl Refusal {
     /// What the number says, in words.
     pub fn reason(&self) -> &'static str {
         match self.number {
-            number @ 1..=15 => REASONS[number as usize - 1],
+            1 => "the draft is over 16,384 bytes",
+            2 => "a byte outside comments is over 127",
+            3 => "no lexeme starts here",
+            4 => "a block comment is never closed",
+            5 => "the word simc is reserved",
+            6 => "there are over 2,048 tokens",
+            7 => "over 48 brackets are open, or over 8 match stand in a row",
+            8 => "the draft cannot go on with this token",
+            9 => "the bound is not a power of two from 2 to 9,223,372,036,854,775,808",
+            10 => "the size is 0 or over 18,446,744,073,709,551,615",
+            11 => "the match has no arms",
+            12 => "the match has enum arms and built-in arms",
+            13 => "the match does not have two built-in arms",
+            14 => "the two built-in arms do not belong together",
+            15 => "the tree buffer is too short",
             19 => "the array length is over 18,446,744,073,709,551,615",
             21 => "the comment is not well-formed UTF-8",
             _ => "no such refusal",
         }
-    }
-
-    /// The refusal that a line is, if it is one.
-    pub(crate) fn from_line(line: Record) -> Option<Refusal> {
-        (line.kind == 0).then_some(Refusal {
-            number: line.low,
-            place: line.start,
-        })
     }
 }
 
@@ -71,7 +56,7 @@ impl std::error::Error for Refusal {}
 #[derive(Clone, Copy, Debug, PartialEq, Eq, Hash)]
 #[repr(C)]
 pub struct LoadRefusal {
-    /// 16, 17 or 18, as in document 02, orders 1, 3 and 7.
+    /// 16, 17 or 18; docs/REFUSALS.md has them too.
     pub number: usize,
     /// The first bad line, from 1, for 16; 0 for 17 and 18.
     pub line: usize,

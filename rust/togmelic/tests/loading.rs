@@ -85,7 +85,13 @@ fn changed(line: usize, at: usize, text: &[u8]) -> Vec<u8> {
 fn written(record: &Record) -> String {
     format!(
         "{:02X} {:04X} {:04X} {:08X} {:08X} {:04X} {:04X}\n",
-        record.kind, record.start, record.end, record.low, record.high, record.size, record.up
+        record.kind.number(),
+        record.start,
+        record.end,
+        record.low,
+        record.high,
+        record.size,
+        record.up
     )
 }
 
@@ -298,6 +304,10 @@ fn refusals_in_words() {
     assert_eq!(
         refusal(16, 3),
         "refusal 16 at line 3: the line is in neither form, or in another than the first line"
+    );
+    assert_eq!(
+        refusal(16, 1),
+        "refusal 16 at line 1: the line is in neither form, or in another than the first line"
     );
     assert_eq!(
         refusal(17, 0),

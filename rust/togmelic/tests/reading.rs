@@ -1,6 +1,8 @@
 //! The typed view: records and refusals of drafts whose results the papers give.
 
-use togmelic::{list, read, records, Record, Refusal, MOST_BYTES};
+use togmelic::{
+    list, read, records, Alias, Arm, Call, Kind, Record, Refusal, MOST_BYTES, MOST_DRAFT,
+};
 
 const DRAFT: &[u8] = b"fn f(){match b{true=>1,false=>2,}}";
 
@@ -18,7 +20,7 @@ fn example() {
     let tree = read(DRAFT).expect("an accepted draft");
     assert_eq!(tree.len(), 10);
     let program = Record {
-        kind: Record::PROGRAM,
+        kind: Kind::Program,
         start: 0,
         end: 34,
         low: 0,
@@ -28,14 +30,14 @@ fn example() {
     };
     assert_eq!(tree[0], program);
     let function = Record {
-        kind: Record::FUNCTION,
+        kind: Kind::Function,
         size: 9,
         up: 1,
         ..program
     };
     assert_eq!(tree[1], function);
     let first_arm = Record {
-        kind: 37,
+        kind: Kind::BuiltinArm,
         start: 23,
         end: 32,
         low: 5,
@@ -60,10 +62,10 @@ fn files() {
         items.push((tree[at].kind, &draft[tree[at].place()]));
         at += tree[at].size;
     }
-    let expected: [(u8, &[u8]); 3] = [
-        (Record::TYPE_ITEM, b"type Pair = (u8, u8);"),
-        (Record::FUNCTION, b"pub fn first(p: Pair) -> u8 { p }"),
-        (Record::TYPE_ITEM, b"type A=Pair;"),
+    let expected: [(Kind, &[u8]); 3] = [
+        (Kind::TypeItem, b"type Pair = (u8, u8);"),
+        (Kind::Function, b"pub fn first(p: Pair) -> u8 { p }"),
+        (Kind::TypeItem, b"type A=Pair;"),
     ];
     assert_eq!(items, expected);
     // The name and the type of the last item.
@@ -90,17 +92,91 @@ fn refused_files() {
 fn records_of_a_lent_buffer() {
     let mut out = vec![0xAA; MOST_BYTES];
     let lines = list(DRAFT, &mut out).expect("room for every draft");
-    assert_eq!(records(lines).collect::<Vec<_>>(), read(DRAFT).unwrap());
+    let tree: Result<Vec<_>, _> = records(lines).collect();
+    assert_eq!(tree.ok(), read(DRAFT).ok());
+}
+
+/// Document 01, "Records and the marks they own": what `low` says of a call, a built-in arm and a built-in type.
+#[test]
+fn what_low_says() {
+    let calls = [
+        ("jet::j(x)", Call::Jet),
+        ("unwrap_left::<u8>(x)", Call::UnwrapLeft),
+        ("unwrap_right::<u8>(x)", Call::UnwrapRight),
+        ("unwrap(x)", Call::Unwrap),
+        ("is_none::<u8>(x)", Call::IsNone),
+        ("assert!(x)", Call::Assert),
+        ("panic!()", Call::Panic),
+        ("dbg!(x)", Call::Debug),
+        ("<u8>::into(x)", Call::TypeCast),
+        ("g(x)", Call::Custom),
+        ("fold::<g,2>(x)", Call::Fold),
+        ("array_fold::<g,1>(x)", Call::ArrayFold),
+        ("for_while::<g>(x)", Call::ForWhile),
+        ("raw_hash::<u8>(x)", Call::RawHash),
+    ];
+    for (text, call) in calls {
+        let tree = in_body(text).expect(text);
+        let found: Vec<Call> = tree.iter().filter_map(Record::call).collect();
+        assert_eq!(found, [call], "{text}");
+    }
+    let arms = [
+        ("Right(a:u8)=>1,Left(a:u8)=>1,", [Arm::Left, Arm::Right]),
+        ("Some(a:u8)=>1,None=>1,", [Arm::None, Arm::Some]),
+        ("true=>1,false=>1,", [Arm::False, Arm::True]),
+    ];
+    for (text, pair) in arms {
+        let tree = in_body(&format!("match x{{{text}}}")).expect(text);
+        let found: Vec<Arm> = tree.iter().filter_map(Record::arm).collect();
+        assert_eq!(found, pair, "{text}");
+    }
+    let tree = in_body("let a:(Ctx8,(Pubkey,bool),Other,TokenAmount1)=1;").expect("a block");
+    let found: Vec<Alias> = tree.iter().filter_map(Record::alias).collect();
+    assert_eq!(found, [Alias::Ctx8, Alias::Pubkey, Alias::TokenAmount1]);
+}
+
+#[test]
+fn longest_draft() {
+    assert_eq!(MOST_DRAFT, 16_384);
+    let mut draft = vec![b' '; MOST_DRAFT];
+    assert_eq!(read(&draft).map(|tree| tree.len()), Ok(1));
+    draft.push(b' ');
+    let (number, place) = (1, MOST_DRAFT);
+    assert_eq!(read(&draft), Err(Refusal { number, place }));
+}
+
+/// No record but that of its kind has a call, an arm or a built-in type, whatever its `low`; nor has that one where `low`
+/// is out of range.
+#[test]
+fn low_out_of_range() {
+    for kind in Kind::ALL {
+        for low in [0, 1, 6, 7, 14, 15, 23, 24, 256, u32::MAX] {
+            let record = Record::from_words([kind.number(), 0, 1, low, 0, 1, 0]).expect("a kind");
+            let (is_call, is_arm) = (kind == Kind::Call, kind == Kind::BuiltinArm);
+            let calls = is_call && (1..=14).contains(&low);
+            let arms = is_arm && (1..=6).contains(&low);
+            let aliases = kind == Kind::Builtin && low < 24;
+            assert_eq!(record.call().map(Call::number), calls.then_some(low));
+            assert_eq!(record.arm().map(Arm::number), arms.then_some(low));
+            assert_eq!(record.alias().map(Alias::number), aliases.then_some(low));
+        }
+    }
 }
 
 #[test]
 fn numbers_of_64_bits() {
     let tree = in_body("let a:List<u8,9223372036854775808>=1;").unwrap();
-    let list_type = tree.iter().find(|record| record.kind == 12).unwrap();
+    let list_type = tree
+        .iter()
+        .find(|record| record.kind == Kind::ListType)
+        .unwrap();
     assert_eq!((list_type.low, list_type.high), (0, 1 << 31));
     assert_eq!(list_type.number(), 9_223_372_036_854_775_808);
     let tree = in_body("let a:[u8;18446744073709551615]=1;").unwrap();
-    let array_type = tree.iter().find(|record| record.kind == 11).unwrap();
+    let array_type = tree
+        .iter()
+        .find(|record| record.kind == Kind::ArrayType)
+        .unwrap();
     assert_eq!((array_type.low, array_type.high), (u32::MAX, u32::MAX));
     assert_eq!(array_type.number(), u64::MAX);
 }
@@ -254,10 +330,31 @@ fn refusals_in_words() {
         "refusal 21 at byte 2: the comment is not well-formed UTF-8"
     );
     let reason = |number| Refusal { number, place: 0 }.reason();
-    assert_eq!(reason(1), "the draft is over 16,384 bytes");
-    assert_eq!(reason(2), "a byte outside comments is over 127");
-    assert_eq!(reason(8), "no well-shaped file goes on like this");
-    assert_eq!(reason(15), "the tree buffer is too short");
+    for (number, said) in [
+        (1, "the draft is over 16,384 bytes"),
+        (2, "a byte outside comments is over 127"),
+        (3, "no lexeme starts here"),
+        (4, "a block comment is never closed"),
+        (5, "the word simc is reserved"),
+        (6, "there are over 2,048 tokens"),
+        (
+            7,
+            "over 48 brackets are open, or over 8 match stand in a row",
+        ),
+        (8, "the draft cannot go on with this token"),
+        (
+            9,
+            "the bound is not a power of two from 2 to 9,223,372,036,854,775,808",
+        ),
+        (10, "the size is 0 or over 18,446,744,073,709,551,615"),
+        (11, "the match has no arms"),
+        (12, "the match has enum arms and built-in arms"),
+        (13, "the match does not have two built-in arms"),
+        (14, "the two built-in arms do not belong together"),
+        (15, "the tree buffer is too short"),
+    ] {
+        assert_eq!(reason(number), said);
+    }
     // 16 to 18 are about listings.
     for number in [0, 16, 17, 18, 20, 22, u32::MAX] {
         assert_eq!(reason(number), "no such refusal");

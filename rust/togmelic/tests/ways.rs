@@ -1,11 +1,11 @@
 //! The way up: from each record to what holds it, of trees that the reader writes and that are loaded, and of any records.
 
-use togmelic::{holders, listing, load, read, Record, LINE, SHORT_LINE};
+use togmelic::{holders, listing, load, read, Kind, Record, LINE, SHORT_LINE};
 
 /// The record of a number with all else 0.
 fn with_way(up: usize) -> Record {
     Record {
-        kind: 29,
+        kind: Kind::Variable,
         start: 0,
         end: 1,
         low: 0,
@@ -81,15 +81,6 @@ fn loaded_from_both_forms() {
     }
 }
 
-/// A line of a refusal has no way up, and so no parent.
-#[test]
-fn line_of_a_refusal() {
-    let lines = listing(b"fn f(");
-    let record = togmelic::records(&lines).next().expect("a line");
-    assert_eq!((record.kind, record.up), (0, 0));
-    assert_eq!(record.parent(0), None);
-}
-
 /// Any number and any way: no panic, and never the record itself or one behind it.
 #[test]
 fn parents_of_any_records() {
@@ -116,4 +107,7 @@ fn words_of_a_record() {
     assert_eq!(record, Some(with_way(5)));
     let record = Record::from_words([29, 0, 1, 0, 0, 1, u32::MAX]).expect("a record");
     assert_eq!((record.parent(5), record.parent(0)), (None, None));
+    for kind in [0, 43, 256, 256 + 29, u32::MAX] {
+        assert_eq!(Record::from_words([kind, 0, 1, 0, 0, 1, 0]), None);
+    }
 }

@@ -1,0 +1,52 @@
+/*
+ * How many bytes of stack togmelic_list takes for the draft on standard input, and the first line that it writes. It is called in a thread whose stack was
+ * filled before, and what was written over is counted.
+ */
+#define _POSIX_C_SOURCE 200809L
+
+#include <pthread.h>
+#include <stdio.h>
+#include <stdlib.h>
+#include <string.h>
+
+#include "togmelic.h"
+
+#define STACK (1 << 20)
+#define FILL 0xA5
+/* No draft is longer; of a longer one nothing more need be read. */
+#define DRAFT 16385
+
+static unsigned char draft[DRAFT];
+static unsigned char lines[TOGMELIC_MOST_BYTES];
+static size_t length;
+static const unsigned char *top;
+
+static void *list(void *unused)
+{
+    unsigned char here = FILL;
+
+    top = &here;
+    togmelic_list(draft, length, lines, sizeof lines);
+    return unused;
+}
+
+int main(void)
+{
+    unsigned char *stack = NULL;
+    const unsigned char *low;
+    pthread_attr_t attributes;
+    pthread_t thread;
+
+    length = fread(draft, 1, sizeof draft, stdin);
+    if (posix_memalign((void **)&stack, 4096, STACK) != 0)
+        return 2;
+    memset(stack, FILL, STACK);
+    if (pthread_attr_init(&attributes) != 0 || pthread_attr_setstack(&attributes, stack, STACK) != 0 ||
+        pthread_create(&thread, &attributes, list, NULL) != 0 || pthread_join(thread, NULL) != 0)
+        return 2;
+    for (low = stack; *low == FILL; low++)
+        ;
+    printf("%zu %.40s\n", (size_t)(top - low), (const char *)lines);
+    free(stack);
+    return 0;
+}
