@@ -4,7 +4,8 @@
     tools/progress.py NAME..    crates of crates.txt
 
 Each crate has a line: which it is, how many of its functions are proved, and the seconds. On a terminal the line of the crate at work is written over;
-elsewhere one is written now and then. What rt writes goes to target/build/rt.log; where a crate fails, its last lines are shown and the status is 1.
+elsewhere one is written every 15 s, or as many as PROGRESS_EVERY says. What rt writes goes to target/build/rt.log; where a crate fails, standard error
+has what was not proved and the last lines, and the status is 1. Ctrl-C ends it with the status 130.
 
 A crate is left alone where target/build/NAME.sum says that it was built here of the same files, over the same crates and by the same kit.
 """
@@ -22,8 +23,10 @@ import time
 ROOT = pathlib.Path(__file__).resolve().parent.parent
 KEPT = ROOT / "target/build"
 LOG = KEPT / "rt.log"
-# Lines of the log that are shown where a crate fails, and seconds between two lines where none is written over.
-SHOWN, EVERY = 40, 15
+# Lines of the log that are shown where a crate fails, of each sort, and seconds between two lines where none is written over.
+SHOWN, EVERY = 40, float(os.environ.get("PROGRESS_EVERY", "15"))
+# What rt writes of an item that is not proved, and why: the verdict, a note with the place, an error of a file.
+NOT_PROVED = re.compile(r"\w+ \S+: (?:no proof|not proved)\b|note: \S+:\d+:\d+: it is not proved\b|\S+:\d+:\d+: error\b")
 # `rt check` writes a line a function, where a build has one now and then, and what it proved is kept for the build. Both take some ten seconds more than the
 # build alone, so it is for crates of so many lines.
 LONG = 1000
@@ -104,7 +107,8 @@ class Screen:
     """The standard output: lines that stay, and the one of the crate at work."""
 
     def __init__(self):
-        self.is_terminal = sys.stdout.isatty()
+        # Where the standard output is closed there is none, and nothing is written.
+        self.is_terminal = bool(sys.stdout) and sys.stdout.isatty()
         self.last, self.shown = time.monotonic(), ""
 
     def stays(self, text):
@@ -117,6 +121,11 @@ class Screen:
             self.shown = text
         elif not self.is_terminal and time.monotonic() - self.last >= EVERY:
             self.stays(text)
+
+    def ends(self):
+        """Leaves the line that passes as it is, so that what comes next has one of its own."""
+        if self.is_terminal:
+            print(flush=True)
 
 
 def lines(run):
@@ -139,6 +148,8 @@ class Work:
     def __init__(self, crate, place, screen):
         self.crate, self.place, self.screen = crate, place, screen
         self.began, self.proved, self.of = time.monotonic(), 0, 0
+        # What rt was asked last, and wrote.
+        self.word, self.said = "", []
 
     def proofs(self, is_done):
         """How many functions are proved."""
@@ -163,12 +174,13 @@ class Work:
 
     def step(self, word, log):
         """Runs rt with this word in the crate's folder, and gives whether it passed."""
-        self.verdicts = 0
+        self.word, self.said, self.verdicts = word, [], 0
         log.write(f"== {self.crate.name}: rt {word}\n")
         how = {"stdin": subprocess.DEVNULL, "stdout": subprocess.PIPE, "stderr": subprocess.STDOUT}
         with subprocess.Popen(["rt", word], cwd=self.crate.folder, **how) as run:
             for line in lines(run):
                 if line:
+                    self.said.append(line)
                     log.write(f"{line}\n")
                     log.flush()
                     self.see(line)
@@ -184,20 +196,24 @@ class Work:
         return passed
 
 
-def failed(crate, screen):
-    screen.stays(f"build: failed: {crate.name}; the end of {LOG.relative_to(ROOT)}:")
-    for line in LOG.read_text(encoding="utf-8").splitlines()[-SHOWN:]:
-        print(f"    {line}")
+def failed(work):
+    """What rt wrote of a crate that failed: first what was not proved, since that stands far above the end."""
+    work.screen.ends()
+    unproved = [it for it in work.said if NOT_PROVED.match(it)]
+    begin = f"build: failed: {work.crate.name}, by rt {work.word}"
+    if unproved:
+        print(f"{begin}; what is not proved:", *unproved[:SHOWN], sep="\n    ", file=sys.stderr)
+    print(f"{begin}; the end of {LOG.relative_to(ROOT)}:", *work.said[-SHOWN:], sep="\n    ", file=sys.stderr)
     return 1
 
 
-def main(names):
+def main(names, screen):
     known = crates()
     if not names or not {*names} <= {*known}:
         sys.exit(__doc__)
     kit = subprocess.run(["rt", "version"], check=True, capture_output=True, text=True).stdout
     KEPT.mkdir(parents=True, exist_ok=True)
-    needed, screen = below(known, names), Screen()
+    needed = below(known, names)
     left = [it for it in needed if not is_built(known, it, kit)]
     if len(left) < len(needed):
         screen.stays(f"build: {len(needed) - len(left)} of {len(needed)} crates have not changed since they were built here")
@@ -207,14 +223,27 @@ def main(names):
         for crate in left:
             # Taken before, so that an edit in the meantime is not taken for what was built.
             files = sum_of_files(known, crate, kit)
-            if not Work(crate, f"crate {needed.index(crate) + 1} of {len(needed)}", screen).build(log):
-                return failed(crate, screen)
+            work = Work(crate, f"crate {needed.index(crate) + 1} of {len(needed)}", screen)
+            if not work.build(log):
+                return failed(work)
             (KEPT / f"{crate.name}.sum").write_text(f"{files} {sum_of_product(crate)}\n")
     return 0
 
 
-if __name__ == "__main__":
+def guarded(names):
+    """The status, also where the work is interrupted, or a file, the output or rt itself fails."""
+    screen = Screen()
     try:
-        sys.exit(main(sys.argv[1:]))
+        return main(names, screen)
     except KeyboardInterrupt:
-        sys.exit(130)
+        screen.ends()
+        return 130
+    except (OSError, subprocess.CalledProcessError) as fault:
+        print(f"build: failed: {fault}", file=sys.stderr)
+        # What the output did not take is not tried again at the end.
+        os.dup2(os.open(os.devnull, os.O_WRONLY), 1)
+        return 1
+
+
+if __name__ == "__main__":
+    sys.exit(guarded(sys.argv[1:]))

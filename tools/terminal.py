@@ -351,9 +351,11 @@ def wrong_way():
 def stack(folder):
     """With the stack that docs/COMMAND.md states, the drafts that nest deepest are read: one that is refused at its end, and one that is accepted."""
     kib = int(re.search(r"`ulimit -s (\d+)`", (ROOT / "docs/COMMAND.md").read_text(encoding="utf-8"))[1])
-    deepest = b"fn f(){" + 47 * (8 * b"match " + b"fold::B(") + 8 * b"match "
+    # As tools/stack.py has it, with numbers and blanks behind, for which the largest buffers are needed.
+    deepest = b"fn f(){" + 47 * (8 * b"match " + b"fold::<g,2>(") + 8 * b"match " + b"A::B"
+    refused_at, long = len(deepest) + 1, (deepest + 1200 * b" 1").ljust(16384)
     pairs = b"fn f(){" + 47 * b"(" + b"1" + 47 * b",1)" + b"}"
-    for draft, wanted in (deepest, (reading.report("deep.simf", deepest, 8, len(deepest)), "", 1)), (pairs, ("", "", 0)):
+    for draft, wanted in (long, (reading.report("deep.simf", long, 8, refused_at), "", 1)), (pairs, ("", "", 0)):
         open(os.path.join(folder, "deep.simf"), "wb").write(draft)
         done = subprocess.run([PROGRAM, "check", "deep.simf"], cwd=folder, capture_output=True, env={"TERM": "xterm"}, timeout=60,
                               preexec_fn=lambda: resource.setrlimit(resource.RLIMIT_STACK, (1024 * kib, 1024 * kib)))

@@ -1,8 +1,9 @@
 #!/usr/bin/env bash
-# All tests: generated files are what their scripts write, the first command's way to tell how far it is, the grammar's table beside Earley's method, then `rt ci` (every crate proved and in its layout, every
-# must-fail edit refused, every program run), that no edit is bad and each refused for a fact, then what stands on that: UTF-8 in comments beside Python's decoder, the machine code of the digit reader, the
-# definition of the answer beside the partner, the entry for C from C and from Rust, the drafts and listings of docs/REFUSALS.md, streams that fail, the command on its
-# cases, on terminals and on random drafts, the instructions of a reading beside the partner's, the comparison of the library with the partner.
+# All tests: generated files are what their scripts write, the first command's way to tell how far it is, the grammar's table beside Earley's method, then `rt
+# ci` (every crate proved and in its layout, every must-fail edit refused, every program run), that no edit is bad and each refused for a fact, then what
+# stands on that: UTF-8 in comments beside Python's decoder, the machine code of the digit reader, the definition of the answer beside the partner, the entry
+# for C from C and from Rust, the drafts and listings of docs/REFUSALS.md, streams that fail, the command on its cases, on terminals and on random drafts, the
+# instructions of a reading beside the partner's, the comparison of the library with the partner.
 # The last line, 'N passed, 0 failed', is printed only where everything passed.
 set -euo pipefail
 cd "$(dirname "$0")/.."

@@ -2,7 +2,7 @@
 
 /// What to do about refusal 8 where the draft ends too soon.
 #[rustfmt::skip]
-pub(crate) const AT_THE_END: &str = "close what is open: a bracket has no partner, or the last type no `;`";
+pub(crate) const AT_THE_END: &str = "finish what is open: a bracket has no partner, a function no block, or the last type no `;`";
 
 /// What to do about a refusal; nothing where no draft is refused by that number.
 #[rustfmt::skip]
@@ -15,7 +15,7 @@ pub(crate) fn advice(number: u32) -> &'static str {
         5 => "take another name",
         6 => "move some items into a file of their own; each file is a draft",
         7 => "give inner values a name by `let`, and use the name",
-        8 => "most often an arm lacks its comma, a `let` its type, or an element its `;`",
+        8 => "most often an arm lacks its comma, a `let` its type, or a statement its `;`",
         9 => "take a power of two, such as the next one; the largest is 9,223,372,036,854,775,808",
         10 => "write the number of the array's elements",
         11 => "write its arms, two that belong together, such as `None` and `Some`, or those of an enum",

@@ -23,9 +23,11 @@ pub(crate) fn complain(parts: &[&OsStr]) {
 
 /// Writes to standard error, and answers whether it could. Where that fails nobody can be told.
 pub(crate) fn warn(text: &[u8]) -> bool {
-    standard::file(io::stderr())
-        .and_then(|mut stream| stream.write_all(text))
-        .is_ok()
+    match standard::file(io::stderr()) {
+        Ok(mut stream) => stream.write_all(text).is_ok(),
+        // No descriptor is left.
+        Err(_) => io::stderr().write_all(text).is_ok(),
+    }
 }
 
 /// What the system says, without the number of the error.

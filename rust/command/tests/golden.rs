@@ -212,20 +212,26 @@ fn the_version_is_the_packages() {
 /// How help is worded is free; that it names what can be called, on standard output, and ends well, is not.
 #[test]
 fn help_names_the_calls() {
+    let program = ["togmelic", "check", "tree", "list", "--version, -V"];
     let calls: [(&[&str], &[&str]); 8] = [
+        (&["--help"], &program),
+        (&["-h"], &program),
         (
-            &["--help"],
-            &["togmelic", "check", "tree", "list", "--version"],
+            &["check", "--help"],
+            &["togmelic check", "\n  --color=WHEN ", "FILE"],
         ),
-        (&["-h"], &["togmelic", "check", "tree", "list", "--version"]),
-        (&["check", "--help"], &["togmelic check", "--color", "FILE"]),
-        (&["list", "-h"], &["togmelic list", "FILE"]),
-        (&["tree", "--help"], &["togmelic tree", "--color", "--json"]),
+        (&["list", "-h"], &["togmelic list", "\n  --help, -h "]),
+        (
+            &["tree", "--help"],
+            &["togmelic tree", "\n  --color=WHEN ", "\n  --json "],
+        ),
         (&["list", "--help"], &["togmelic list", "FILE"]),
         // Arguments are taken in order, so what is wrong behind it is not looked at, nor is a file.
         (&["check", "--help", "--colour"], &["togmelic check"]),
         (&["tree", "missing.simf", "--help"], &["togmelic tree"]),
     ];
+    // All say these: the options that all have, and the status.
+    let all = ["--help, -h", "0 where every", "1 where some", "2 where the"];
     for (args, shown) in calls {
         let done = Command::new(env!("CARGO_BIN_EXE_togmelic"))
             .args(args)
@@ -233,7 +239,7 @@ fn help_names_the_calls() {
             .expect("the program runs");
         let text = String::from_utf8(done.stdout).expect("UTF-8");
         assert!(
-            shown.iter().all(|word| text.contains(word)),
+            all.iter().chain(shown).all(|word| text.contains(word)),
             "{args:?}: {text}"
         );
         let fits = |line: &str| line == line.trim_end() && line.chars().count() <= 80;

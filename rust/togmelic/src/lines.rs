@@ -76,7 +76,8 @@ fn words(line: &[u8]) -> Option<[u32; RECORD_WORDS]> {
         let digits = fields.next().filter(|digits| digits.len() == width)?;
         *word = hexadecimal(digits)?;
     }
-    fields.next().is_none().then_some(words)
+    // Seven fields of these widths, with blanks between, fill the line.
+    Some(words)
 }
 
 /// The value of at most eight digits, each 0 to 9 or A to F; `None` where one is another byte.

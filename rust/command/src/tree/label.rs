@@ -138,8 +138,8 @@ fn path(draft: &[u8], tree: &[Record], at: usize) -> Cow<'static, str> {
 fn called(draft: &[u8], tree: &[Record], at: usize) -> Cow<'static, str> {
     let call = tree[at].call();
     let word = call.map_or("", Call::name);
-    let child = tree.get(at + 1).filter(|next| next.up == 1);
-    match child.filter(|child| child.kind == Kind::Name) {
+    // A name stands behind a call only as its child.
+    match tree.get(at + 1).filter(|next| next.kind == Kind::Name) {
         Some(name) => {
             let name = text(draft, name);
             format!("{word} {}", behind_colons(name)).into()
