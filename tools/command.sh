@@ -6,33 +6,21 @@
 # by an absolute path.
 set -euo pipefail
 cd "$(dirname "$0")/.."
-export CARGO_TARGET_DIR=$PWD/target/rust
-built=$CARGO_TARGET_DIR/release
-work=$(mktemp -d)
-trap 'rm -rf "$work"' EXIT
+source tools/steps.sh
 
-step() {
+# A script of the command's, which writes what it has seen, or what is wrong.
+look() {
     local name=$1
     shift
-    "$@" > "$work/log" 2>&1 || { cat "$work/log"; echo "command: failed: $name" >&2; exit 1; }
-}
-cargo_step() {
-    local command=$1
-    shift
-    step "cargo $command" cargo "$command" --manifest-path rust/Cargo.toml --offline --release --quiet "$@"
+    step "$name" python3 "tools/$name" "$@" | sed 's/^/command: /'
 }
 
 cargo_step build --package togmelic-command --package partner
-cargo_step test --package togmelic-command
-awk '/^test result: ok/ { n += $4 } END { print "command: tests: " n " passed"; exit !n }' "$work/log"
-step command_cases.py python3 tools/command_cases.py --check "$built/partner"
-sed 's/^/command: /' "$work/log"
-step terminal.py python3 tools/terminal.py "$built/togmelic" "$built/partner"
-sed 's/^/command: /' "$work/log"
-step command_drafts.py python3 tools/command_drafts.py 1 60 "$built/togmelic" "$built/partner"
-sed 's/^/command: /' "$work/log"
 cargo_step build --package togmelic --example kinds
-step readme.py python3 tools/readme.py --command "$built/togmelic" "$built/examples/kinds"
-sed 's/^/command: /' "$work/log"
+cargo_tests togmelic-command
+look command_cases.py --check "$built/partner"
+look terminal.py "$built/togmelic" "$built/partner"
+look command_drafts.py 1 60 "$built/togmelic" "$built/partner"
+look readme.py --command "$built/togmelic" "$built/examples/kinds"
 cases=(rust/command/tests/golden/*/)
 echo "command: ${#cases[@]} cases"

@@ -10,26 +10,11 @@ set -euo pipefail
 cd "$(dirname "$0")/.."
 seed=${1:-1}
 count=${2:-20000}
-export CARGO_TARGET_DIR=$PWD/target/rust
-built=$CARGO_TARGET_DIR/release
-work=$(mktemp -d)
-trap 'rm -rf "$work"' EXIT
-
-step() {
-    local name=$1
-    shift
-    "$@" || { echo "compare: failed: $name" >&2; exit 1; }
-}
-cargo_step() {
-    local command=$1
-    shift
-    step "cargo $command" cargo "$command" --manifest-path rust/Cargo.toml --offline --release --quiet "$@"
-}
+source tools/steps.sh
 
 cargo_step build --workspace
 echo "compare: built"
-(cargo_step test --package togmelic --package partner) > "$work/tests" || { cat "$work/tests"; exit 1; }
-awk '/^test result: ok/ { n += $4 } END { print "compare: tests: " n " passed"; exit !n }' "$work/tests"
+cargo_tests togmelic partner
 step self-test "$built/partner" --self-test | sed 's/^/compare: partner: /'
 step compare "$built/compare" bytes lexemes utf8 limits faults files shapes | tee "$work/totals" | grep -v total
 for kind in shaped damaged tokens files damaged-files comments; do
