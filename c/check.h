@@ -34,7 +34,8 @@ static int finish(const char *name)
 /* Units behind a lent buffer that no call may touch, and what each of its bytes is before. */
 enum { GUARD = 64, FILL = 0xAA };
 
-/* The lines of the example, `fn f(){match b{true=>1,false=>2,}}`. */
+/* The example of document 01, its lines, */
+static const char EXAMPLE[] = "fn f(){match b{true=>1,false=>2,}}";
 static const char EXAMPLE_LINES[] =
     "29 0000 0022 00000000 00000000 000A 0000\n"
     "01 0000 0022 00000000 00000000 0009 0001\n"
@@ -47,7 +48,20 @@ static const char EXAMPLE_LINES[] =
     "25 000F 0017 00000006 00000000 0002 0004\n"
     "18 0015 0016 00000000 00000000 0001 0001\n";
 enum { EXAMPLE_COUNT = 10, EXAMPLE_BYTES = EXAMPLE_COUNT * TOGMELIC_LINE, SHORT_BYTES = EXAMPLE_COUNT * TOGMELIC_SHORT_LINE };
-/* The lines of a draft that is refused with 8 at 11, and of the empty draft. */
+/* and its records: seven words for each of its lines. */
+enum { EXAMPLE_WORDS = EXAMPLE_COUNT * TOGMELIC_RECORD_WORDS };
+static const uint32_t EXAMPLE_RECORDS[EXAMPLE_WORDS] = {
+    41, 0, 34, 0, 0, 10, 0, /* program */
+    1, 0, 34, 0, 0, 9, 1, /* function */
+    2, 3, 4, 0, 0, 1, 1, /* name */
+    18, 6, 34, 1, 0, 7, 2, /* block */
+    35, 7, 33, 0, 0, 6, 1, /* match */
+    29, 13, 14, 0, 0, 1, 1, /* variable */
+    37, 23, 32, 5, 0, 2, 2, 24, 30, 31, 0, 0, 1, 1, /* arm, decimal */
+    37, 15, 23, 6, 0, 2, 4, 24, 21, 22, 0, 0, 1, 1, /* arm, decimal */
+};
+/* Document 01: `fold(x)` in braces after the head is refused with 8 at 11. Document 02, order 3: an empty file is accepted. */
+static const char REFUSED[] = "fn f(){fold(x)}";
 static const char REFUSED_LINE[] = "00 000B 000B 00000008 00000000 0001 0000\n";
 static const char EMPTY_LINE[] = "29 0000 0000 00000000 00000000 0001 0000\n";
 

@@ -78,7 +78,7 @@ int main(int argc, char **argv)
         return failed("reading failed");
     }
     if (argc <= 1) {
-        /* Lines may be of either form, and of the shorter there are more. */
+        /* Lines may be of any of the three forms, and of the shortest there are most. */
         words_length = length / TOGMELIC_SHORT_LINE * TOGMELIC_RECORD_WORDS;
     }
     /* calloc, since it sees where the bytes are more than a size_t holds; and never 0 words, for which it may give NULL. */

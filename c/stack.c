@@ -1,6 +1,6 @@
 /*
- * How many bytes of stack togmelic_list takes for the draft on standard input, and the first line that it writes. It is called in a thread whose stack was
- * filled before, and what was written over is counted.
+ * How many bytes of stack a call takes for the draft on standard input, and the first line that it writes: of togmelic_list, or with the argument `large` of
+ * togmelic_list_large. It is called in a thread whose stack was filled before, and what was written over is counted.
  */
 #define _POSIX_C_SOURCE 200809L
 
@@ -13,11 +13,12 @@
 
 #define STACK (1 << 20)
 #define FILL 0xA5
-/* No draft is longer; of a longer one nothing more need be read. */
-#define DRAFT 16385
 
-static unsigned char draft[DRAFT];
-static unsigned char lines[TOGMELIC_MOST_BYTES];
+/* No draft is longer; of a longer one nothing more need be read. The buffers are enough for every draft, at either entry. */
+static unsigned char draft[TOGMELIC_LARGE_DRAFT + 1];
+static uint32_t tokens[TOGMELIC_LARGE_TOKEN_WORDS];
+static uint32_t tree[TOGMELIC_LARGE_TREE_WORDS];
+static unsigned char lines[TOGMELIC_LARGE_BYTES];
 static size_t length;
 static const unsigned char *top;
 
@@ -26,12 +27,22 @@ static void *list(void *unused)
     unsigned char here = FILL;
 
     top = &here;
-    togmelic_list(draft, length, lines, sizeof lines);
+    togmelic_list(draft, length, lines, TOGMELIC_MOST_BYTES);
     return unused;
 }
 
-int main(void)
+static void *list_large(void *unused)
 {
+    unsigned char here = FILL;
+
+    top = &here;
+    togmelic_list_large(draft, length, tokens, TOGMELIC_LARGE_TOKEN_WORDS, tree, TOGMELIC_LARGE_TREE_WORDS, lines, sizeof lines);
+    return unused;
+}
+
+int main(int argc, char **argv)
+{
+    int large = argc > 1 && strcmp(argv[1], "large") == 0;
     unsigned char *stack = NULL;
     const unsigned char *low;
     pthread_attr_t attributes;
@@ -42,11 +53,11 @@ int main(void)
         return 2;
     memset(stack, FILL, STACK);
     if (pthread_attr_init(&attributes) != 0 || pthread_attr_setstack(&attributes, stack, STACK) != 0 ||
-        pthread_create(&thread, &attributes, list, NULL) != 0 || pthread_join(thread, NULL) != 0)
+        pthread_create(&thread, &attributes, large ? list_large : list, NULL) != 0 || pthread_join(thread, NULL) != 0)
         return 2;
     for (low = stack; *low == FILL; low++)
         ;
-    printf("%zu %.40s\n", (size_t)(top - low), (const char *)lines);
+    printf("%zu %.48s\n", (size_t)(top - low), (const char *)lines);
     free(stack);
     return 0;
 }

@@ -33,10 +33,6 @@ static int listed(const char *draft, const char *lines)
     return lists(draft, strlen(draft), TOGMELIC_MOST_BYTES, lines);
 }
 
-static const char EXAMPLE[] = "fn f(){match b{true=>1,false=>2,}}";
-/* Document 01: `fold(x)` in braces after the head is refused with 8 at 11. Document 02, order 3: an empty file is accepted. */
-static const char REFUSED[] = "fn f(){fold(x)}";
-
 static void test_constants(void)
 {
     CHECK(TOGMELIC_LINE == 41 && TOGMELIC_SHORT_LINE == 36);

@@ -1,18 +1,6 @@
 /* Calls togmelic_load. Every expected word is written out from documents 01 and 02. */
 #include "check.h"
 
-/* The example's records: seven words for each of its lines. */
-enum { EXAMPLE_WORDS = EXAMPLE_COUNT * TOGMELIC_RECORD_WORDS };
-static const uint32_t EXAMPLE_RECORDS[EXAMPLE_WORDS] = {
-    41, 0, 34, 0, 0, 10, 0, /* program */
-    1, 0, 34, 0, 0, 9, 1, /* function */
-    2, 3, 4, 0, 0, 1, 1, /* name */
-    18, 6, 34, 1, 0, 7, 2, /* block */
-    35, 7, 33, 0, 0, 6, 1, /* match */
-    29, 13, 14, 0, 0, 1, 1, /* variable */
-    37, 23, 32, 5, 0, 2, 2, 24, 30, 31, 0, 0, 1, 1, /* arm, decimal */
-    37, 15, 23, 6, 0, 2, 4, 24, 21, 22, 0, 0, 1, 1, /* arm, decimal */
-};
 static uint32_t words[2 * EXAMPLE_WORDS + GUARD];
 
 /* Whether a listing gets these records, or none with this refusal, in words_length words, prefilled. */
@@ -114,6 +102,81 @@ static void test_forms(void)
     CHECK(loads("29 0000 0000 00000000 00000000 0001\n0000\n", TOGMELIC_LINE, EXAMPLE_WORDS, 16, 2));
 }
 
+/* The lines with six digits for start, end, size and way up: two zeros before each; answers how many bytes they are. */
+static size_t lengthened(char *listing, const char *lines)
+{
+    static const size_t before[] = {3, 8, 31, 36};
+    size_t line, field, length = 0;
+    for (line = 0; line < strlen(lines); line += TOGMELIC_LINE) {
+        size_t from = 0;
+        for (field = 0; field < 4; field++) {
+            memcpy(listing + length, lines + line + from, before[field] - from);
+            length += before[field] - from;
+            memcpy(listing + length, "00", 2);
+            length += 2;
+            from = before[field];
+        }
+        memcpy(listing + length, lines + line + from, TOGMELIC_LINE - from);
+        length += TOGMELIC_LINE - from;
+    }
+    return length;
+}
+
+/* Document 02, order 9: lines of 49 bytes, where a number needs them; else 16 at line 1, once all lines are in form and before 17 and 18. */
+static void test_long_lines(void)
+{
+    enum { LONG_BYTES = EXAMPLE_COUNT * TOGMELIC_LONG_LINE };
+    static const char form[] = "hh hhhhhh hhhhhh hhhhhhhh hhhhhhhh hhhhhh hhhhhh\n";
+    static const uint32_t longest[TOGMELIC_RECORD_WORDS] = {TOGMELIC_PROGRAM, 0, 16777215, 0, 0, 1, 0};
+    char listing[LONG_BYTES + TOGMELIC_LONG_LINE];
+    uint32_t records[EXAMPLE_WORDS];
+    size_t length, at;
+    int byte;
+    CHECK(lengthened(listing, EXAMPLE_LINES) == LONG_BYTES);
+    CHECK(loads(listing, LONG_BYTES, EXAMPLE_WORDS, 16, 1));
+    CHECK(loads(listing, LONG_BYTES, 0, 16, 1));
+    CHECK(loads(listing, LONG_BYTES - TOGMELIC_LONG_LINE, EXAMPLE_WORDS, 16, 1));
+    CHECK(loads(listing, LONG_BYTES - 1, EXAMPLE_WORDS, 16, EXAMPLE_COUNT));
+    /* The program is that of a draft of 65,536 bytes. */
+    memcpy(listing + 10, "010000", 6);
+    memcpy(records, EXAMPLE_RECORDS, sizeof records);
+    records[2] = 65536;
+    for (length = 0; length <= 2 * EXAMPLE_WORDS; length++) {
+        int short_of = length < EXAMPLE_WORDS;
+        CHECK(answers(listing, LONG_BYTES, length, records, short_of ? 0 : EXAMPLE_COUNT, short_of ? 18 : 0, 0));
+    }
+    for (length = 0; length < LONG_BYTES; length++) {
+        int whole = length % TOGMELIC_LONG_LINE == 0;
+        CHECK(loads(listing, length, EXAMPLE_WORDS, whole ? 17 : 16, whole ? 0 : length / TOGMELIC_LONG_LINE + 1));
+    }
+    /* A line of another form behind the first, and long lines behind another. */
+    memcpy(listing + TOGMELIC_LONG_LINE, EXAMPLE_LINES + TOGMELIC_LINE, TOGMELIC_LINE);
+    CHECK(loads(listing, TOGMELIC_LONG_LINE + TOGMELIC_LINE, EXAMPLE_WORDS, 16, 2));
+    lengthened(listing + TOGMELIC_LINE, EXAMPLE_LINES + TOGMELIC_LINE);
+    memcpy(listing, EXAMPLE_LINES, TOGMELIC_LINE);
+    CHECK(loads(listing, TOGMELIC_LINE + TOGMELIC_LONG_LINE, EXAMPLE_WORDS, 16, 2));
+    mixed(listing, 1);
+    lengthened(listing + TOGMELIC_SHORT_LINE, EXAMPLE_LINES + TOGMELIC_LINE);
+    CHECK(loads(listing, TOGMELIC_SHORT_LINE + TOGMELIC_LONG_LINE, EXAMPLE_WORDS, 16, 2));
+    /* The largest end; what is no file is 17, and so is a refusal's line. */
+    CHECK(answers("29 000000 FFFFFF 00000000 00000000 000001 000000\n", TOGMELIC_LONG_LINE, TOGMELIC_RECORD_WORDS, longest, 1, 0, 0));
+    CHECK(loads("29 000000 FFFFFF 00000000 00000000 000002 000000\n", TOGMELIC_LONG_LINE, TOGMELIC_RECORD_WORDS, 17, 0));
+    CHECK(loads("00 010000 010000 00000008 00000000 000001 000000\n", TOGMELIC_LONG_LINE, TOGMELIC_RECORD_WORDS, 17, 0));
+    CHECK(loads("00 00FFFF 00FFFF 00000008 00000000 000001 000000\n", TOGMELIC_LONG_LINE, TOGMELIC_RECORD_WORDS, 16, 1));
+    /* Every byte in every column of the last line. */
+    lengthened(listing, EXAMPLE_LINES);
+    memcpy(listing + 10, "010000", 6);
+    for (at = 0; at < TOGMELIC_LONG_LINE; at++) {
+        char *changed = listing + LONG_BYTES - TOGMELIC_LONG_LINE + at, kept = *changed;
+        for (byte = 0; byte < 256; byte++) {
+            int digit = byte != 0 && strchr("0123456789ABCDEF", byte) != NULL;
+            *changed = (char)byte;
+            CHECK(loads(listing, LONG_BYTES, EXAMPLE_WORDS, 16, EXAMPLE_COUNT) == (form[at] == 'h' ? !digit : byte != form[at]));
+        }
+        *changed = kept;
+    }
+}
+
 /* Document 02, order 7: from a record to what holds it, and wrong words. */
 static void test_ways_up(void)
 {
@@ -209,6 +272,7 @@ int main(void)
 {
     test_loading();
     test_forms();
+    test_long_lines();
     test_ways_up();
     test_loading_functions();
     test_loading_files();

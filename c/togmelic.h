@@ -14,14 +14,27 @@ extern "C" {
 #define TOGMELIC_LINE 41
 /* Bytes of a line as it was written before records had the way up; togmelic_load takes such lines too. */
 #define TOGMELIC_SHORT_LINE 36
-/* No draft has more lines: one for each of 2,048 tokens at most, and the program's. */
+/* Bytes of a line of togmelic_list_large where four digits do not hold every start, end, size and way up of its listing. */
+#define TOGMELIC_LONG_LINE 49
+/* togmelic_list: no draft has more lines, one for each of 2,048 tokens at most, and the program's. */
 #define TOGMELIC_MOST_LINES 2049
-/* A buffer of so many bytes is enough for every draft. */
+/* togmelic_list: a buffer of so many bytes is enough for every draft. */
 #define TOGMELIC_MOST_BYTES (TOGMELIC_LINE * TOGMELIC_MOST_LINES)
 /* Words of a record: kind, start, end, low, high, size, and the way up, which togmelic_load explains. */
 #define TOGMELIC_RECORD_WORDS 7
 /* Which of them, from 0, is the way up. */
 #define TOGMELIC_UP 6
+/* Words of a token: kind, start, end. */
+#define TOGMELIC_TOKEN_WORDS 3
+
+/* The large limits, those of togmelic_list_large: bytes and tokens of a draft, and no draft has more lines. */
+#define TOGMELIC_LARGE_DRAFT 1048576
+#define TOGMELIC_LARGE_TOKENS 131072
+#define TOGMELIC_LARGE_LINES (TOGMELIC_LARGE_TOKENS + 1)
+/* What is enough there for every draft: words for its tokens, words for its tree, and bytes for its listing. */
+#define TOGMELIC_LARGE_TOKEN_WORDS (TOGMELIC_TOKEN_WORDS * TOGMELIC_LARGE_TOKENS)
+#define TOGMELIC_LARGE_TREE_WORDS (TOGMELIC_RECORD_WORDS * TOGMELIC_LARGE_LINES)
+#define TOGMELIC_LARGE_BYTES (TOGMELIC_LONG_LINE * TOGMELIC_LARGE_LINES)
 
 /* Made by tools/kinds.py, up to the line that says so: the numbers of docs/KINDS.md. */
 /* Kinds of records: the first word of each, and in hexadecimal the first number of its line. */
@@ -121,7 +134,7 @@ extern "C" {
 
 /*
  * Lists a draft, a file of any number of functions and types: writes its lines into out and returns the bytes used, 41
- * times the lines.
+ * times the lines. It takes drafts of up to 16,384 bytes and 2,048 tokens; for larger ones there is togmelic_list_large.
  *
  * An accepted draft has one line a record, a parent before its children:
  *
@@ -165,6 +178,68 @@ extern "C" {
  */
 size_t togmelic_list(const unsigned char *draft, size_t draft_length, unsigned char *out, size_t out_length);
 
+/*
+ * Lists a draft as togmelic_list does, with other limits and in buffers for the tokens and the tree that are lent as well:
+ * writes its lines into out and returns the bytes used. It takes drafts of up to 1,048,576 bytes and 131,072 tokens; the
+ * other limits, 48 open brackets and 8 match in a row, are the same. Take it for contracts that a program generates, and
+ * wherever the tokens or the records are wanted too: they stand in tokens and tree afterwards, so a server that reads such
+ * drafts needs no Rattle, and loads nothing. togmelic_list is not changed by it.
+ *
+ * A draft of n bytes needs no more than
+ *
+ *     tokens  3 * min(n, 131072) words
+ *     tree    7 * (min(n, 131072) + 1) words
+ *     out     41 * (min(n, 131072) + 1) bytes where n is less than 65,536, else 49 * (min(n, 131072) + 1)
+ *
+ * TOGMELIC_LARGE_TOKEN_WORDS, TOGMELIC_LARGE_TREE_WORDS and TOGMELIC_LARGE_BYTES, 12 million bytes together, are enough for
+ * every draft. Every word and byte that is lent is written, so lend what is needed: of longer buffers the rest is cleared
+ * at every call.
+ *
+ * The lines are those that togmelic_list writes, above, in one of two forms, and all lines of a listing are of one:
+ *
+ *     25 01B6 0207 00000004 00000000 0009 0006
+ *     25 0001B6 000207 00000004 00000000 000009 000006
+ *
+ * Where any start, end, size or way up in it is 65,536 or more, which four digits do not hold, every line of the listing
+ * has six digits for each of these four numbers, and 49 bytes, TOGMELIC_LONG_LINE. Every other listing has lines of 41
+ * bytes. A draft of less than 65,536 bytes never has a listing in the long form, and an accepted draft of as many or more
+ * always does, since the end in its first line is its length. The first line tells the form: it has 49 bytes and not 41,
+ * its LF counted, and its byte 7, counted from 0, is a digit and not a space. There are as many lines as the bytes used
+ * divided by 41 or by 49. togmelic_load takes both forms.
+ *
+ * A refused draft has one line, as with togmelic_list, of 49 bytes where its place is 65,536 or more. The place of refusal 1
+ * is 1,048,576, and that of 6 the first token too many: over 131,072, or over a third of the words of tokens, since each
+ * needs three of them. 15 is given where tree has less than seven words for each record; its place is 0. So a buffer for
+ * tokens or tree that is too short is a refusal, written as a line, of a draft that may be fine. Lend as many words as are
+ * said above, and 6 and 15 are never about a buffer.
+ *
+ * Of an accepted draft tokens holds the tokens afterwards, three words each and in the order of the draft: kind, start,
+ * and end, the byte after. Kinds are 1 to 36; docs/LANGUAGE.md, "Bytes and lexemes", has them. tree holds the records,
+ * seven words each, the same words as togmelic_load gives for these lines. Every word behind them is zero, and no kind is,
+ * so tokens and records end where a kind is 0 or the buffer ends. How many records there are is the number of lines, and
+ * also tree[5], the size of the first record, which is the program's. Where the draft is refused, every word of tokens
+ * and of tree is zero, so tree[0], where there is one, tells too whether the draft is accepted.
+ *
+ * Every byte of out behind the lines is set to zero. Returns 0 only where the lines do not fit; then every byte of out is
+ * zero, and tokens and tree are as they are with an out that is long enough. So whoever wants the records alone may lend
+ * an out of TOGMELIC_LONG_LINE bytes, in which the line of every refusal fits, and look at tree[0].
+ *
+ * The draft may be any bytes of any length. draft_length and out_length count bytes, tokens_length and tree_length count
+ * words, and each pointer must be good for its length; it may be NULL only where that length is 0. tokens and tree must
+ * be aligned for uint32_t. What the lent buffers held before the call does not matter. The draft must not change during
+ * the call: copy a file that is mapped into memory first, unless no one can write to it.
+ *
+ * No two of the four buffers may overlap, since the proof and the compiler take it that they do not. Where two of them do,
+ * nothing is promised: neither the answer, nor that memory outside of them is left alone. tokens and tree may be
+ * parts of one array, one behind the other.
+ *
+ * The answer depends on the draft and on the lengths of the three other buffers alone. Nothing is allocated, and nothing is
+ * kept: calls may be made from several threads at once, each with buffers of its own. A call takes up to 320,000 bytes
+ * of stack, however long the draft is, so give its thread 1 MiB.
+ */
+size_t togmelic_list_large(const unsigned char *draft, size_t draft_length, uint32_t *tokens, size_t tokens_length,
+                           uint32_t *tree, size_t tree_length, unsigned char *out, size_t out_length);
+
 /* Why a listing is refused, and at which line, each a size_t; both are 0 where it is not. */
 struct togmelic_refusal {
     /* 16, 17 or 18. */
@@ -191,39 +266,44 @@ struct togmelic_refusal {
  * It ends, and stays in words, for every at that is less than the number of records.
  *
  * The first record is a program or a function, and its kind, words[0], tells which: TOGMELIC_PROGRAM in what
- * togmelic_list writes; TOGMELIC_FUNCTION in a listing of one function alone, such as those that were kept before files
- * were read.
+ * togmelic_list and togmelic_list_large write; TOGMELIC_FUNCTION in a listing of one function alone, such as those that
+ * were kept before files were read.
  *
- * A listing has lines of 41 bytes, as togmelic_list writes them, or all its lines are of 36: those that were kept before
- * records had the way up, five bytes shorter, with LF behind the size. The way up is worked out then, and the words are
- * those of the same records in lines of 41.
+ * All lines of a listing are of one form, and there are three: of 41 bytes, as togmelic_list writes them; of 49, as
+ * togmelic_list_large writes those of which a start, an end, a size or a way up is 65,536 or more; and of 36, those that were kept
+ * before records had the way up, five bytes shorter than 41, with LF behind the size. The way up is worked out then, and
+ * the words are those of the same records in lines of 41.
  *
- * listing_length / TOGMELIC_SHORT_LINE * TOGMELIC_RECORD_WORDS words are always enough, for either form; for what
- * togmelic_list wrote, TOGMELIC_MOST_LINES * TOGMELIC_RECORD_WORDS are. Any other listing that is taken has at most 65,535
- * lines, which is what the four digits of a size can count.
+ * listing_length / TOGMELIC_SHORT_LINE * TOGMELIC_RECORD_WORDS words are always enough, for every form; for what
+ * togmelic_list wrote, TOGMELIC_MOST_LINES * TOGMELIC_RECORD_WORDS are, and for what togmelic_list_large wrote,
+ * TOGMELIC_LARGE_TREE_WORDS. Any other listing that is taken has at most 65,535 lines, or 16,777,215 of 49 bytes, which is
+ * what the digits of a size can count.
  *
  * Only a listing whose records form one file or one function is taken. Else 0 is returned, and *refusal has the first
  * of these that is so:
  *
- *     16  a line is in neither form, its last byte, LF, included, or in another than the first line is; the line is the
- *         first such. Lines are counted in the form of the first; where it is in neither, it is line 1 itself
+ *     16  a line is in none of the three forms, its last byte, LF, included, or in another than the first line is; the
+ *         line is the first such. Lines are counted in the form of the first; where it is in none, it is line 1 itself.
+ *         Or all lines are of 49 bytes, in form, and no start, end, size or way up is over 65,535, so that lines of 41
+ *         would hold them, and only those are written; it is line 1 then
  *     17  the lines form neither one file nor one function: there are none, or it is a refusal's line, or two listings
  *         stand one behind the other, or a record's kind, low, high and children are not as docs/KINDS.md has them,
  *         two built-in arms are not in the order Left, None or False first, a size is not one more than those of the
  *         children, a program does not start at 0, any other start is not before its end, a child's place is not inside
- *         its parent's, or the way up in a line of 41 bytes does not lead to the parent, or is not 0 in the first line,
- *         as where the lines of one function are cut out of those of its file (docs/REFUSALS.md, 17)
+ *         its parent's, or the way up in a line of 41 or 49 bytes does not lead to the parent, or is not 0 in the
+ *         first line, as where the lines of one function are cut out of those of its file (docs/REFUSALS.md, 17)
  *     18  words is too short
  *
  * No draft is at hand, so a listing may be taken that is not your draft's, or no draft's at all: an end may be up to
- * 65,535, and the places of siblings may overlap. See that an end is within the draft before you cut a text out of it.
+ * 65,535, or 16,777,215 in lines of 49 bytes, and the places of siblings may overlap. See that an end is within the draft
+ * before you cut a text out of it.
  *
  * Every word of words behind the records is set to zero, and where the listing is refused every word is. A file and a
  * function each have a record, also a file without items, so 0 is returned only where *refusal has a number: either one
  * tells the answer, and no word of a refused listing can be taken for a record.
  *
  * The listing may be any bytes of any length, such as those of a file, but no more than its lines: with the zeros that
- * togmelic_list puts behind them it is refused. listing_length counts bytes, words_length counts words, and each
+ * the two others put behind them it is refused. listing_length counts bytes, words_length counts words, and each
  * pointer must be good for its length; it may be NULL only where that length is 0. words must be aligned for uint32_t.
  * refusal must not be NULL; what it held before the call does not matter. The listing must not change during the call,
  * which reads each byte more than once: copy a file that is mapped into memory first, unless no one can write to it.

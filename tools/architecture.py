@@ -46,11 +46,11 @@ class Crate(NamedTuple):
 
 CRATES = {
     "listing": Crate("entries", "program", 0, 52, "the listing program: reads a draft, writes its lines", "main", "Within"),
-    "togmelic": Crate("entries", "library", 0, 52, "the library for C: togmelic_list is list_draft, togmelic_load is load_listing", "lib",
+    "togmelic": Crate("entries", "library", 0, 52, "the library for C: togmelic_list, togmelic_list_large and togmelic_load, over those of reader", "lib",
                       "reader:Listed reader:Loading"),
-    "reader": Crate("reader", "reader", 0, 60, "read and read_file: a draft to its tokens and records; list_draft: a draft to its listing;\n"
+    "reader": Crate("reader", "reader", 0, 60, "read and read_file: a draft to its tokens and records; list_draft, list_large: to its listing;\n"
                     "load_listing: a listing to its records; all are put together from the steps", "lib entry loading",
-                    "Read Listed Loading grammar:Answers/Promised", "Laws Fits Restored"),
+                    "Read Listed Loading grammar:Answers/Promised", "Laws Fits BothLimits Restored"),
     "utf8": Crate("lexer", "below", 0, 52, "the length of the UTF-8 sequence at a place", "lib", "Utf8 Octets", "Laws"),
     "words": Crate("lexer", "below", 60, 52, "which word of a table a part of a draft is", "lib", "Words", "Right"),
     "lexer": Crate("lexer", "data", 0, 126, "bytes to tokens within the limits, or refusal 1 to 7 or 21; which class each token has for the rules",
@@ -64,7 +64,7 @@ CRATES = {
     "turn": Crate("parse", "right", 0, 40, "exchanges two parts", "lib"),
     "own": Crate("up", "below", 7, 58, "record trees: their kinds, and who owns a token", "", "Law File Tree Kinds", "Rules FileLaws"),
     "up": Crate("up", "data", 0, 72, "gives each record its way up: how many records back its parent begins", "lib", "Ways Ups", "Parents"),
-    "lines": Crate("lines", "data", 0, 72, "records to lines in a lent buffer, 41 bytes a record", "lib write", "Lines Form Written"),
+    "lines": Crate("lines", "data", 0, 72, "records to lines in a lent buffer, 41 or 49 bytes a record", "lib write", "Lines Form Written"),
     "kinds": Crate("lines", "below", 3, 66, "the table of kinds: what a record of a kind may own and hold", "lib", "Rules Decide Groups", "Laws"),
     "num": Crate("load", "below", 14, 66, "numbers of digit runs; bounds, sizes, lengths: with no multiply", "lib", "Value Digits Bound"),
     "load": Crate("load", "data", 0, 84, "lines to records, their ways up worked out, or refusal 16 to 18, with the first line that is bad", "lib",
@@ -104,7 +104,7 @@ CALLS = {("the command togmelic", "the wrapper"): "R33 L33", ("the comparison", 
          ("the wrapper", "togmelic"): "B97 T97", ("programs in C", "togmelic"): "B97 T533"}
 # The data: what flows from crate to crate; `shapes` are in the definitions alone.
 DATA = {
-    "a draft": ("bytes", "flow", "bytes, 16,384 at most"), "tokens": ("tokens", "flow", "kind, start and end"),
+    "a draft": ("bytes", "flow", "bytes, within the limits"), "tokens": ("tokens", "flow", "kind, start and end"),
     "records": ("records", "flow", "the ways up are still 0"), "records with ways up": ("ways", "flow", "seven words each"),
     "a listing": ("listing", "flow", "lines, shown or kept"), "the same records": ("loaded", "flow", "without the draft"),
     "shapes": ("records", "meaning", "in the definitions alone"),

@@ -22,8 +22,8 @@ PAPER = ["crates/" + part for part in ("text", "utf8", "words", "lexer", "theory
 PROMISES = [
     ("read", 1950, [("crates/grammar/specs/Answers/Promised.antt", "Promised"), ("crates/reader/specs/Read.antt", "meant"),
                     ("crates/reader/specs/Read.antt", "returned"), ("crates/grammar/specs/Entry.antt", "single_function"),
-                    ("crates/grammar/specs/Entry.antt", "whole_file"), ("crates/lexer/specs/Limits.antt", "draft_limits")]),
-    ("load", 890, [("crates/load/specs/Promised.antt", "Loads"), ("crates/load/specs/Meant.antt", "meant"), ("crates/load/specs/Meant.antt", "returned")]),
+                    ("crates/grammar/specs/Entry.antt", "whole_file"), ("crates/lexer/specs/Limits.antt", "large_limits")]),
+    ("load", 930, [("crates/load/specs/Promised.antt", "Loads"), ("crates/load/specs/Meant.antt", "meant"), ("crates/load/specs/Meant.antt", "returned")]),
 ]
 DEFINITION = re.compile(r"\s*(?:infix[lr]? .*|(?:abbrev|unfoldable) .*|(?:pub )?(?:data|record) .*)$")
 DECLARED = re.compile(r"\s*(?:abbrev |unfoldable )?(?:pub )?(?:data |record )?(«?[^\s:({=]+»?)\s*(?:[({].*)?:")

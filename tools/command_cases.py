@@ -33,7 +33,7 @@ class Case:
         kept = {path.name: path.read_bytes() for path in folder.iterdir()}
         self.args = [unescaped(line) for line in kept.pop("args").splitlines()]
         self.expected = [kept.pop(file, None) for file in ("stdout", "stderr", "status")]
-        self.files = {name.encode(): content for name, content in kept.items()} | {b"/dev/zero": bytes(reading.MOST_READ)}
+        self.files = {name.encode(): content for name, content in kept.items()} | {b"/dev/zero": bytes(reading.MOST_READ[True])}
         for line in kept.get("setup", b"").splitlines():
             self.set_up(line)
         self.files[b"-"], self.file_named_dash = self.files.pop(b"stdin", b""), self.files.get(b"-")
@@ -46,37 +46,38 @@ class Case:
         if step == b"copy":
             self.files[name] = (ROOT / name.decode()).read_bytes()
 
-    def draft(self, name):
+    def draft(self, name, large):
         """The bytes of a file, as many as are read; none where it cannot be read."""
         content = self.file_named_dash if name == b"./-" else self.files.get(name)
-        return None if content is None else content[:reading.MOST_READ]
+        return None if content is None else content[:reading.MOST_READ[large]]
 
 
-def listing(draft):
-    return subprocess.run([PARTNER], input=draft, check=True, capture_output=True).stdout
+def listing(draft, large):
+    return subprocess.run([PARTNER, *["--large"] * large], input=draft, check=True, capture_output=True).stdout
 
 
 def named(name):
     return name.decode("utf-8", "surrogateescape")
 
 
-def refusal(name, draft, lines, colour):
+def refusal(name, draft, lines, colour, large):
     """What check says of a draft, nothing where it is accepted."""
     kind, place, _, number, *_ = (int(field, 16) for field in lines.splitlines()[0].split())
-    return "" if kind else reading.report(named(name), draft, number, place, colour=colour)
+    return "" if kind else reading.report(named(name), draft, number, place, colour=colour, large=large)
 
 
 def answer(command, options, name, draft):
     """Standard output, standard error and status of one draft."""
-    lines, colour = listing(draft), [word for word in options if word.startswith(b"--color=")][-1:] == [b"--color=always"]
-    refused = refusal(name, draft, lines, colour)
+    large, colour = b"--large" in options, [word for word in options if word.startswith(b"--color=")][-1:] == [b"--color=always"]
+    lines = listing(draft, large)
+    refused = refusal(name, draft, lines, colour, large)
     status = int(refused != "")
     if command == b"list":
         return lines.decode(), "", status
     if command == b"check":
         return refused, "", status
     if b"--json" in options:
-        return reading.json_line(name, draft, lines), "", status
+        return reading.json_line(name, draft, lines, large), "", status
     if refused:
         return "", refused, status
     tree = reading.records(lines)
@@ -93,7 +94,7 @@ def evaluated(case):
     files = [word for word in options if word == b"-" or not word.startswith(b"-")] + behind
     out, error, status = "", "", 0
     for name in files:
-        draft = case.draft(name)
+        draft = case.draft(name, b"--large" in options)
         if draft is None:
             # The words of the system are the case's own; that there is one line, with the file's name, is seen.
             found = re.search(rb"^togmelic: " + re.escape(name) + rb": [A-Z][a-z ]+\n", case.expected[1], re.M)

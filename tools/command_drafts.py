@@ -3,7 +3,8 @@
 
 tools/command_drafts.py [SEED [COUNT [PROGRAM [PARTNER]]]]    1, 60, target/rust/release/togmelic and target/rust/release/partner unless said
 
-COUNT drafts of each kind of rust/partner/drafts.py, and as many again with blanks, line ends and bytes of all sorts strewn in.
+COUNT drafts of each kind of rust/partner/drafts.py, and as many again with blanks, line ends and bytes of all sorts strewn in; each by one call with --large
+too. Some are grown beyond the smaller limits, and read by every call with --large and without.
 """
 import random, subprocess, sys
 
@@ -34,15 +35,24 @@ def strewn(rng, draft):
     return draft
 
 
-def wanted(draft):
+def grown(rng, draft):
+    """The draft behind so many lines of one sort that it is beyond the smaller limits, and often beyond what four digits count."""
+    line = rng.choice([b"// \xce\xb1\xc5\xbc\n", b"fn f(){a;}\n", b"type A=u8;\r\n", b"\n"])
+    return rng.choice([16_000, 20_000, 66_000, 100_000]) // len(line) * line + draft
+
+
+def wanted(draft, large):
     """What each call writes: standard output, standard error and status."""
-    lines = subprocess.run([PARTNER], input=draft, check=True, capture_output=True).stdout
+    option = ("--large",) * large
+    lines = subprocess.run([PARTNER, *option], input=draft, check=True, capture_output=True).stdout
+    draft = draft[:reading.MOST_READ[large]]
     kind, place, _, number, *_ = (int(field, 16) for field in lines.splitlines()[0].split())
-    told = "" if kind else reading.report("-", draft[:reading.MOST_READ], number, place)
+    told = "" if kind else reading.report("-", draft, number, place, large=large)
     tree = "".join(line + "\n" for line in reading.tree_lines(draft, reading.records(lines))) if kind else ""
     status = int(not kind)
-    json = reading.json_line(b"-", draft[:reading.MOST_READ], lines)
-    return {("check",): (told, "", status), ("tree",): (tree, told, status), ("tree", "--json"): (json, "", status), ("list",): (lines.decode(), "", status)}
+    json = reading.json_line(b"-", draft, lines, large)
+    answers = {("check",): (told, "", status), ("tree",): (tree, told, status), ("tree", "--json"): (json, "", status), ("list",): (lines.decode(), "", status)}
+    return {call + option: answer for call, answer in answers.items()}
 
 
 def draft_faults(draft, wanted):
@@ -51,17 +61,23 @@ def draft_faults(draft, wanted):
         done = subprocess.run([PROGRAM, *call, "-"], input=draft, capture_output=True)
         found = done.stdout.decode("utf-8", "replace"), done.stderr.decode("utf-8", "replace"), done.returncode
         if found != expected:
-            yield f"{' '.join(call)} of {draft!r}:\n  expected {expected}\n  got      {found}"
+            texts = [repr(text)[:4000] for text in (draft, expected, found)]
+            yield "{} of {}:\n  expected {}\n  got      {}".format(" ".join(call), *texts)
 
 
 def main():
-    rng, faults, seen, accepted = random.Random(SEED), [], 0, 0
+    rng, faults, seen, accepted, calls = random.Random(SEED), [], 0, 0, 0
     for draft in (draft for kind in KINDS for draft in stream(kind)):
-        for each in draft, strewn(rng, draft):
-            expected = wanted(each)
+        drafts = [draft, strewn(rng, draft)]
+        if rng.randrange(12) == 0:
+            drafts.append(grown(rng, draft))
+        for each in drafts:
+            small, large = wanted(each, False), wanted(each, True)
+            some = list(large) if len(each) > 16_000 else [rng.choice(list(large))]
+            expected = small | {call: large[call] for call in some}
             faults += draft_faults(each, expected)
-            seen, accepted = seen + 1, accepted + (expected["check",][2] == 0)
-    finish("command_drafts", f"{seen} random drafts, {accepted} accepted, four calls each", faults[:20])
+            seen, accepted, calls = seen + 1, accepted + (large["check", "--large"][2] == 0), calls + len(expected)
+    finish("command_drafts", f"{seen} random drafts, {accepted} accepted with --large, {calls} calls", faults[:20])
 
 
 if __name__ == "__main__":

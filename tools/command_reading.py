@@ -24,7 +24,11 @@ REASONS = {
     10: "the size is 0 or over 18,446,744,073,709,551,615", 11: "the match has no arms", 12: "the match has enum arms and built-in arms",
     13: "the match does not have two built-in arms", 14: "the two built-in arms do not belong together",
     19: "the array length is over 18,446,744,073,709,551,615", 21: "the comment is not well-formed UTF-8"}
-MOST_READ, COLUMNS = 16_385, 100
+# With --large, and what stands before the help without it.
+LARGE_REASONS = {1: "the draft is over 1,048,576 bytes", 6: "there are over 131,072 tokens"}
+RAISED = {1: "with --large up to 1,048,576 bytes are read; else ", 6: "with --large up to 131,072 tokens are read; else "}
+# How many bytes are read of a file, without --large and with it.
+MOST_READ, COLUMNS = {False: 16_385, True: 1_048_577}, 100
 DIM, CYAN, RED, BLUE, PLAIN = "\x1b[2m", "\x1b[36m", "\x1b[1;31m", "\x1b[1;34m", "\x1b[0m"
 
 
@@ -90,15 +94,18 @@ def helps():
     return found
 
 
-def help_of(draft, number, at):
-    return helps()[("8", "end") if (number, at) == (8, len(draft)) else number]
+def help_of(draft, number, at, large):
+    said = helps()[("8", "end") if (number, at) == (8, len(draft)) else number]
+    return said if large else RAISED.get(number, "") + said
 
 
-def reason(draft, number, at):
-    return "the draft cannot end here" if (number, at) == (8, len(draft)) else REASONS[number]
+def reason(draft, number, at, large):
+    if (number, at) == (8, len(draft)):
+        return "the draft cannot end here"
+    return LARGE_REASONS[number] if large and number in LARGE_REASONS else REASONS[number]
 
 
-def report(name, draft, number, at, width=COLUMNS, colour=False):
+def report(name, draft, number, at, width=COLUMNS, colour=False, large=False):
     """What check says of a refused draft."""
     def dyed(escape, text):
         return f"{escape}{text}{PLAIN}" if colour else text
@@ -107,9 +114,9 @@ def report(name, draft, number, at, width=COLUMNS, colour=False):
     shown, caret = source(draft, at, width - len(digits) - 3)
     bar, gap = dyed(BLUE, "|"), len(digits) * " "
     return "\n".join([
-        f"{name}:{line}:{column}: " + dyed(RED, f"refused ({number})") + ": " + reason(draft, number, at),
+        f"{name}:{line}:{column}: " + dyed(RED, f"refused ({number})") + ": " + reason(draft, number, at, large),
         f"{gap} {bar}", f"{dyed(BLUE, digits)} {bar} {shown}".removesuffix(" "), f"{gap} {bar} {' ' * caret}{dyed(RED, '^')}",
-        f"{gap} {dyed(BLUE, '= help:')} {help_of(draft, number, at)}", ""])
+        f"{gap} {dyed(BLUE, '= help:')} {help_of(draft, number, at, large)}", ""])
 
 
 class Record:
@@ -230,7 +237,7 @@ def record_object(draft, record):
     return found
 
 
-def json_line(name, draft, lines):
+def json_line(name, draft, lines, large=False):
     """What `tree --json` writes."""
     found = {"file": text_of(name).encode("utf-8", "surrogateescape").decode("utf-8", "replace"), "length": len(draft)}
     tree = records(lines)
@@ -239,6 +246,7 @@ def json_line(name, draft, lines):
     else:
         why, at = tree[0].low, tree[0].start
         line, column = place(draft, at)
-        found["refused"] = {"number": why, "place": at, "line": line, "column": column, "reason": reason(draft, why, at), "help": help_of(draft, why, at)}
+        found["refused"] = {"number": why, "place": at, "line": line, "column": column, "reason": reason(draft, why, at, large),
+                            "help": help_of(draft, why, at, large)}
     written = json.dumps(found, ensure_ascii=False, separators=(",", ":"))
     return re.sub(r"\\(?:u(....)|.)", lambda escape: "\\u" + escape[1].upper() if escape[1] else escape[0], written) + "\n"

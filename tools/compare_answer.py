@@ -1,6 +1,7 @@
 #!/usr/bin/env python3
 """Compares the definition of the answer (crates/grammar) with the partner (rust/partner) on random drafts, on array lengths around the largest 64-bit
-number, on small files and on UTF-8 in comments, good and bad, each read as a file and as one function, every byte of the listing.
+number, on small files, on UTF-8 in comments, good and bad, at the small limits and around places of four digits, each read as a file and as one function within
+the small limits, and some as a file within the large ones, every byte of the listing.
 
 antt computes the definition: the drafts with the partner's listings become one more file of specs/ in a copy of the repository, and the
 check there refuses it if one of them differs.
@@ -17,8 +18,10 @@ root = pathlib.Path(__file__).resolve().parent.parent
 CRATES = ("text", "words", "num", "utf8", "lexer", "own", "up", "theory", "lines", "kinds", "grammar")
 LARGEST = 2 ** 64 - 1
 # Words and bytes enough for every draft: 2,048 tokens, and a record and a line more.
-LINES = 2049
+LINES, SMALL_BYTES = 2049, 16384
 TOKEN_SPACE, TREE_SPACE = 3 * 2048, WORDS * LINES
+# Of the random drafts one in so many is read within the large limits too.
+FEW = 8
 # Lengths that 64 bits hold, then those that they do not.
 LENGTHS = [0, "0_0", 2 ** 32, LARGEST - 1, LARGEST, f"00{LARGEST}", f"{LARGEST:_}_"]
 TOO_LARGE = [LARGEST + 1, LARGEST + 4, LARGEST + 5, 10 ** 20 - 1, 10 ** 20, f"00{LARGEST + 1}", f"{LARGEST + 1:_}_", 60 * "9"]
@@ -69,28 +72,53 @@ def numbers(bytes_):
     return " ∷ ".join([*map(str, bytes_), "[]"])
 
 
+def limits():
+    """As many bytes as the small limits allow, and one more; as many tokens, and one more. The large limits let all of them in."""
+    return [SMALL_BYTES * b" ", (SMALL_BYTES + 1) * b" ", 2048 * b";", 2049 * b";", 2049 * b";" + b"#"]
+
+
+def borders():
+    """An end that four digits hold and one that they do not, and such a place of a refusal."""
+    return [0xFFFF * b" ", 0x10000 * b" ", 0x10000 * b" " + b"#"]
+
+
 def answers(drafts, partner):
-    """What the partner says of each draft, with words enough: its answers as one function and as a file, and its listing as a file."""
+    """What the partner says of each draft, with words enough within the small limits: its answer as one function and as a file, and its listing as a file
+    within the small limits and within the large ones."""
     stream = b"".join(b"%d %d %d %d\n%s\n" % (TOKEN_SPACE, TREE_SPACE, LINE * LINES, len(d), d) for d in drafts)
     out = subprocess.run([partner, "--cases"], input=stream, capture_output=True, check=True).stdout
-    found, i = [], 0
+    place = 0
+
+    def words(name):
+        """The words of a line, which begins with the name."""
+        nonlocal place
+        line, place = out[place:out.index(b"\n", place)].split(), out.index(b"\n", place) + 1
+        if line[0] != name:
+            sys.exit(f"the partner's answer has {line[0].decode()} where {name.decode()} should stand")
+        return line[1:]
+
+    def listing(name, otherwise=b""):
+        """The lines behind that line, which begin with two digits and a space; where none stand there, others."""
+        nonlocal place
+        used = int(words(name)[0])
+        if out[place + 2:place + 3] != b" ":
+            return otherwise
+        place += used
+        return out[place - used:place]
+
+    found = []
     for _ in drafts:
-        lines = []
-        for name in (b"function", b"file", b"listed"):
-            j = out.index(b"\n", i)
-            words, i = out[i:j].split(), j + 1
-            if words[0] != name:
-                sys.exit(f"the partner's answer has {words[0].decode()} where {name.decode()} should stand")
-            lines.append(words[1:])
-        used = int(lines[2][0])
-        found.append((lines[0], lines[1], out[i:i + used]))
-        i += used
+        function, file = words(b"function"), words(b"file")
+        small = listing(b"listed")
+        found.append((function, file, small, listing(b"large", small)))
     return found
 
 
-def result(answer, listing):
-    if answer[0] == b"refused":
-        return f"refused_with {int(answer[1])} {int(answer[2])}"
+def result(listing):
+    """What a listing says: the number and the place of its refusal, or its lines."""
+    if listing.startswith(b"00 "):
+        _, place, _, number, *_ = listing.split()
+        return f"refused_with {int(number, 16)} {int(place, 16)}"
     return f"lists {len(listing)} ({numbers(listing)})"
 
 
@@ -99,16 +127,43 @@ def alone(listing):
     return listing[LINE:2 * LINE - len("0001\n")] + b"0000\n" + listing[2 * LINE:]
 
 
-def rows(draft, function, file, listing):
+def rows(draft, function, file, small, large, within_large):
     """The draft as a file, and as one function. The lines of a function are those of its file behind the first, where the words are the same."""
     if function[0] == b"accepted" and file[-1] != b"same":
         sys.exit(f"the partner's two trees differ: {draft!r}")
-    return [f"roomy_file ({numbers(draft)}) ({result(file, listing)})", f"roomy ({numbers(draft)}) ({result(function, alone(listing))})"]
+    said = [f"roomy_file ({numbers(draft)}) ({result(small)})"]
+    if function[0] == b"accepted":
+        said.append(f"roomy ({numbers(draft)}) ({result(alone(small))})")
+    elif small == large:
+        # The partner reads one function within the large limits.
+        said.append(f"roomy ({numbers(draft)}) (refused_with {int(function[1])} {int(function[2])})")
+    if within_large:
+        said.append(f"large_file ({numbers(draft)}) ({result(large)})")
+    return said
+
+
+def is_large(at, always):
+    """Whether the draft of that number is read within the large limits too: the first ones always, and then one in so many."""
+    return at < always or at % FEW == 0
+
+
+# The head of the file for antt. Within the large limits a draft has as many words as within the small ones.
+HEAD = """-- Drafts with the partner's answers.
+-- Assumes nothing.
+use Rattle.std.specs.Prelude.{List, [], ◌∷◌, map, ◌≡◌, refl, ℕ, suc, ◌*◌}
+use Rattle.text.specs.Widths.{tok_wide, rec_wide}
+use Rattle.lexer.specs.Limits.{small_tokens, large_limits}
+use Rattle.grammar.specs.Entry.{whole_file}
+use Rattle.grammar.specs.Cases.Cases.{Result, refused_with, lists, Case, defined, roomy, roomy_file}
+
+abbrev large_file : List ℕ → Result → Case
+large_file draft r =
+    record { entry = whole_file; limits = large_limits; token_space = tok_wide * small_tokens; tree_space = rec_wide * suc small_tokens; draft = draft; result = r }
+"""
 
 
 def spec(all_rows):
-    text = "-- Drafts with the partner's answers.\n-- Assumes nothing.\nuse Rattle.std.specs.Prelude.{List, [], ◌∷◌, map, ◌≡◌, refl}\n"
-    text += "use Rattle.grammar.specs.Cases.Cases.{refused_with, lists, Case, defined, roomy, roomy_file}\n"
+    text = HEAD
     for k in range(0, len(all_rows), 20):
         text += f"\nunfoldable cases{k} : List Case\ncases{k} =\n    " + " ∷\n    ".join(all_rows[k:k + 20]) + " ∷ []\n"
         text += f"\nagree{k} : map defined cases{k} ≡ map (λ (c : Case). c.result) cases{k}\nunfolding cases{k} defined\nagree{k} = refl\n"
@@ -119,7 +174,8 @@ def main():
     partner, seed, count, length = sys.argv[1], sys.argv[2], int(sys.argv[3]), int(sys.argv[4])
     with tempfile.TemporaryDirectory() as folder:
         work = pathlib.Path(folder)
-        drafts = lengths() + files() + comments()
+        drafts = limits() + borders() + lengths() + files() + comments()
+        always = len(drafts)
         for kind in ("shaped", "damaged", "tokens", "files", "damaged-files", "comments"):
             stream = subprocess.run([sys.executable, root / "rust/partner/drafts.py", seed, str(20 * count), kind], capture_output=True, check=True).stdout
             drafts += list(dict.fromkeys(d for d in cases(stream) if len(d) <= length))[:count]
@@ -130,13 +186,14 @@ def main():
         lines = (root / "crates.txt").read_text().splitlines(keepends=True)
         (copy / "crates.txt").write_text("".join(l for l in lines if l.split(":")[0] in CRATES))
         specs = copy / "crates/grammar/specs"
-        (specs / "Partner.antt").write_text(spec([r for d, a in zip(drafts, said) for r in rows(d, *a)]))
+        (specs / "Partner.antt").write_text(spec([r for at, (d, a) in enumerate(zip(drafts, said)) for r in rows(d, *a, is_large(at, always))]))
         with (specs / "Lib.antt").open("a") as lib:
             lib.write("pub mod Partner\n")
         done = subprocess.run(["rt", "check"], cwd=copy / "crates/grammar", capture_output=True, text=True)
     for entry, name in enumerate(("function", "file")):
         tally = collections.Counter("accepted" if a[entry][0] == b"accepted" else a[entry][1].decode() for a in said)
         print(f"{len(drafts)} drafts as a {name}, by the partner's answer:", ", ".join(f"{k} {v}" for k, v in sorted(tally.items())))
+    print("and as a file within both sets of limits:", sum(is_large(at, always) for at in range(len(drafts))))
     if done.returncode:
         print(*[l[:300] for l in (done.stdout + done.stderr).splitlines() if "error" in l][:5], sep="\n")
         sys.exit("the definition differs")

@@ -2,7 +2,8 @@
 
 from record_trees import LINE, WORDS
 
-# Three words for each of 2,048 tokens, seven words for each of 2,049 records, one more than tokens in a file, and 41 bytes for each of them.
+# Enough for every draft within the small limits: three words for each of 2,048 tokens, seven words for each of 2,049 records, one more than tokens in a file,
+# and 41 bytes for each of them.
 TOKENS, TREE, BYTES = 3 * 2048, 2049 * WORDS, 2049 * LINE
 HEAD = "fn f()"
 

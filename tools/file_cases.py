@@ -62,7 +62,7 @@ def add_entries(cases):
 
 
 def add_files(cases):
-    """Order 3: files of 0 to 30 items, with and without gaps; a file of as many tokens as there may be."""
+    """Order 3: files of 0 to 30 items, with and without gaps; a file of as many tokens as its buffer has words for, and of more."""
     for count in range(31):
         # Squares mix the five items.
         items = [ITEMS[(count + at * at) % len(ITEMS)] for at in range(count)]

@@ -24,7 +24,7 @@ EXAMPLE = re.compile(r"\| `([^`|]+)` \| (?:(?P<number>\d+) at (?P<place>\d+)|acc
 # The sets of names, by the list of Classes.antt; the kinds of tokens that stand in the grammar by their name are sets of texts too.
 NAMES = {"name": "t.identifiers", "function-name": "t.function_names", "new-type": "t.alias_names"}
 KINDS = "DecLiteral HexLiteral BinLiteral Bool Jet Witness Param".split()
-# The definitions that name the numbers of the page, and the header of C, which has the bytes of a line.
+# The definitions that name the numbers of the page, and the header of C, which has the bytes of a line in each form.
 NUMBERS = ("crates/lexer/specs/Limits.antt", "crates/num/specs/Value.antt", "crates/text/specs/Widths.antt", "c/togmelic.h")
 # So many symbols that the table has yet to read tell where reading is.
 SYMBOLS = 5
@@ -107,12 +107,14 @@ def limit_faults():
     """What is wrong with the numbers of the page: those of the definitions, and what they make."""
     texts = "".join((ROOT / name).read_text(encoding="utf-8") for name in NUMBERS)
     given = {name: int(number) for name, number in re.findall(r"^(?:#define )?(\w+)(?: =)? (\d+)$", texts, re.M)}
-    tokens, records = given["draft_tokens"], given["draft_tokens"] + 1
-    shown = [f"| {given['draft_bytes']:,} | 1 |", f"| {tokens:,}, and a third of", f"| {given['most_open']} | 7 |", f"| {given['most_in_row']} | 7 |",
-             f"{given['tok_wide'] * tokens:,} words for tokens, {given['rec_wide'] * records:,} for the tree",
-             f"{given['TOGMELIC_LINE'] * records:,} bytes for a listing", f"| 0 to {given['largest']:,}, the largest",
-             f"| 1 to {given['largest']:,} | 10 |", f"from 2 to {(given['largest'] + 1) // 2:,} | 9 |"]
-    return [f"the page does not show {text}" for text in shown if text not in PAGE]
+    few, many = given["small_tokens"], given["large_tokens"]
+    shown = [f"| {given['small_bytes']:,} | {given['large_bytes']:,} | 1 |", f"| {few:,} | {many:,}, and a third of", f"| {given['most_open']} | {given['most_open']} | 7 |",
+             f"| {given['most_in_row']} | {given['most_in_row']} | 7 |", f"{given['TOGMELIC_LINE'] * (few + 1):,} bytes for a listing are enough",
+             f"{given['tok_wide'] * many:,} words for tokens, {given['rec_wide'] * (many + 1):,} words for the tree and "
+             f"{given['TOGMELIC_LONG_LINE'] * (many + 1):,} bytes for a listing are enough", f"of {given['TOGMELIC_LINE']} bytes, or all of {given['TOGMELIC_LONG_LINE']} where",
+             f"| 0 to {given['largest']:,}, the largest", f"| 1 to {given['largest']:,} | 10 |", f"from 2 to {(given['largest'] + 1) // 2:,} | 9 |"]
+    page = " ".join(PAGE.split())
+    return [f"the page does not show {text}" for text in shown if text not in page]
 
 
 # ---- the grammar

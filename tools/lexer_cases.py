@@ -2,140 +2,14 @@
 """Writes crates/lexer_cases/stdin and stdout: drafts that show the order of trial, the traps and every limit, with the answers that documents 01 and 02
 ask for.
 
-The lexer here is written from document 01, "Lexemes" and rows 1 to 7, document 02, order 6, and src/lexer.rs; which bytes are well-formed UTF-8 is asked
-of Python's decoder. The results in TRAPS are worked out by hand.
-A case: the words of the token buffer, then pairs of how many times and a text, in which \\ and two hexadecimal digits are a byte.
+The answers are those of paper_lexer.py. The results in TRAPS and AT_LIMITS are worked out by hand.
+A case: the limits, small or large, the words of the token buffer, then pairs of how many times and a text, in which \\ and two hexadecimal digits are a
+byte.
 --check: exit 1 if a file differs.
 """
-import itertools, pathlib, re, sys
+import functools, itertools, pathlib, re, sys
 
-BYTES, TOKENS, BRACKETS, MATCHES = 16384, 2048, 48, 8
-WORDS = 3  # of a token in the buffer
-# The refusals by number, rows 1 to 7, and 21 of document 02.
-TOO_LONG, NOT_ASCII, NO_LEXEME, UNCLOSED, SIMC, TOO_MANY, TOO_DEEP = range(1, 8)
-NOT_UTF8 = 21
-KEYWORDS = "pub use as fn let type mod const match enum crate simc".split()
-MARKS = "-> :: : ; , = => ( ) [ ] { } < >".split()
-KINDS = dict(zip(KEYWORDS + MARKS, range(1, 28)))
-OPENING, CLOSING = {KINDS[m] for m in "([{<"}, {KINDS[m] for m in ")]}>"}
-DEC_LITERAL, HEX_LITERAL, BIN_LITERAL, BOOL, IDENT, JET, WITNESS, PARAM, MACRO, FIRST_WORD = range(28, 38)
-NAME = "[A-Za-z_][A-Za-z0-9_]*"
-# The tokens of `Token` that are more than one text, in the order of trial: a pattern and the kind.
-PATTERNS = [
-    (f"jet::{NAME}", JET), (f"witness::{NAME}", WITNESS), (f"param::{NAME}", PARAM), ("assert!|panic!|dbg!|list!", MACRO),
-    ("0x[0-9a-fA-F][0-9a-fA-F_]*", HEX_LITERAL), ("0b[01][01_]*", BIN_LITERAL), ("[0-9][0-9_]*", DEC_LITERAL), (NAME, IDENT),
-]
-# The words that the rules tell apart, as classes from FIRST_WORD on: names, reserved function names, macros, booleans.
-RULE_WORDS = (
-    "Left Right Some None Either Option List unwrap_left unwrap_right array_fold for_while is_none unwrap assert panic match into fold dbg raw_hash "
-    "assert! panic! dbg! list! false true"
-).split()
-
-
-class Refusal(Exception):
-    """A refusal by its number and place."""
-
-
-def comment_end(text, i):
-    """The byte behind the block comment at i, or None if it is never closed."""
-    i += 2
-    while i < len(text):
-        if text.startswith("/*", i):
-            i = comment_end(text, i)
-            if i is None:
-                return None
-        elif text.startswith("*/", i):
-            return i + 2
-        else:
-            i += 1
-    return None
-
-
-def trivia_end(text, i):
-    """The byte behind the trivia at i; i if there is none."""
-    if text[i] in "\t\n\v\f\r ":
-        return i + 1
-    if text.startswith("//", i):
-        end = re.compile(r"[\r\n]|\Z").search(text, i).start()
-    elif text.startswith("/*", i):
-        end = comment_end(text, i)
-        if end is None:
-            raise Refusal(UNCLOSED, i)
-    else:
-        return i
-    bad = bad_sequence(text[i:end].encode("latin-1"))
-    if bad is not None:
-        raise Refusal(NOT_UTF8, i + bad)
-    return end
-
-
-def bad_sequence(comment):
-    """The first place at which no well-formed sequence stands, or None if there is none: Python's decoder refuses what RFC 3629 does."""
-    try:
-        comment.decode("utf-8")
-    except UnicodeDecodeError as error:
-        return error.start
-    return None
-
-
-def token(text, i):
-    """The kind and the end of the token at i."""
-    for pattern, kind in PATTERNS:
-        found = re.compile(pattern).match(text, i)
-        if found:
-            word = found.group()
-            if word == "simc":
-                raise Refusal(SIMC, i)
-            return (BOOL if word in ("true", "false") else KINDS.get(word, kind) if kind == IDENT else kind), found.end()
-    for mark in sorted(MARKS, key=len, reverse=True):
-        if text.startswith(mark, i):
-            return KINDS[mark], i + len(mark)
-    raise Refusal(NOT_ASCII if ord(text[i]) > 127 else NO_LEXEME, i)
-
-
-def lexemes(text):
-    tokens, i = [], 0
-    while i < len(text):
-        end = trivia_end(text, i)
-        if end == i:
-            kind, end = token(text, i)
-            tokens.append((kind, i, end))
-        i = end
-    return tokens
-
-
-def lex(draft, words):
-    """The tokens of a draft for a token buffer of so many words."""
-    if len(draft) > BYTES:
-        raise Refusal(TOO_LONG, BYTES)
-    tokens = lexemes(draft.decode("latin-1"))
-    room = min(TOKENS, words // WORDS)
-    if len(tokens) > room:
-        raise Refusal(TOO_MANY, tokens[room][1])
-    depth = row = 0
-    for kind, start, _ in tokens:
-        if kind in OPENING:
-            depth += 1
-        if kind in CLOSING:
-            depth = max(depth - 1, 0)
-        row = row + 1 if kind == KINDS["match"] else 0
-        if depth > BRACKETS or row > MATCHES:
-            raise Refusal(TOO_DEEP, start)
-    return tokens
-
-
-def shown(draft, kind, start, end):
-    word = draft[start:end].decode()
-    tell = f"/{FIRST_WORD + RULE_WORDS.index(word)}" if kind in (BOOL, IDENT, MACRO) and word in RULE_WORDS else ""
-    return f" {kind}{tell}:{start}-{end}"
-
-
-def answer(draft, words):
-    try:
-        tokens = lex(draft, words)
-    except Refusal as r:
-        return f"refused {r.args[0]} at {r.args[1]} zeros"
-    return f"tokens {len(tokens)}" + ("".join(shown(draft, *t) for t in tokens) if len(tokens) <= 24 else "") + " zeros"
+from paper_lexer import BRACKETS, KEYWORDS, LARGE, LIMITS, MARKS, MATCHES, RULE_WORDS, SMALL, WORDS, answer
 
 
 def bytes_of(text):
@@ -150,14 +24,14 @@ class Cases:
     def __init__(self):
         self.lines, self.answers = [], []
 
-    def add(self, words, *pairs):
+    def add(self, words, *pairs, limits=SMALL):
         """A case by its pairs; a text alone stands once."""
         pairs = [p if isinstance(p, tuple) else (1, p) for p in pairs]
         texts = [(n, escaped(t if isinstance(t, bytes) else t.encode())) for n, t in pairs]
-        line = " ".join([str(words)] + [f"{n} {t}" for n, t in texts if t])
+        line = " ".join([limits, str(words)] + [f"{n} {t}" for n, t in texts if t])
         draft = b"".join(bytes_of(t) * n for n, t in texts)
         self.lines.append(line)
-        self.answers.append(f"{line}: {answer(draft, words)}")
+        self.answers.append(f"{line}: {answer(draft, words, limits)}")
         return self.answers[-1].split(": ", 1)[1]
 
 
@@ -299,27 +173,151 @@ def near_sequences():
             yield from (bytes(whole[:at] + [wrong] + whole[at + 1:]) for at in range(2, len(whole)) for wrong in (TAILS[0] - 1, TAILS[1] + 1))
 
 
+# At the limits, and between the two sets of them: the limits, the words of the buffer, the draft, and the answer, worked out by hand.
+AT_LIMITS = [
+    (SMALL, 9, [(16384, " ")], "tokens 0"),
+    (SMALL, 9, [(16385, " ")], "refused 1 at 16384"),
+    (LARGE, 9, [(16385, " ")], "tokens 0"),
+    (LARGE, 9, [(1048576, " ")], "tokens 0"),
+    (LARGE, 9, [(1048577, " ")], "refused 1 at 1048576"),
+    (SMALL, 9, ["//", (16382, "a")], "tokens 0"),
+    (SMALL, 9, ["//", (16383, "a")], "refused 1 at 16384"),
+    (LARGE, 9, ["//", (16383, "a")], "tokens 0"),
+    (LARGE, 9, ["//", (1048574, "a")], "tokens 0"),
+    (LARGE, 9, ["//", (1048575, "a")], "refused 1 at 1048576"),
+    (LARGE, 9, ["/*", (1048572, "a"), "*/"], "tokens 0"),
+    (LARGE, 9, ["/*", (1048573, "a"), "*/"], "refused 1 at 1048576"),
+    (SMALL, 8192, [(2048, ";")], "tokens 2048"),
+    (SMALL, 8192, [(2049, ";")], "refused 6 at 2048"),
+    (LARGE, 8192, [(2049, ";")], "tokens 2049"),
+    (LARGE, 524288, [(131072, ";")], "tokens 131072"),
+    (LARGE, 524288, [(131073, ";")], "refused 6 at 131072"),
+    (SMALL, 524288, [(131072, ";")], "refused 1 at 16384"),
+    (LARGE, 524288, [(131072, "1234567 ")], "tokens 131072"),
+    (LARGE, 524288, [(131072, "1234567 "), "a"], "refused 1 at 1048576"),
+    (LARGE, 524288, [(131072, "123456 "), "a"], "refused 6 at 917504"),
+    (SMALL, 524288, [(2048, "1234567 ")], "tokens 2048"),
+    (SMALL, 524288, [(2048, "1234567 "), "a"], "refused 1 at 16384"),
+    (LARGE, 524288, [(2048, "1234567 "), "a"], "tokens 2049"),
+    (SMALL, 6143, [(2048, ";")], "refused 6 at 2047"),
+    (SMALL, 6144, [(2048, ";")], "tokens 2048"),
+    (LARGE, 393215, [(131072, ";")], "refused 6 at 131071"),
+    (LARGE, 393216, [(131072, ";")], "tokens 131072"),
+    (LARGE, 393216, [(131072, ";"), "#"], "refused 3 at 131072"),
+]
+
+
 def add_comments(cases):
-    """What is nearly well-formed in both kinds of comment, and sequences at the last byte that a draft may have."""
+    """What is nearly well-formed, in both kinds of comment."""
     for text in sorted(set(near_sequences())):
         cases.add(9, b"//" + text)
         cases.add(9, b"/*" + text + b"*/a")
-    for n in range(16383, 16386):
+
+
+def add_bytes(cases, limits):
+    """The last bytes that a draft may have, and one more: of a token, of trivia, of sequences in comments, and refused."""
+    most = LIMITS[limits][0]
+    add = functools.partial(cases.add, limits=limits)
+    for n in range(most - 1, most + 2):
+        for text in ("a", "1", " ", "/"):
+            add(9, (n, text))
+        add(9, "a", (n - 2, " "), "b")
+        add(9, b"\x80", (n - 1, "a"))
+        add(9, (n - 1, " "), b"\x80")
+        add(9, (n - 2, " "), "/*")
+        add(roomy(limits), (n, ";"))
         for text in (b"\xce", b"\xce\xb1", b"\xe2\x82", b"\xf4\x8f\xbf\xbf"):
-            cases.add(9, "//", (n - 2 - len(text), "a"), text)
-            cases.add(9, "/*", (n - 4 - len(text), "a"), text, "*/")
-    # as many sequences, and as many comments around one, as a draft has bytes for
-    cases.add(9, "//", (8191, b"\xce\xb1"))
-    cases.add(9, "//", (4095, b"\xf0\x9f\x98\x80"), b"\xf0")
-    cases.add(9, (4095, "/*"), b"\xe2\x82\xac", (4095, "*/"))
-    cases.add(9, (4095, "/*"), b"\xe2\x82", (4095, "*/"))
+            add(9, "//", (n - 2 - len(text), "a"), text)
+            add(9, "/*", (n - 4 - len(text), "a"), text, "*/")
+    # as many sequences, and as many comments in one another, as a draft has bytes for
+    half, quarter = most // 2, most // 4
+    add(9, "//", (half - 1, b"\xce\xb1"))
+    add(9, "//", (quarter - 1, b"\xf0\x9f\x98\x80"), b"\xf0")
+    add(9, (quarter - 1, "/*"), b"\xe2\x82\xac", (quarter - 1, "*/"))
+    add(9, (quarter - 1, "/*"), b"\xe2\x82", (quarter - 1, "*/"))
+    add(9, (quarter, "/*"), (quarter, "*/"))
+    add(9, (quarter, "/*"), (quarter - 1, "*/"), "**")
+
+
+def roomy(limits):
+    """Words for more tokens than the limits let pass."""
+    return (WORDS + 1) * LIMITS[limits][1]
+
+
+def add_tokens(cases, limits):
+    """The last tokens that a draft may have, and one more, and a refusal of 2 to 5 or 21 behind them; and buffers for one less, almost and just as many."""
+    most = LIMITS[limits][1]
+    add = functools.partial(cases.add, limits=limits)
+    for n in range(most - 1, most + 2):
+        add(roomy(limits), (n, ";"))
+        add(roomy(limits), (n, "ab "))
+        add(roomy(limits), (n, "; "), "/**/")
+        for text in (b"\x80", b"//\x80", "#", "/*", "simc", "//", "simc_"):
+            add(roomy(limits), (n, ";"), text)
+    for words in range(WORDS * most - 4, WORDS * most + 5):
+        add(words, (most, ";"))
+    add(roomy(limits), (most + 1, "("))
+
+
+def add_brackets(cases, limits):
+    """48 and 49 brackets of each kind, also behind unmatched closing ones."""
+    add = functools.partial(cases.add, limits=limits)
+    for up, down in ("()", "[]", "{}", "<>"):
+        for n in (BRACKETS, BRACKETS + 1):
+            add(900, (n, up))
+            add(900, (3, down), (n, up))
+            add(900, (n, up), (n, down), (n, up))
+            add(900, (n - 1, up), (2, down), (2, up))
+            add(900, (n - 1, up), (2, down), (3, up))
+            add(900, (60, up + down), (n, up))
+        add(900, (12, "([{<"), up)
+        add(900, (12, "([{<"), down, up)
+        add(900, (12, "([{<"), down, (2, up))
+        add(900, (100, down), (49, up))
+    add(900, (48, "<"), "->", "<")
+    add(900, (48, "<"), "=>", "<")
+    add(900, (48, "("), "/*)*/", "(")
+    add(146, (49, "("))
+    add(147, (49, "("))
+
+
+def add_matches(cases, limits):
+    """8 and 9 `match` in a row."""
+    add = functools.partial(cases.add, limits=limits)
+    for n in (MATCHES, MATCHES + 1):
+        add(900, (n, "match "))
+        add(900, "a ", (n, "match/**/"))
+        add(900, (n - 1, "match "), "matchx ", "match")
+        add(900, (8, "match "), "a ", (n, "match "))
+        add(900, (n, "match "), (49, "("))
+        add(900, (49, "("), (n, "match "))
+        add(900, (n, "match("))
+    add(0, (9, "match "))
+
+
+def add_deep(cases, limits):
+    """Too deep, and what stands behind: a refusal of the bytes and too many tokens win, closing brackets change nothing."""
+    add = functools.partial(cases.add, limits=limits)
+    for deep in ((49, "("), (9, "match ")):
+        add(900, deep, (60, ")"))
+        for text in (b"\x80", b"//\x80", "#", "/*", "simc"):
+            add(900, deep, text)
+        add(300, deep, (51, ")"))
+        add(300, deep, (92, ")"))
+        add(roomy(limits), deep, (LIMITS[limits][1] - 8, ";"))
+
+
+def add_by_hand(cases):
+    """What is worked out by hand: the traps, which are short, by both sets of limits."""
+    short = [(limits, 72, [text], right) for limits in LIMITS for text, right in TRAPS.items()]
+    for limits, words, pairs, right in short + AT_LIMITS:
+        got = cases.add(words, *pairs, limits=limits)
+        assert got == right + " zeros", (limits, words, pairs, got, right)
 
 
 def write_cases():
     cases = Cases()
-    for text, right in TRAPS.items():
-        got = cases.add(72, text)
-        assert got == right + " zeros", (text, got, right)
+    add_by_hand(cases)
     # every word, mark and kind
     for word in KEYWORDS[:-1] + MARKS + "true false".split() + RULE_WORDS + "jet witness param Bool TRUE".split():
         cases.add(3, word)
@@ -339,63 +337,9 @@ def write_cases():
     for words in range(71, 77):
         cases.add(words, (24, "a "))
         cases.add(words, (25, "a "))
-    for words in range(6140, 6149):
-        cases.add(words, (2048, ";"))
-    # bytes: 16,383 to 16,385
-    for n in range(16383, 16386):
-        for text in ("a", "1", " ", "/"):
-            cases.add(9, (n, text))
-        cases.add(9, "a", (n - 2, " "), "b")
-        cases.add(9, b"\x80", (n - 1, "a"))
-        cases.add(9, (n - 1, " "), b"\x80")
-        cases.add(9, (n - 2, " "), "/*")
-        cases.add(8192, (n, ";"))
-    cases.add(9, (4096, "/*"), (4096, "*/"))
-    cases.add(9, (4096, "/*"), (4095, "*/"), "**")
-    # tokens: 2,047 to 2,049, and a refusal of 2 to 5 or 21 behind the limit
-    for n in range(2047, 2050):
-        cases.add(8192, (n, ";"))
-        cases.add(8192, (n, "ab "))
-        cases.add(8192, (n, "; "), "/**/")
-        for text in (b"\x80", b"//\x80", "#", "/*", "simc", "//", "simc_"):
-            cases.add(8192, (n, ";"), text)
-    cases.add(8192, (2049, "("))
-    cases.add(146, (49, "("))
-    cases.add(147, (49, "("))
-    cases.add(0, (9, "match "))
-    # brackets: 48 and 49 of each kind, also behind unmatched closing ones
-    for up, down in ("()", "[]", "{}", "<>"):
-        for n in (48, 49):
-            cases.add(900, (n, up))
-            cases.add(900, (3, down), (n, up))
-            cases.add(900, (n, up), (n, down), (n, up))
-            cases.add(900, (n - 1, up), (2, down), (2, up))
-            cases.add(900, (n - 1, up), (2, down), (3, up))
-            cases.add(900, (60, up + down), (n, up))
-        cases.add(900, (12, "([{<"), up)
-        cases.add(900, (12, "([{<"), down, up)
-        cases.add(900, (12, "([{<"), down, (2, up))
-        cases.add(900, (100, down), (49, up))
-    cases.add(900, (48, "<"), "->", "<")
-    cases.add(900, (48, "<"), "=>", "<")
-    cases.add(900, (48, "("), "/*)*/", "(")
-    # `match`: 8 and 9 in a row
-    for n in (8, 9):
-        cases.add(900, (n, "match "))
-        cases.add(900, "a ", (n, "match/**/"))
-        cases.add(900, (n - 1, "match "), "matchx ", "match")
-        cases.add(900, (8, "match "), "a ", (n, "match "))
-        cases.add(900, (n, "match "), (49, "("))
-        cases.add(900, (49, "("), (n, "match "))
-        cases.add(900, (n, "match("))
-    # too deep, and what stands behind: a refusal of the bytes and too many tokens win, closing brackets change nothing
-    for deep in ((49, "("), (9, "match ")):
-        cases.add(900, deep, (60, ")"))
-        for text in (b"\x80", b"//\x80", "#", "/*", "simc"):
-            cases.add(900, deep, text)
-        cases.add(300, deep, (51, ")"))
-        cases.add(300, deep, (92, ")"))
-        cases.add(8192, deep, (2040, ";"))
+    for limits in LIMITS:
+        for add in (add_bytes, add_tokens, add_brackets, add_matches, add_deep):
+            add(cases, limits)
     return cases
 
 
@@ -414,6 +358,5 @@ def main():
     sys.exit(bad)
 
 
-sys.setrecursionlimit(20000)
 if __name__ == "__main__":
     main()

@@ -1,15 +1,16 @@
-"""Cases of lines, of the way up and of buffers, for tools/load_cases.py: what document 02, orders 1 and 7, says of them."""
+"""Cases of lines, of the way up and of buffers, for tools/load_cases.py: what document 02, orders 1, 7 and 9, says of them."""
 import itertools
 
-from listing_cases import BAD_LINE, FORMS, NO_ROOM, NOT_ONE_TREE, PAPER, PAPER_RECORDS, SHORT_PAPER
+from listing_cases import BAD_LINE, FORMS, LONG, NO_ROOM, NOT_ONE_TREE, PAPER, PAPER_RECORDS, SHORT_PAPER
 from record_trees import *
 
 THREE = function().records()  # the smallest function: itself, its name, its block
 
 
 def add_lines(cases):
-    """16: "when a line is not of the stated [..] form", which "covers both line forms"; "the first bad line, counted from 1"."""
-    for write, length in FORMS:
+    """16: "when a line is not of the stated [..] form", which "covers all three line forms"; "the first bad line, counted from 1". It goes before digits that
+    four would do for, which all of these listings have in the form of six."""
+    for write, length in (*FORMS, LONG):
         first, second, third = write(THREE).splitlines(keepends=True)
         # Another digit, another mark; a byte too few or too many; another line end; no line at all.
         wrong = [second.lower().replace(b"0", b"a", 1), b" " + second[1:], b"0x" + second[2:], *(bytes([byte]) + second[1:] for byte in b"+/:@G`g\0\xb2")]
@@ -22,7 +23,7 @@ def add_lines(cases):
             cases.refuse(BAD_LINE, 2 if behind else 1, line + second)
         whole = write(THREE)
         for cut in range(1, len(whole)):
-            if cut % length and (cut < 4 or cut % length in (1, 2, 3, 34, 35, 36, 37, 39, 40)):
+            if cut % length and (cut < 4 or cut % length in (1, 2, 3, 34, 35, 36, 37, 39, 40, 41, 42, 46, 47, 48)):
                 cases.refuse(BAD_LINE, cut // length + 1, whole[:cut])
         cases.refuse(BAD_LINE, 4, whole + b"\n")
         cases.refuse(BAD_LINE, 4, whole + length * b"\0")
@@ -35,21 +36,23 @@ def add_lines(cases):
 def add_forms(cases):
     """16: "a line of another form than the first": it decides, and every other must have its form."""
     longer, shorter = PAPER.splitlines(keepends=True), SHORT_PAPER.splitlines(keepends=True)
-    for one, other in ((longer, shorter), (shorter, longer)):
+    longest = long_lines(PAPER_RECORDS).splitlines(keepends=True)
+    for one, other in itertools.permutations((longer, shorter, longest), 2):
         # The first line is of the other form, and so the second is bad; then one other line, and all lines from there on.
         cases.refuse(BAD_LINE, 2, other[0] + b"".join(one[1:]))
         cases.refuse(BAD_LINE, 2, one[0] + other[0])
         for at in range(1, 9):
             cases.refuse(BAD_LINE, at + 1, b"".join(one[:at] + other[at:at + 1] + one[at + 1:]))
             cases.refuse(BAD_LINE, at + 1, b"".join(one[:at] + other[at:]))
-        # The last line is cut at each byte.
-        for cut in range(1, len(one[8])):
-            cases.refuse(BAD_LINE, 9, b"".join(one[:8]) + one[8][:cut])
-        # The first is of neither form, the others are of one.
+        # The first is of no form, the others are of one.
         start = one[0][:-1]
         for line in (start, start[:-1] + b"\n", start + b"0\n", start + b" \n", start + b"\r\n", one[0].replace(b"0009", b"000a"), b"\n"):
             cases.refuse(BAD_LINE, 1, line + b"".join(one[1:]))
             cases.refuse(BAD_LINE, 1, line + b"".join(other[1:]))
+    # The last line is cut at each byte.
+    for one in (longer, shorter, longest):
+        for cut in range(1, len(one[8])):
+            cases.refuse(BAD_LINE, 9, b"".join(one[:8]) + one[8][:cut])
     # Four digits on a line of their own: the line before them is one of the shorter form.
     cases.refuse(BAD_LINE, 2, shorter[0] + b"0000\n" + b"".join(longer[1:]))
     # An empty listing has no bad line; 16 goes before a wrong parent word.
@@ -58,7 +61,7 @@ def add_forms(cases):
 
 
 def add_bytes_of_the_word(cases):
-    """16: the space before the way up, its four digits and LF, each another byte: in the first line it is of neither form then, and in another it is bad."""
+    """16: the space before the way up, its four digits and LF, each another byte: in the first line it is of no form then, and in another it is bad."""
     three = lines(THREE).splitlines(keepends=True)
     for column, at in itertools.product(range(SHORT_LINE - 1, LINE), range(3)):
         line = three[at]

@@ -1,6 +1,6 @@
 #!/usr/bin/env python3
 """Writes crates/load_cases/stdin and stdout: listings, each with the words of the buffer that is lent for it, and the answers that document 02, orders 1,
-3 and 7, asks for.
+3, 7 and 9, asks for.
 
 A listing is built here from a tree of records by the kinds table, or from such a listing by one change. Its answer is what the sentence says
 under which the case stands; no program is asked for it.
@@ -11,7 +11,7 @@ where they are its lines with the way up added, and a line with the seven words 
 """
 import argparse, itertools, pathlib, subprocess, sys
 
-import line_cases
+import line_cases, long_cases
 from listing_cases import BAD_LINE, FORMS, NO_ROOM, NOT_ONE_TREE, PAPER, PAPER_RECORDS, SHORT_PAPER, Cases
 from record_trees import *
 
@@ -298,7 +298,8 @@ def add_large(cases):
 
 
 SECTIONS = (add_paper, add_functions, add_types, add_numbers, add_patterns, add_blocks, add_values, add_leaves, add_enums, add_arms, add_calls, add_tops,
-            add_sizes, add_places, *line_cases.SECTIONS, add_programs, add_type_items, add_nested_items, add_program_places, add_program_sizes, add_large)
+            add_sizes, add_places, *line_cases.SECTIONS, add_programs, add_type_items, add_nested_items, add_program_places, add_program_sizes, add_large,
+            *long_cases.SECTIONS)
 
 
 def all_cases():

@@ -3,15 +3,17 @@
 
 A case: a line with the words of the token buffer, the words of the tree buffer, the bytes of the byte buffer and the bytes of the
 draft; then the draft and a line end.
-Answered are the draft read as one function, the draft read as a file, and its listing. Where both readings accept, `same` says that the records behind the
-file's first are the function's, but for the way up of the function itself: 0 where it stands alone, 1 in the file.
+Answered are the draft read as one function and as a file, both within the large limits, its listing within the small ones, and its listing within the
+large ones by the entry that is lent all three buffers, whose lines stand only where they are others. Where both readings accept, `same` says that the records
+behind the file's first are the function's, but for the way up of the function itself: 0 where it stands alone, 1 in the file. Behind the large listing's
+line nothing is said where every word of tokens and tree is as the reading as a file leaves it.
 --partner PATH: also writes stdout, the answers of the partner's program, and sees that every record kind, call and refusal is there, and that the
 partner says what is written here from the papers, where that is.
 --check: exit 1 if a file differs.
 """
 import argparse, pathlib, random, re, subprocess, sys
 
-import file_cases, way_cases
+import file_cases, large_cases, way_cases
 from draft_cases import HEAD, LINE, OVER, TOKENS, TREE, Cases, body, escaped
 
 ROOT = pathlib.Path(__file__).resolve().parent.parent
@@ -34,7 +36,7 @@ def known_drafts():
 
 
 def add_bytes_of_drafts(cases):
-    """16,384 bytes and one more; a refusal at the length; refusal 1 before those of the bytes. One line is enough for each."""
+    """16,384 bytes and one more, the small limit; a refusal at the length; refusal 1 before those of the bytes. One line is enough for each."""
     cases.add("fn " + 16377 * "a" + "(){}", out=4 * LINE)
     for draft in ("fn " + 16378 * "a" + "(){}", HEAD + "{" + 16376 * " " + "}\n", HEAD + 16378 * " "):
         cases.add(draft, out=LINE)
@@ -43,7 +45,7 @@ def add_bytes_of_drafts(cases):
 
 
 def add_tokens(cases):
-    """2,047 to 2,049 tokens, with buffers for one less, almost and just as many, and for more than the limit."""
+    """2,047 to 2,049 tokens, around the small limit, with buffers for one less, almost and just as many, and for more."""
     for words in (6141, 6143, 6144, 6147, 8192):
         cases.add_bodies(*(1020 * "1;" + "1" + last for last in ("", ";", ";1")), tokens=words, out=LINE)
         cases.add_bodies(*("[" + 1019 * "a," + "a" + last + "]" for last in ("", ",", ",a")), tokens=words, out=0)
@@ -175,7 +177,7 @@ def add_enum_arms(cases):
 
 
 def add_smallest(cases):
-    """The smallest draft of each refusal 1 to 15, 19 and 21: of one function, and below of a file where that is another."""
+    """The smallest draft of each refusal 2 to 15, 19 and 21, and of 1 within the small limits: of one function, and below of a file where that is another."""
     cases.add(16385 * " ", out=LINE)
     for draft in (b"\x80", b"-", b"/*", b"simc"):
         cases.add(draft)
@@ -363,6 +365,7 @@ SECTIONS = (
     add_bytes_of_drafts, add_tokens, add_brackets, add_matches, add_words_lent, add_bytes_lent, add_functions, add_types, add_statements,
     add_expressions, add_calls, add_arms, add_enum_arms, add_smallest, add_differences, add_built_in_arms, add_orders, add_comments, add_bad_comments,
     add_lengths, add_faults, add_wrong_shapes, add_random, *file_cases.SECTIONS, *way_cases.SECTIONS,
+    *large_cases.SECTIONS,
 )
 
 
@@ -377,13 +380,15 @@ def all_cases():
 
 
 def missing(answers):
-    """The record kinds, calls and refusals of each entry that no answer has."""
+    """The record kinds, calls and refusals of each entry that no answer has. A draft over the large limits would be too long to be one of the cases."""
     records = {tuple(int(word, 16) for word in line.split()) for line in answers.splitlines() if re.match(r"[0-9A-F]{2} ", line)}
-    kinds, calls = {record[0] for record in records}, {record[3] for record in records if record[0] == 39}
-    wanted = [("kind", kinds, range(1, 43)), ("call", calls, range(1, 15))]
+    kinds = {record[0] for record in records}
+    calls, listed = ({record[3] for record in records if record[0] == kind} for kind in (39, 0))
+    refusals_of_drafts = [*range(2, 16), 19, 21]
+    wanted = [("kind", kinds, range(1, 43)), ("call", calls, range(1, 15)), ("listing with refusal", listed, [1, *refusals_of_drafts])]
     for entry in ("function", "file"):
         refusals = {int(number) for number in re.findall(rf"^{entry} refused (\d+)", answers, re.M)}
-        wanted.append((f"{entry} with refusal", refusals, [*range(1, 16), 19, 21]))
+        wanted.append((f"{entry} with refusal", refusals, refusals_of_drafts))
     return [f"{name} {number}" for name, found, numbers in wanted for number in numbers if number not in found]
 
 

@@ -37,6 +37,7 @@ def command(togmelic, kinds):
              ("README.md", readme, "examples/polish.simf", said(togmelic, "tree", "examples/polish.simf")),
              ("README.md", readme, "the wrapper's example", (ROOT / "rust/togmelic/examples/kinds.rs").read_text().split("\n\n", 1)[1]),
              ("README.md", readme, "what the wrapper's example writes", said(kinds)),
+             ("README.md", readme, "the front of a large listing", said("bash", "-c", behind(readme, "## A large draft").replace("target/rust/release/togmelic", togmelic))),
              ("docs/COMMAND.md", page, "examples/broken.simf", broken),
              ("docs/COMMAND.md", page, "the tree of its draft", said(togmelic, "tree", "-", stdin=draft.encode()))]
     missing = [f"{name} does not show {what}" for name, text, what, lines in shown if not lines or indented(lines) not in text]

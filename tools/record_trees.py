@@ -1,11 +1,13 @@
-"""Trees of records by document 01's kinds table and the two kinds of document 02, order 3, and their lines, with the way up of order 7 and without:
-what tools/load_cases.py builds its listings from."""
+"""Trees of records by document 01's kinds table and the two kinds of document 02, order 3, and their lines, with the way up of order 7, without it, and in the
+six digits of order 9: what tools/load_cases.py builds its listings from."""
 
 WORDS = 7  # of a record
 WIDTHS = 2, 4, 4, 8, 8, 4, 4  # digits of its line
+LONG_WIDTHS = 2, 6, 6, 8, 8, 6, 6  # and of one in a listing where four do not hold a start, an end, a size or a way up
+LEAST_LONG = 0x10000  # the first number that four digits do not hold
 KIND, START, END, LOW, HIGH, SIZE, UP = range(WORDS)
-# Bytes of a line in the two forms, a space or LF behind each word.
-LINE, SHORT_LINE = sum(WIDTHS) + WORDS, sum(WIDTHS[:UP]) + UP
+# Bytes of a line in the three forms, a space or LF behind each word.
+LINE, SHORT_LINE, LONG_LINE = sum(WIDTHS) + WORDS, sum(WIDTHS[:UP]) + UP, sum(LONG_WIDTHS) + WORDS
 # The kinds from 1, in the order of the table, those of a file behind them; then those that are one token, with low and high 0.
 KINDS = ("function", "name", "parameter", "alias", "builtin", "bool", "unsigned", "either", "option", "tuple type", "array type", "list type",
          "identifier pattern", "_", "tuple pattern", "array pattern", "let", "block", "left", "right", "some", "none", "boolean", "decimal",
@@ -100,9 +102,14 @@ def changed(found, at, field, to):
     return copy
 
 
-def lines(records):
+def lines(records, widths=WIDTHS):
     """Document 01, "The listing program": upper-case hexadecimal digits, one space between, LF after; and document 02, order 7."""
-    return "".join(" ".join(f"{word:0{width}X}" for word, width in zip(record, WIDTHS)) + "\n" for record in records).encode()
+    return "".join(" ".join(f"{word:0{width}X}" for word, width in zip(record, widths)) + "\n" for record in records).encode()
+
+
+def long_lines(records):
+    """Order 9: "writes all four in six digits, 49 bytes a line"."""
+    return lines(records, LONG_WIDTHS)
 
 
 def short_lines(records):

@@ -1,22 +1,23 @@
 #!/usr/bin/env python3
 """Runs every draft and every listing of docs/REFUSALS.md and compares what is said of it with what the document gives.
 
-tools/refusals.py [LISTING [LOAD]]; the first program lists the draft on its standard input, by default crates/listing/out/listing, the second, c/load.c, loads a
-listing, by default target/load.
-A section `## N: title` has drafts, each a line `Draft:` with a code span or a `sh` block that writes it, and a `text` block with its line.
+tools/refusals.py [LISTING [LOAD [COMMAND]]]; the first program lists the draft on its standard input, by default crates/listing/out/listing, the second, c/load.c,
+loads a listing, by default target/load, and the third is `togmelic`, by default target/rust/release/togmelic.
+A section `## N: title` has drafts, each a line `Draft:` with a code span or a `sh` block that writes it, and a `text` block with its line. ``Draft, with `--large`:``
+stands for one that `togmelic list --large` lists.
 `Call:` stands for a case of crates/reader_cases, which lends `read` and `read_file` their buffers. `Listing:`, or `Listing, with N words:`, has a `sh` block that writes a
 listing, and a `text` block with what the second program says. `Smallest: N bytes` is the length of the next draft or listing.
 """
 import re, subprocess, sys
 
-from program import ROOT, finish, listing, loaded
+from program import ROOT, finish, listing, loaded, program
 
 DOCUMENT = ROOT / "docs/REFUSALS.md"
 CASES = ROOT / "crates/reader_cases"
 NUMBERS = {name: int(number) for name, number in re.findall(r"^    (\w+) = (\d+),$", (ROOT / "crates/text/src/refusal.rt").read_text(), re.M)}
 ENTRY = re.compile(r"""^(?:
       Smallest:[ ](?P<bytes>[\d,]+)[ ]byte
-    | Draft:(?:[ ]`(?P<span>[^`\n]+)`\n|\n\n```sh\n(?P<command>[^`]+)```\n)\n```text\n(?P<line>[^`]+)```$
+    | Draft(?P<large>,[ ]with[ ]`--large`)?:(?:[ ]`(?P<span>[^`\n]+)`\n|\n\n```sh\n(?P<command>[^`]+)```\n)\n```text\n(?P<line>[^`]+)```$
     | Call:[ ]`(?P<entry>read|read_file)`[ ]with[ ](?:draft[ ]`(?P<lent>[^`\n]+)`|the[ ]empty[ ]draft),[ ]
       (?P<tokens>\d+)[ ]words[ ]for[ ]tokens,[ ](?P<tree>\d+)[ ]words[ ]for[ ]the[ ]tree\n\n
       ```text\nErr\(Refused[ ]{[ ]refusal:[ ](?P<refusal>\w+),[ ]place:[ ](?P<place>\d+)[ ]}\)\n```$
@@ -30,12 +31,22 @@ def sections():
     return [(int(number), text) for number, text in zip(parts[1::2], parts[2::2]) if number]
 
 
+def large_listing(draft):
+    """The lines of a draft within the large limits; the status is 1, since it is refused."""
+    command = program(3, "target/rust/release/togmelic")
+    if not command.exists():
+        sys.exit(f"refusals: failed: {command} is missing, which tools/build.sh builds")
+    return subprocess.run([command, "list", "--large", "-"], input=draft, capture_output=True).stdout
+
+
 def draft_fault(number, found, draft):
     """What is wrong with a draft and its line, if anything."""
     line = found["line"].encode()
-    if not re.fullmatch(rb"00 ([0-9A-F]{4}) \1 %08X 00000000 0001 0000\n" % number, line):
+    place = re.match(rb"00 ([0-9A-F]+) ", line)
+    digits = 4 if place and int(place[1], 16) < 1 << 16 else 6
+    if not re.fullmatch(rb"00 ([0-9A-F]{%d}) \1 %08X 00000000 %0*X %0*X\n" % (digits, number, digits, 1, digits, 0), line):
         return f"{line} is not a line of refusal {number}"
-    answer = listing(draft)
+    answer = (large_listing if found["large"] else listing)(draft)
     return "" if answer == line else f"{draft[:60]} of {len(draft)} bytes: the program writes {answer[:72]}, the document has {line}"
 
 
@@ -105,7 +116,7 @@ def section_faults(number, text, results):
     drafts = len(entries) - sizes
     if sizes == 0 or drafts == 0 or length is not None:
         faults.append("no draft, or none that is said to be the smallest")
-    if sizes != text.count("Smallest:") or not drafts == len(re.findall("Draft:|Call:|Listing:|Listing, with", text)) == text.count("```text"):
+    if sizes != text.count("Smallest:") or not drafts == len(re.findall("Draft:|Draft, with|Call:|Listing:|Listing, with", text)) == text.count("```text"):
         faults.append("a draft, its size or its line is not written as the others are")
     return drafts, [f"refusal {number}: {fault}" for fault in faults if fault]
 

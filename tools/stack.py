@@ -1,10 +1,10 @@
 #!/usr/bin/env python3
-"""How much stack the listing program and togmelic_list take for the drafts that nest deepest.
+"""How much stack the listing program, togmelic_list and togmelic_list_large take for the drafts that nest deepest.
 
     tools/stack.py STACK [LISTING]    the programs: c/stack.c over the library, and the listing program, by default crates/listing/out/listing
 
 What the program takes is found by bisection of the limit that it is started under, with no environment and with nothing moved at random: a multiple of a page.
-What the entry takes is counted by c/stack.c. The most that is seen is written, and must be within what README.md, c/togmelic.h and the wrapper state. Under the
+What the entries take is counted by c/stack.c. The most that is seen is written, and must be within what README.md, c/togmelic.h and the wrapper state. Under the
 limit that README.md asks for, the program must answer each draft as it should; under less it may end by a signal, and must then have written nothing.
 """
 import ctypes
@@ -12,11 +12,20 @@ import re
 import resource
 import subprocess
 import sys
+from typing import NamedTuple
 
 from program import ROOT, finish, program
 
-# What may be open at once: 48 brackets, and eight `match` in a row before each; of a draft, tokens and bytes.
-BRACKETS, MATCHES, TOKENS, BYTES = 48, 8, 2048, 16384
+
+class Limits(NamedTuple):
+    """Tokens and bytes of a draft."""
+    tokens: int
+    bytes: int
+
+
+SMALL, LARGE = Limits(2048, 16384), Limits(131072, 1048576)
+# What may be open at once: 48 brackets, and eight `match` in a row before each.
+BRACKETS, MATCHES = 48, 8
 # Brackets of an expression, with what stands before them. What closes again within is read by deeper calls first.
 OPENERS = ("{", "(", "[", "list![", "f(", "jet::a(", "assert!(", "Left(", "Some(", "A::B(", "{1;", "{let x:u8=", "f(1,", "<u8>::into(", "is_none::<u8>(",
            "unwrap_left::<u8>(", "fold::B(", "for_while::<g>(", "fold::<g,2>(", "array_fold::<g,2>(", "fold::<g,2>(1,")
@@ -31,30 +40,43 @@ def tokens(text):
     return len(re.findall(r"\w+!?|::|=>|\S", text))
 
 
-def refused(opener):
+def line(kind, start, end, low, *rest):
+    """The line with these numbers, or how it begins, in the digits that its end needs."""
+    digits = 4 if end < 1 << 16 else 6
+    return " ".join([f"{kind:02X}", f"{start:0{digits}X}", f"{end:0{digits}X}", f"{low:08X}", f"{0:08X}", *(f"{number:0{digits}X}" for number in rest)])
+
+
+def refused(opener, limits):
     """Drafts that go on to the last bracket and close none, with the lines that they have: as short as can be, and with as many tokens and bytes as may be, for
     which the largest buffers are needed. Refused is the end, or the number behind an enum construction, the deepest that needs no bracket."""
     deep = "fn f(){" + ("match " * MATCHES + opener) * (BRACKETS - 1) + "match " * MATCHES + "A::B"
-    full = (deep + " 1" * (TOKENS - tokens(deep))).ljust(BYTES)
-    return [(draft, f"00 {place:04X} {place:04X} 00000008 00000000 0001 0000\n") for draft, place in ((deep, len(deep)), (full, len(deep) + 1))]
+    full = (deep + " 1" * (limits.tokens - tokens(deep))).ljust(limits.bytes)
+    return [(draft, line(0, place, place, 8, 1, 0)) for draft, place in ((deep, len(deep)), (full, len(deep) + 1))]
 
 
-def accepted(opener):
-    """A draft with as many brackets one in the other, and round them as many `match` as its tokens allow, the innermost first but for one that has no bracket
-    left for its arms; and how its first line begins."""
-    arms = "{A::B=>1,}"
-    left = (TOKENS - tokens("fn f(){1}" + (opener + ")") * (BRACKETS - 1))) // tokens("match" + arms)
-    text = opener + "1)"
-    for _ in range(BRACKETS - 2):
+def accepted(opener, limits, inner="1", brackets=0):
+    """A draft with as many brackets one in the other, as many in the innermost expression as are said, and round them as many `match` as its tokens allow, the
+    innermost first but for one that has no bracket left for its arms; behind it a function with the tokens that are left. With it how its first line begins."""
+    arms, text, levels = "{A::B=>1,}", opener + inner + ")", BRACKETS - 2 - brackets
+    left = (limits.tokens - tokens("fn f(){}" + text) - levels * tokens(opener + ")")) // tokens("match" + arms)
+    for _ in range(levels):
         count = min(MATCHES, left)
         left -= count
         text = "match " * count + opener + text + ")" + arms * count
-    return [(("fn f(){" + text + "}").ljust(BYTES), f"29 0000 {BYTES:04X} 00000000 00000000")]
+    text = "fn f(){" + text + "}"
+    rest = limits.tokens - tokens(text + "fn f(){}")
+    return [((text + ("fn f(){" + "1;" * (rest // 2) + "}") * (rest > 0)).ljust(limits.bytes), line(41, 0, limits.bytes, 0))]
 
 
-def drafts():
-    """All drafts, each with how its lines begin."""
-    both = [refused(it) for it in OPENERS] + [accepted(it) for it in ("fold::<g,2>(", "fold::B(")]
+def turned():
+    """A match whose arms are exchanged, each of so many records that they are exchanged where they stand, and how many brackets it has open."""
+    arm = "[" + "1," * 40 + "]"
+    return f"match x{{true=>{arm},false=>{arm},}}", 2
+
+
+def drafts(limits):
+    """All drafts within the limits, each with how its lines begin."""
+    both = [refused(it, limits) for it in OPENERS] + [accepted(it, limits, *inner) for it in ("fold::<g,2>(", "fold::B(") for inner in ((), turned())]
     return [(draft.encode(), begin.encode()) for some in both for draft, begin in some]
 
 
@@ -87,41 +109,54 @@ def of_program(draft, begin):
     return passes
 
 
-def of_entry(draft, begin):
-    """The bytes of stack that togmelic_list takes; far too many where it does not answer as it should."""
-    used, _, lines = subprocess.run([program(1, "target/stack")], input=draft, check=True, capture_output=True).stdout.partition(b" ")
-    return int(used) if lines.startswith(begin.rstrip()) else sys.maxsize
+def of_entry(draft, begin, *large):
+    """The bytes of stack that togmelic_list takes, or togmelic_list_large; far too many where it does not answer as it should."""
+    used, _, lines = subprocess.run([program(1, "target/stack"), *large], input=draft, check=True, capture_output=True).stdout.partition(b" ")
+    return int(used) if lines.startswith(begin) else sys.maxsize
 
 
-def stated(file, pattern):
-    """A number that a text states, in a comment or not, without its commas; 0 where it states none."""
-    found = re.search(pattern, " ".join(re.sub(r"\n( \*|//!)", "\n", (ROOT / file).read_text(encoding="utf-8")).split()))
+def text_of(file, before=""):
+    """The text of a file without line ends and marks of comments; of a header the comment before a declaration."""
+    text = (ROOT / file).read_text(encoding="utf-8")
+    if before:
+        text = text.partition(before)[0].rpartition("/*")[2]
+    return " ".join(re.sub(r"\n( \*|//!)", "\n", text).split())
+
+
+def stated(text, pattern):
+    """A number that a text states, without its commas; 0 where it states none."""
+    found = re.search(pattern, text)
     return int(found[1].replace(",", "")) if found else 0
 
 
-def over(what, took, file, words):
-    """The fault of a program that took more than a text states, or, where that says "less than", no less."""
-    most = stated(file, rf"{words} ([\d,]+) bytes")
-    return [f"{what} took {took:,} bytes of stack, and {file} states {most:,}"] if took + words.endswith("less than") > most else []
+def over(what, took, file, words, before=""):
+    """The fault of a program that took more than a text states behind these words: "up to" so many bytes, or "less than" so many."""
+    text = text_of(file, before)
+    most = max(stated(text, rf"{words} up to ([\d,]+) bytes"), stated(text, rf"{words} less than ([\d,]+) bytes") - 1)
+    return [f"{what} took {took:,} bytes of stack, and {file} states {max(most, 0):,}"] if took > most else []
 
 
 def lent(file):
     """The fault of a text that asks for a thread with another stack than the one of c/stack.c, in which all was tried."""
-    asked, tried = stated(file, r"its thread (\d+) MiB") << 20, 1 << stated("c/stack.c", r"#define STACK \(1 << (\d+)\)")
+    asked, tried = stated(text_of(file), r"its thread (\d+) MiB") << 20, 1 << stated(text_of("c/stack.c"), r"#define STACK \(1 << (\d+)\)")
     return [f"{file} asks for a thread with {asked:,} bytes of stack, and {tried:,} were tried"] * (asked != tried)
 
 
 def main():
-    tried = drafts()
+    tried, long = drafts(SMALL), drafts(LARGE)
     entry, least = max(of_entry(*it) for it in tried), max(of_program(*it) for it in tried) * 1024
-    limit = stated("README.md", r"`ulimit -s (\d+)`")
-    faults = over("togmelic_list", entry, "c/togmelic.h", "A call takes up to") + over("togmelic_list", entry, WRAPPER, "the deepest drafts take less than")
-    faults += over("the listing program", least, "README.md", "it needs up to") + lent("c/togmelic.h") + lent(WRAPPER)
+    large = max(of_entry(*it, "large") for it in tried + long)
+    limit = stated(text_of("README.md"), r"`ulimit -s (\d+)`")
+    faults = over("togmelic_list", entry, "c/togmelic.h", "A call takes", "size_t togmelic_list(") + over("togmelic_list", entry, WRAPPER, "the deepest drafts take")
+    faults += over("togmelic_list_large", large, "c/togmelic.h", "A call takes", "size_t togmelic_list_large(")
+    faults += over("togmelic_list_large", large, WRAPPER, "tokens and tree are not on the stack, and it takes")
+    faults += over("the listing program", least, "README.md", "it needs") + lent("c/togmelic.h") + lent(WRAPPER)
     for it in ((b"", b"00 "), (b"fn f(){1}", b"29 "), tried[0], tried[-1]):
         faults += front(*it)
     failing = [draft for draft, begin in tried if not lines_under(draft, limit).startswith(begin)]
     faults += [f"no answer to {len(failing)} drafts under the limit that README.md states, {limit} KiB"] * bool(failing)
-    finish("stack", f"togmelic_list took up to {entry:,} bytes, the listing program {least:,}, for {len(tried)} drafts", faults)
+    took = f"togmelic_list took up to {entry:,} bytes, togmelic_list_large {large:,}, the listing program {least:,}"
+    finish("stack", f"{took}, for {len(tried)} drafts, and the second for {len(long)} more", faults)
 
 
 if __name__ == "__main__":

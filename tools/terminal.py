@@ -72,12 +72,12 @@ def run(args, out=None, error=None, folder=ROOT, typed=None, **variables):
     return Done(texts[0], "" if out is not None and out == error else texts[1], status)
 
 
-def lines_of(draft):
-    return subprocess.run([PARTNER], input=draft, check=True, capture_output=True).stdout
+def lines_of(draft, *options):
+    return subprocess.run([PARTNER, *options], input=draft, check=True, capture_output=True).stdout
 
 
-def tree_of(draft):
-    return reading.records(lines_of(draft))
+def tree_of(draft, *options):
+    return reading.records(lines_of(draft, *options))
 
 
 def joined(lines):
@@ -128,9 +128,9 @@ BY_HAND = {
         "…                └─ variable x 1:55"]}
 
 
-def on_columns(what, path, draft, columns):
+def on_columns(what, path, draft, columns, *options):
     """The lines of one tree on a terminal of so many columns, and their colours; answers them without colours."""
-    tree, done = tree_of(draft), run(["tree", path], out=columns)
+    tree, done = tree_of(draft, *options), run(["tree", *options, path], out=columns)
     bare = ESCAPE.sub("", done.out)
     expect(f"{what} on {columns} columns", (bare, done.error, done.status), (joined(reading.tree_lines(draft, tree, columns)), "", 0))
     expect(f"{what} on {columns} columns: widths", [line for line in bare.split("\n") if len(line) > columns], [])
@@ -154,6 +154,25 @@ def trees(folder):
         expect(f"tree {number} on 40 columns: lines by hand", [line for line in BY_HAND.get(number, []) if line not in lines], [])
         coloured = joined(reading.coloured_lines(draft, tree_of(draft)))
         expect(f"tree {number} in colours, to no terminal", run(["tree", "--color=always", path]), Done(coloured, "", 0))
+
+
+def large(folder):
+    """Drafts beyond the smaller limits on terminals: a tree with long places, and what is said where --large is given and where it is not."""
+    path, name = os.path.join(folder, "large.simf"), "large.simf"
+    kinds = 7000 * b"// abcdef\n" + KINDS.read_bytes()
+    for draft, number, at in (kinds, 1, 16384), (7000 * b"type A=u8;\n" + b"fn f(){a; b c}\n", 1, 16384), (1100 * b"a;\n", 6, 3072):
+        open(path, "wb").write(draft)
+        _, place, _, why, *_ = (int(field, 16) for field in lines_of(draft, "--large").splitlines()[0].split())
+        for columns in 40, 100:
+            told = reading.report(name, draft[:16385], number, at, columns, True)
+            expect(f"check of a large draft on {columns} columns", run(["check", name], out=columns, folder=folder), Done(told, "", 1))
+            if draft is kinds:
+                on_columns("a large tree", path, draft, columns, "--large")
+                continue
+            told = reading.report(name, draft, why, place, columns, True, large=True)
+            expect(f"check --large on {columns} columns", run(["check", "--large", name], out=columns, folder=folder), Done(told, "", 1))
+            expect(f"tree --large of a refused draft on {columns} columns",
+                   run(["tree", "--large", name], error=columns, folder=folder), Done("", told, 1))
 
 
 def colours():
@@ -311,7 +330,7 @@ def pipes(folder):
     path = os.path.join(folder, "large.simf")
     # Its tree has over 2,000 lines, far more than a pipe of 4,096 bytes holds.
     open(path, "wb").write(("fn f(){" + 1000 * "a;" + "}").encode())
-    for args in ["tree"], ["tree", "--color=always"], ["tree", "--json"], ["list"]:
+    for args in ["tree"], ["tree", "--color=always"], ["tree", "--json"], ["list"], ["list", "--large"], ["tree", "--large"]:
         expect(f"{args} to a reader of one line", closed([*args, path], 12), ("", 2))
         expect(f"{args} to no reader", closed([*args, path], 0), ("", 2))
         expect(f"{args} of an escrow to no reader", closed([*args, ESCROW], 0), ("", 2))
@@ -355,11 +374,14 @@ def stack(folder):
     deepest = b"fn f(){" + 47 * (8 * b"match " + b"fold::<g,2>(") + 8 * b"match " + b"A::B"
     refused_at, long = len(deepest) + 1, (deepest + 1200 * b" 1").ljust(16384)
     pairs = b"fn f(){" + 47 * b"(" + b"1" + 47 * b",1)" + b"}"
-    for draft, wanted in (long, (reading.report("deep.simf", long, 8, refused_at), "", 1)), (pairs, ("", "", 0)):
+    longest = (deepest + 120_000 * b" 1").ljust(1048576)
+    for draft, options, wanted in ((long, [], (reading.report("deep.simf", long, 8, refused_at), "", 1)), (pairs, [], ("", "", 0)),
+                                   (pairs, ["--large"], ("", "", 0)), (12_000 * b"fn f(){a;}" + pairs, ["--large"], ("", "", 0)),
+                                   (longest, ["--large"], (reading.report("deep.simf", longest, 8, refused_at, large=True), "", 1))):
         open(os.path.join(folder, "deep.simf"), "wb").write(draft)
-        done = subprocess.run([PROGRAM, "check", "deep.simf"], cwd=folder, capture_output=True, env={"TERM": "xterm"}, timeout=60,
+        done = subprocess.run([PROGRAM, "check", *options, "deep.simf"], cwd=folder, capture_output=True, env={"TERM": "xterm"}, timeout=60,
                               preexec_fn=lambda: resource.setrlimit(resource.RLIMIT_STACK, (1024 * kib, 1024 * kib)))
-        expect(f"a deep draft with {kib} KiB of stack", (done.stdout.decode(), done.stderr.decode(), done.returncode), wanted)
+        expect(f"a deep draft with {kib} KiB of stack {options}", (done.stdout.decode(), done.stderr.decode(), done.returncode), wanted)
 
 
 def inputs():
@@ -385,6 +407,7 @@ def inputs():
 def main():
     with tempfile.TemporaryDirectory() as folder:
         trees(folder)
+        large(folder)
         colours()
         refused(folder)
         progress(folder)

@@ -3,7 +3,7 @@
 three telling bytes, and every two bytes that may begin a longer sequence with tails behind them.
 
 tools/utf8.py [PROGRAM]; the program is crate lexer_cases, by default crates/lexer_cases/out/lexer_cases. The right answers are those of the lexer in
-tools/lexer_cases.py, which asks the decoder.
+tools/paper_lexer.py, which asks the decoder.
 """
 import itertools, subprocess
 

@@ -1,6 +1,8 @@
 #!/usr/bin/env bash
 # Instructions of one reading of each case, here and in the plain Rust reader, as bench/reader/run.sh counts them: no ratio may be over its limit, which is 1, or
-# what docs/BENCHMARKS.md explains, with two percent for another C library. Needs cargo and valgrind; where there is no valgrind it says so and counts nothing.
+# what docs/BENCHMARKS.md explains, with two percent for another C library. Then of large drafts instructions for a token, through the entry with lent buffers:
+# with 131,072 tokens at most a fifth more than with 2,000, so that the cost is linear. Needs cargo and valgrind; where there is no valgrind it says so and counts
+# nothing.
 set -euo pipefail
 cd "$(dirname "$0")/../.."
 if ! command -v valgrind > /dev/null; then
@@ -25,6 +27,21 @@ for case in $("$bench" list times | cut -d ' ' -f 1); do
     echo "limits: $case $here $partner"
     if ((100 * here > $(limit "$case") * partner)); then
         echo "limits: failed: $case is over $(limit "$case") percent"
+        over=1
+    fi
+done
+
+few=1 many=2  # a reading of a large draft is long enough
+token() {  # thousandths of an instruction for a token
+    echo $((1000 * $(reading large "$1" here) / $("$bench" large "$1" size)))
+}
+# Not of `moved`, which is mostly copying: the C library copies long parts by other instructions than short ones, and their count says little.
+for kind in $("$bench" large names | sed -n 's/-131072$//p' | grep -vx moved); do
+    small=$(token "$kind-2000")
+    large=$(token "$kind-131072")
+    echo "limits: a token of $kind, in thousandths: $small of 2,000, $large of 131,072"
+    if ((100 * large > 120 * small)); then
+        echo "limits: failed: $kind is not linear"
         over=1
     fi
 done

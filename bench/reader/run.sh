@@ -1,7 +1,8 @@
 #!/usr/bin/env bash
-# The tables of docs/BENCHMARKS.md, "The reader" and "Loading a listing", and its plots: instructions and time of one reading of each case through the entry
-# for C, beside the plain Rust reader: draft in, listing out. Then the same of one loading: that listing in, its records out; and of one loading of the
-# same listing in lines of 36 bytes, for which the way up is worked out. rust/bench has the cases, the loop that calls both, and how they are timed.
+# The tables of docs/BENCHMARKS.md, "The reader", "Loading a listing" and "Large drafts", and its plots: instructions and time of one reading of each case
+# through the entry for C, beside the plain Rust reader: draft in, listing out. Then the same of one loading: that listing in, its records out; and of one
+# loading of the same listing in lines of 36 bytes, for which the way up is worked out. Last of one reading of large drafts, through the entry with lent
+# buffers, for each token too. rust/bench has the cases, the loop that calls both, and how they are timed.
 # Instructions are the difference of two runs, divided by how many more readings the second makes, so that the start cancels.
 # callgrind counts a byte that `rep stosb` clears or `rep movsb` copies as an instruction; the case `least` shows what clearing the buffers comes to.
 # Needs cargo, valgrind and Python 3; run it after `rt lib` in crates/togmelic. Writes the tables, and the plots to docs/benchmarks; the answers are compared.
@@ -25,9 +26,29 @@ table() {  # one line a case: kind, and what its size is
         { printf "| %s | %s | %s | %s | %.2f | %s | %s | %.2f |\n", $1, commas($2), commas($3), commas($4), $3 / $4, $5, $6, $5 / $6 }'
 }
 
+large() {  # a line for each case of large drafts, with what one token takes
+    local few=1 many=6 case times size here partner
+    printf '\n| Case | Tokens | Instructions here | Of the partner | Ratio | For a token here | Of the partner | Nanoseconds for a token here | Of the partner |\n'
+    echo '|---|---|---|---|---|---|---|---|---|'
+    "$bench" large times | while read -r case times; do
+        # The bytes used, and the checksums of all three buffers.
+        cmp <("$bench" large "$case" here 1) <("$bench" large "$case" partner 1)
+        size=$("$bench" large "$case" size)
+        here=$(reading large "$case" here)
+        partner=$(reading large "$case" partner)
+        echo "$case $size $here $partner $times"
+    done | awk '
+        function commas(n) { return n < 1000 ? n : commas(int(n / 1000)) sprintf(",%03d", n % 1000) }
+        {
+            printf "| %s | %s | %s | %s | %.2f | %.1f | %.1f | %.1f | %.1f |\n",
+                $1, commas($2), commas($3), commas($4), $3 / $4, $3 / $2, $4 / $2, 1000 * $5 / $2, 1000 * $6 / $2
+        }'
+}
+
 table list Tokens
 table load Records
 table short Records
+large
 for plot in tokens depth; do
     "$bench" "$plot" | python3 bench/reader/plot.py "$plot" > "docs/benchmarks/$plot.svg"
 done

@@ -11,41 +11,46 @@ use Rattle.text.specs.Refusals.{refusal_number}
 use Rattle.text.specs.declared.refusal.Refusal.TheVariants as refusal
 use Rattle.text.specs.Widths.{tok_wide}
 use Rattle.lexer.specs.Lexemes.{lexemes}
-use Rattle.lexer.specs.Limits.{limits_of, room, meant, judged_in, lexed_of, tokens_of, token_words, content, buffer_of}
+use Rattle.lexer.specs.Limits.{Limits, room, meant, judged_in, lexed_of, tokens_of, token_words, content, buffer_of}
 use Rattle.text.specs.Front.{Held}
 use Rattle.lexer.proofs.Fits.{words-fit, tokens-cleared}
 use Rattle.std.specs.Prelude.{Result, Ok, Err, MatchResult}
 use Rattle.text.specs.declared.refusal.Refused.{Refused}
 
-module _ (b t : ℕ) (s : List ℕ) (size : ℕ) where
-  pub too_long : b < length s → refused (refusal_number refusal.TooLong) b ≡ lexed_of (limits_of b t) s size
+module _ (l : Limits) (s : List ℕ) (size : ℕ) where
+  pub too_long : {b : ℕ} → b ≡ l.bytes → b < length s → refused (refusal_number refusal.TooLong) b ≡ lexed_of l s size
   unfolding lexed_of
-  too_long h = simp (lt-ltb _ _ h)
+  too_long e h =
+      let over : l.bytes < length s = omega (arith, e, h) in
+      ap (refused (refusal_number refusal.TooLong)) e ∙ simp (lt-ltb _ _ over)
 
-  -- a draft within the bytes, with room for k tokens
-  pub not-too-long : length s ≤ b → (k : ℕ) → k ≡ min t (size / tok_wide) → judged_in k (lexemes s) ≡ lexed_of (limits_of b t) s size
+  -- a draft within the bytes, with room for so many tokens
+  pub not-too-long : {b t k : ℕ} → b ≡ l.bytes → t ≡ l.tokens → length s ≤ b → k ≡ min t (size / tok_wide) → judged_in k (lexemes s) ≡ lexed_of l s size
   unfolding lexed_of room
-  not-too-long h k e = ap (λ (m : ℕ). judged_in m (lexemes s)) e ∙ simp (le-ltb _ _ h)
+  not-too-long {k = k} e f h g =
+      let within : length s ≤ l.bytes = omega (arith, e, h) in
+      let fitting : k ≡ min l.tokens (size / tok_wide) = g ∙ ap (λ (m : ℕ). min m (size / tok_wide)) f in
+      ap (λ (m : ℕ). judged_in m (lexemes s)) fitting ∙ simp (le-ltb _ _ within)
 
-  pub buffer-refused : {r : Result ℕ Refused} {x : Refused} → meant r ≡ lexed_of (limits_of b t) s size → r ≡ Err x → replicate size 0 ≡ buffer_of (limits_of b t) s size
+  pub buffer-refused : {r : Result ℕ Refused} {x : Refused} → meant r ≡ lexed_of l s size → r ≡ Err x → replicate size 0 ≡ buffer_of l s size
   unfolding buffer_of
   buffer-refused e g = ap (λ (x : Answer). content x (tokens_of (lexemes s)) size) (sym (ap meant g) ∙ e)
 
-  is-accepted : {r : Result ℕ Refused} {n : ℕ} → meant r ≡ lexed_of (limits_of b t) s size → r ≡ Ok n → lexed_of (limits_of b t) s size ≡ accepted n 0
+  is-accepted : {r : Result ℕ Refused} {n : ℕ} → meant r ≡ lexed_of l s size → r ≡ Ok n → lexed_of l s size ≡ accepted n 0
   is-accepted e g = sym e ∙ ap meant g
 
 -- As many tokens as are accepted fit the buffer, and with zeros behind them they are what it has.
-module _ (b t : ℕ) (s o : List ℕ) {r : Result ℕ Refused} {n : ℕ} (out : List ℕ) (e : meant r ≡ lexed_of (limits_of b t) s (length o)) (g : r ≡ Ok n) where
+module _ (l : Limits) (s o : List ℕ) {r : Result ℕ Refused} {n : ℕ} (out : List ℕ) (e : meant r ≡ lexed_of l s (length o)) (g : r ≡ Ok n) where
   pub tokens-fit : length out ≡ length o → tok_wide * n ≤ length out
-  tokens-fit l = omega (arith, l, (words-fit (limits_of b t) s o n (is-accepted b t s (length o) e g)).0)
+  tokens-fit k = omega (arith, k, (words-fit l s o n (is-accepted l s (length o) e g)).0)
 
-  pub buffer_held : Held (meant r) (token_words (tokens_of (lexemes s))) o out → take (tok_wide * n) out ++ replicate (length out - tok_wide * n) 0 ≡ buffer_of (limits_of b t) s (length o)
-  buffer_held h = tokens-cleared (limits_of b t) s o n (is-accepted b t s (length o) e g) (h.holds n 0 (ap meant g))
+  pub buffer_held : Held (meant r) (token_words (tokens_of (lexemes s))) o out → take (tok_wide * n) out ++ replicate (length out - tok_wide * n) 0 ≡ buffer_of l s (length o)
+  buffer_held h = tokens-cleared l s o n (is-accepted l s (length o) e g) (h.holds n 0 (ap meant g))
 
 -- Cleared behind the tokens, or from the beginning on a refusal, the buffer is the one that is handed over.
-pub buffer-cleared : (b t : ℕ) (s o out : List ℕ) (r : Result ℕ Refused) {k : ℕ} {Behind : ℕ → Type 0} → meant r ≡ lexed_of (limits_of b t) s (length o) → Held (meant r) (token_words (tokens_of (lexemes s))) o out
-    → length out ≡ length o → MatchResult r Behind (λ _. k ≡ 0) → ((n : ℕ) → Behind n → k ≡ tok_wide * n) → take k out ++ replicate (length out - k) 0 ≡ buffer_of (limits_of b t) s (length o)
-buffer-cleared b t s o out (Ok n) e h l m f = rw (f n m) (buffer_held b t s o out e refl h)
-buffer-cleared b t s o out (Err x) {k = k} e h l m f =
+pub buffer-cleared : (l : Limits) (s o out : List ℕ) (r : Result ℕ Refused) {k : ℕ} {Behind : ℕ → Type 0} → meant r ≡ lexed_of l s (length o) → Held (meant r) (token_words (tokens_of (lexemes s))) o out
+    → length out ≡ length o → MatchResult r Behind (λ _. k ≡ 0) → ((n : ℕ) → Behind n → k ≡ tok_wide * n) → take k out ++ replicate (length out - k) 0 ≡ buffer_of l s (length o)
+buffer-cleared l s o out (Ok n) e h same m f = rw (f n m) (buffer_held l s o out e refl h)
+buffer-cleared l s o out (Err x) {k = k} e h same m f =
     let z : length out - k ≡ length o = omega arith in
-    rw (z, m) (buffer-refused b t s (length o) e refl)
+    rw (z, m) (buffer-refused l s (length o) e refl)

@@ -1,4 +1,4 @@
--- What the lexer hands over within its limits (document 01, "What the reader hands over", rows 1 to 7).
+-- What the lexer hands over within its limits (document 01, "What the reader hands over", rows 1 to 7), of which there are two sets (document 02, order 9).
 -- Assumes nothing.
 use Rattle.std.specs.Prelude.{Bool, cond, ◌||◌, List, [], ◌∷◌, ◌++◌, ℕ, ◌+◌, ◌-◌, ◌*◌, ◌/◌, min, eqb, ltb, length, get_or, replicate, Result, Ok, Err}
 use Rattle.std.proofs.Math.Option.{Option, none, some}
@@ -9,6 +9,8 @@ use Rattle.lexer.specs.Classes as t
 use Rattle.lexer.specs.Lexemes.{Token, Lexemes, tokens, refused_at, lexemes}
 use Rattle.text.specs.Refusals.{refusal_number, refused_by}
 use Rattle.text.specs.declared.refusal.Refused.{Refused}
+use Rattle.lexer.specs.declared.Limits as code
+use Rattle.lexer.specs.declared.Limits.TheVariants.{Small, Large}
 
 -- how many bytes and how many tokens a draft may have
 pub record Limits : Type 0 where
@@ -16,12 +18,19 @@ pub record Limits : Type 0 where
   pub tokens : ℕ
 
 -- "draft over 16,384 bytes"
-abbrev pub draft_bytes : ℕ
-draft_bytes = 16384
+abbrev pub small_bytes : ℕ
+small_bytes = 16384
 
 -- "over 2,048 tokens"
-abbrev pub draft_tokens : ℕ
-draft_tokens = 2048
+abbrev pub small_tokens : ℕ
+small_tokens = 2048
+
+-- "Raise the library to 1,048,576 bytes and 131,072 tokens" (document 02, order 9)
+abbrev pub large_bytes : ℕ
+large_bytes = 1048576
+
+abbrev pub large_tokens : ℕ
+large_tokens = 131072
 
 -- "over 48 brackets open"
 abbrev pub most_open : ℕ
@@ -105,6 +114,15 @@ buffer_of l draft size = content (lexed_of l draft size) (tokens_of (lexemes dra
 abbrev pub limits_of : ℕ → ℕ → Limits
 limits_of b t = record { bytes = b; tokens = t }
 
--- the limits of a draft
-abbrev pub draft_limits : Limits
-draft_limits = limits_of draft_bytes draft_tokens
+-- "the listing program and the C entry keep 16,384 and 2,048" (document 02, order 9),
+abbrev pub small_limits : Limits
+small_limits = limits_of small_bytes small_tokens
+
+-- and the library has these.
+abbrev pub large_limits : Limits
+large_limits = limits_of large_bytes large_tokens
+
+-- The limits that the code names.
+abbrev pub limits_for : code.Limits → Limits
+limits_for Small = small_limits
+limits_for Large = large_limits

@@ -9,7 +9,7 @@ ghost use Rattle.lexer.specs.Class.{class_of};
 ghost use Rattle.lexer.specs.ClassLaw.{ClassLaw};
 ghost use Rattle.lexer.specs.Texts.{OneToken};
 ghost use Rattle.lexer.specs.Lexemes.{lexemes};
-ghost use Rattle.lexer.specs.Limits.{draft_limits, meant, lexed_of, buffer_of, tokens_of, token_words};
+ghost use Rattle.lexer.specs.Limits.{limits_for, meant, lexed_of, buffer_of, tokens_of, token_words};
 
 use text::TOKEN_WORDS;
 use text::refusal::{Refusal, Refused};
@@ -21,15 +21,49 @@ mod chars;
 pub mod classes;
 mod depth;
 mod frequent;
-mod limits;
+mod lexing;
 pub mod scan;
 mod table;
 mod trivia;
 
-// How many bytes and how many tokens a draft may have.
-pub const DRAFT_BYTES: usize = 16384;
+// How many bytes and how many tokens a draft may have, by the small limits
+pub const SMALL_BYTES: usize = 16384;
 
-pub const DRAFT_TOKENS: usize = 2048;
+pub const SMALL_TOKENS: usize = 2048;
+
+// and by the large ones.
+pub const LARGE_BYTES: usize = 1048576;
+
+pub const LARGE_TOKENS: usize = 131072;
+
+// The two sets of limits (document 02, order 9): the listing program and `togmelic_list` keep the small ones, all else of the library has the large ones.
+#[derive(Clone, Copy, PartialEq, Eq, Debug)]
+pub enum Limits {
+    Small,
+    Large,
+}
+
+impl Limits {
+    // How many bytes a draft may have.
+    pub fn bytes(self) -> usize
+        ensures { result ≡ (limits_for self).bytes }
+    {
+        match self {
+            Limits::Small => SMALL_BYTES,
+            Limits::Large => LARGE_BYTES,
+        }
+    }
+
+    // How many tokens.
+    pub fn tokens(self) -> usize
+        ensures { result ≡ (limits_for self).tokens }
+    {
+        match self {
+            Limits::Small => SMALL_TOKENS,
+            Limits::Large => LARGE_TOKENS,
+        }
+    }
+}
 
 // What stands at a place of a draft. Document 01: each step answers by an enum, instead of `Result`.
 // A kind is a number, as the buffer has it: `PUB + k`, `JET + k` and the class of a byte are kinds as they stand.
@@ -46,28 +80,29 @@ pub enum Step {
 }
 
 // Writes the tokens of the draft, `TOKEN_WORDS` words each, and zeros behind them, and says how many there are; on a refusal every word is 0.
-pub fn lex(draft: &[u8], out: &mut [u32]) -> Result<usize, Refused>
-    ensures result_value { meant result ≡ lexed_of draft_limits draft.now (length out.old) }
-    ensures out_after { out.new ≡ buffer_of draft_limits draft.now (length out.old) }
+pub fn lex(draft: &[u8], out: &mut [u32], limits: Limits) -> Result<usize, Refused>
+    ensures result_value { meant result ≡ lexed_of (limits_for limits) draft.now (length out.old) }
+    ensures out_after { out.new ≡ buffer_of (limits_for limits) draft.now (length out.old) }
 {
-    let lexed = lex_front(draft, out);
+    let lexed = lex_front(draft, out, limits);
     text::clear_from(out, lexed.map_or(0, |n| TOKEN_WORDS * n));
     lexed
 }
 
 // As `lex`, for a caller that needs no zeros: the words behind the tokens stay; on a refusal the words may be anything.
-pub fn lex_front(draft: &[u8], out: &mut [u32]) -> Result<usize, Refused>
-    ensures result_value { meant result ≡ lexed_of draft_limits draft.now (length out.old) }
+pub fn lex_front(draft: &[u8], out: &mut [u32], limits: Limits) -> Result<usize, Refused>
+    ensures result_value { meant result ≡ lexed_of (limits_for limits) draft.now (length out.old) }
     ensures held { Held (meant result) (token_words (tokens_of (lexemes draft.now))) out.old out.new }
 {
-    if draft.len() > DRAFT_BYTES {
+    let bytes = limits.bytes();
+    if draft.len() > bytes {
         return Err(Refused {
             refusal: Refusal::TooLong,
-            place: DRAFT_BYTES,
+            place: bytes,
         });
     }
-    let room = DRAFT_TOKENS.min(out.len() / TOKEN_WORDS);
-    limits::fill(draft, out, room)
+    let room = limits.tokens().min(out.len() / TOKEN_WORDS);
+    lexing::fill(draft, out, room)
 }
 
 // Whether a token of this kind may be a word that the rules single out.

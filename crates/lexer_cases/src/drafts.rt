@@ -1,11 +1,13 @@
-// The cases of the input. A line: the words of the token buffer, then pairs of how many times and a text, a space before each. In a text `\` and two
-// hexadecimal digits are a byte.
+// The cases of the input. A line: the limits, `small` or `large`, the words of the token buffer, then pairs of how many times and a text, a space before each.
+// In a text `\` and two hexadecimal digits are a byte.
 use anyhow::{Context, Result};
+use lexer::Limits;
 use std::alloc::Global;
 
-// A draft, and how many words of a token buffer are lent for it.
+// A draft, by which limits it is lexed, and how many words of a token buffer are lent for it.
 #[derive(Drop)]
 pub(crate) struct Case {
+    pub(crate) limits: Limits,
     pub(crate) words: usize,
     pub(crate) draft: Vec<u8>,
 }
@@ -24,10 +26,20 @@ fn bytes_of(alloc: Global, text: &str) -> Result<Vec<u8>> {
     Ok(bytes)
 }
 
+fn limits_named(word: &str) -> Option<Limits> {
+    match word {
+        "small" => Some(Limits::Small),
+        "large" => Some(Limits::Large),
+        _ => None,
+    }
+}
+
 impl Case {
     pub(crate) fn parse(alloc: Global, line: &str) -> Result<Case> {
         let fields: Vec<&str> = line.split(' ').collect(alloc)?;
-        let (words, pairs) = fields.split_first().context("an empty line")?;
+        let (limits, fields) = fields.split_first().context("an empty line")?;
+        let limits = limits_named(limits).context("neither small nor large")?;
+        let (words, pairs) = fields.split_first().context("no words")?;
         let mut draft = Vec::new(alloc);
         let (pairs, _) = pairs.as_chunks::<2>();
         for [times, text] in pairs {
@@ -37,6 +49,7 @@ impl Case {
             }
         }
         Ok(Case {
+            limits,
             words: words.parse()?,
             draft,
         })

@@ -44,7 +44,7 @@ fn write_tokens(out: &mut impl Write, draft: &[u8], words: &[u32], count: usize)
 // The answer, and what is found of it.
 fn write_case(out: &mut impl Write, alloc: Global, case: &Case) -> io::Result<()> {
     let mut words = vec![in alloc; UNWRITTEN.into(); case.words]?;
-    match lexer::lex(&case.draft, &mut words) {
+    match lexer::lex(&case.draft, &mut words, case.limits) {
         Ok(count) => {
             write!(out, ": tokens {count}")?;
             write_tokens(out, &case.draft, &words, count)

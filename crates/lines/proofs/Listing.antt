@@ -1,24 +1,24 @@
 -- Lines written one after the other, and zeros behind them.
 -- Assumes nothing.
-use mathlib.Core.Bool.{cond}
+use mathlib.Core.Bool.{Bool, cond}
 use mathlib.Core.List.{List, [], ◌∷◌, ◌++◌, append_assoc, append-nil}
 use mathlib.Core.Path.{◌≡◌, refl, sym, ap, ◌∙◌}
 use Prim.Native.Nat.{ℕ, suc, ◌+◌, ◌-◌, ◌*◌, ◌/◌, ◌≤◌, ◌<◌}
 use native.Mathlib.Omega.{arith}
-use native.Mathlib.Nat.{mul-suc, mul-zero}
+use native.Mathlib.Nat.{mul_comm, mul-suc, mul-zero}
 use borrow.Author.Tests.{lt-ltb, le-ltb}
 use borrow.Rule.Slice.PartMut.{put_mid, mid_of}
 use lib.ListN.{length, get_or, drop, take, replicate}
 use lib.Seq.{sets, sets-eq, length-sets, length-take-le, take_at}
+use Rattle.std.proofs.Math.Nat.{div-lt_iff_lt-mul, le-div_iff_mul-le}
 use Rattle.std.specs.Simd.{first_chunks}
 use Rattle.std.proofs.lemmas.List.{take_more}
 use Rattle.text.proofs.ClearLaws.{cleared}
 use Rattle.text.specs.Widths.{rec_wide}
 use Rattle.up.specs.Ways.{rows_in}
-use Rattle.up.proofs.Laws.{rows-length}
 use Rattle.lines.specs.Form.{line_of, wide}
-use Rattle.lines.specs.Lines.{widths, line_bytes, lines_of}
-use Rattle.lines.proofs.Lines.{lines-wide}
+use Rattle.lines.specs.Lines.{lines_of, is_long, listed_rows, widths_by}
+use Rattle.lines.proofs.Lines.{lines-wide, listed-as}
 use Rattle.lines.proofs.Rows.{rows-taken}
 use Rattle.lines.specs.Written.{used, padded, held, lines_in}
 use Rattle.text.proofs.Sets.{sets-next}
@@ -67,41 +67,53 @@ module _ {o ws : List ℕ} {vs : List (List ℕ)} {l : List ℕ} {p i : ℕ} (x 
         done = sets-next o (lines_of ws (take i vs)) next 0 p x.done e t ∙ ap (sets o 0) (sym (lines_more ws vs i h));
       }
 
-lines_long : (ws : List ℕ) (n : ℕ) (w : List ℕ) → length (lines_of ws (rows_in n w)) ≡ wide ws * n
-lines_long ws n w = lines-wide ws (rows_in n w) ∙ ap (λ (k : ℕ). wide ws * k) (rows-length n w)
-
--- how long the lines are
-text-long : (w : List ℕ) (m : ℕ) {n : ℕ} → n ≡ held w m → length (lines_in w m) ≡ line_bytes * n
-unfolding lines_in
-text-long w m {n} e = let k = lines_long widths (held w m) w in omega (arith, k, e)
-
--- Lines that do not fit,
-pub no_room : (w o : List ℕ) (m : ℕ) {n : ℕ} {l : List ℕ} → n ≡ held w m → length o / line_bytes < n → l ≡ replicate (length o) 0
-    → (0 ≡ used (lines_in w m) (length o)) × (l ≡ padded (lines_in w m) (length o))
-no_room w o m {n} {l} e h z =
-    let k = text-long w m e in
-    let b = lt-ltb (length o) (length (lines_in w m)) (omega (arith, k, h)) in (
-      sym (ap (λ t. cond t 0 (length (lines_in w m))) b),
-      z ∙ sym (ap (λ t. cond t (replicate (length o) 0) (lines_in w m ++ replicate (length o - length (lines_in w m)) 0)) b),
+-- A text that does not fit,
+left-out : (t o : List ℕ) {l : List ℕ} → length o < length t → l ≡ replicate (length o) 0 → (0 ≡ used t (length o)) × (l ≡ padded t (length o))
+left-out t o h z =
+    let b = lt-ltb (length o) (length t) h in (
+      sym (ap (λ c. cond c 0 (length t)) b),
+      z ∙ sym (ap (λ c. cond c (replicate (length o) 0) (t ++ replicate (length o - length t) 0)) b),
     )
 
--- and lines that do, with zeros behind them.
-pub in-room : (w o : List ℕ) (m : ℕ) {n a : ℕ} {l ys : List ℕ} {rs vs : List (List ℕ)} → n ≡ held w m → n ≤ length o / line_bytes
-    → rs ≡ first_chunks rec_wide (length w / rec_wide) w → vs ≡ take n rs → a ≡ line_bytes * length vs → l ≡ sets o 0 (lines_of widths vs) → length l ≡ length o → ys ≡ replicate (length (mid_of a (length l - a) l)) 0
-    → (a ≡ used (lines_in w m) (length o)) × (put_mid a (length l - a) l ys ≡ padded (lines_in w m) (length o))
-unfolding lines_in
-in-room w o m {n} {a} {l} {ys} e h eh ev eb el ll z =
-    let t = lines_of widths (rows_in (held w m) w) in
-    let k : length t ≡ line_bytes * n = text-long w m e in
-    let v = ev ∙ ap (take n) eh ∙ rows-taken rec_wide n (length w / rec_wide) w (omega arith) in
-    let ea = eb ∙ ap (λ (us : List (List ℕ)). line_bytes * length us) v ∙ ap (λ (j : ℕ). line_bytes * j) (rows-length n w) in
-    let f : l ≡ sets o 0 t = el ∙ ap (λ (us : List (List ℕ)). sets o 0 (lines_of widths us)) v ∙ ap (λ (j : ℕ). sets o 0 (lines_of widths (rows_in j w))) e in
-    let b = le-ltb (length o) (length t) (omega (arith, k, h)) in
-    let s : length t ≡ a = omega (arith, k, ea) in
+-- and one that does, with zeros behind it.
+put-in : (t o : List ℕ) {a : ℕ} {l ys : List ℕ} → length t ≤ length o → length t ≡ a → l ≡ sets o 0 t → length l ≡ length o
+    → ys ≡ replicate (length (mid_of a (length l - a) l)) 0 → (a ≡ used t (length o)) × (put_mid a (length l - a) l ys ≡ padded t (length o))
+put-in t o {a} {l} {ys} h s f ll z =
+    let b = le-ltb (length o) (length t) h in
     let r : length l - a ≡ length o - length t = omega (arith, s, ll) in (
       sym (ap (λ c. cond c 0 (length t)) b ∙ s),
-      cleared a l ys (omega (arith, k, h, ea, ll)) z
-          ∙ (λ i. take a ((f ∙ sets-eq t o 0 (omega (arith, k, h))) i) ++ replicate (r i) 0)
+      cleared a l ys (omega (arith, h, s, ll)) z
+          ∙ (λ i. take a ((f ∙ sets-eq t o 0 (omega (arith, h))) i) ++ replicate (r i) 0)
           ∙ ap (λ (x : List ℕ). x ++ replicate (length o - length t) 0) (take_at t (drop (0 + length t) o) a s)
           ∙ sym (ap (λ c. cond c (replicate (length o) 0) (t ++ replicate (length o - length t) 0)) b),
     )
+
+-- Lines fit where there is room for as many: those that do not,
+module _ (ws o : List ℕ) (vs : List (List ℕ)) {bytes : ℕ} (some : 0 < bytes) (e : bytes ≡ wide ws) where
+  bytes-all : length (lines_of ws vs) ≡ length vs * bytes
+  bytes-all = lines-wide ws vs ∙ mul_comm (wide ws) (length vs) ∙ ap (λ (n : ℕ). length vs * n) (sym e)
+
+  pub no_room : {l : List ℕ} → length o / bytes < length vs → l ≡ replicate (length o) 0
+      → (0 ≡ used (lines_of ws vs) (length o)) × (l ≡ padded (lines_of ws vs) (length o))
+  no_room h z =
+      let k = (div-lt_iff_lt-mul some).0 h in
+      left-out (lines_of ws vs) o (omega (arith, bytes-all, k)) z
+
+  -- and those that do.
+  pub in-room : {a : ℕ} {l ys : List ℕ} → length vs ≤ length o / bytes → a ≡ wide ws * length vs → l ≡ sets o 0 (lines_of ws vs) → length l ≡ length o
+      → ys ≡ replicate (length (mid_of a (length l - a) l)) 0 → (a ≡ used (lines_of ws vs) (length o)) × (put_mid a (length l - a) l ys ≡ padded (lines_of ws vs) (length o))
+  in-room h ea el ll z =
+      let k = (le-div_iff_mul-le some).0 h in
+      put-in (lines_of ws vs) o (omega (arith, bytes-all, k)) (lines-wide ws vs ∙ sym ea) el ll z
+
+-- The first records of a buffer, or all that it holds, are those that are listed;
+pub listed-in : (w : List ℕ) (m : ℕ) {k : ℕ} {rs vs : List (List ℕ)} → rs ≡ first_chunks rec_wide (length w / rec_wide) w → k ≡ held w m → vs ≡ take k rs → vs ≡ rows_in (held w m) w
+listed-in w m {k} er ek ev = ev ∙ ap (take k) er ∙ rows-taken rec_wide k (length w / rec_wide) w (omega (arith, ek)) ∙ ap (λ (j : ℕ). rows_in j w) ek
+
+-- what is handed over of their lines, in the form that the test of them says, is what is handed over of the buffer's.
+pub listed-by : (w : List ℕ) (m size : ℕ) {b : Bool} {r : ℕ} {l : List ℕ} {vs : List (List ℕ)} → vs ≡ rows_in (held w m) w → is_long vs ≡ b
+    → let t = lines_of (widths_by b) vs in (r ≡ used t size) × (l ≡ padded t size) → (r ≡ used (lines_in w m) size) × (l ≡ padded (lines_in w m) size)
+unfolding lines_in
+listed-by w m size {vs = vs} e eb h =
+    let f = sym (listed-as vs eb) ∙ ap listed_rows e in
+    (h.0 ∙ ap (λ (x : List ℕ). used x size) f, h.1 ∙ ap (λ (x : List ℕ). padded x size) f)

@@ -1,10 +1,10 @@
 -- Lines in a lent buffer (document 01, "The listing program"): "it gets the bytes used, 36 times the lines, the rest zero. It gets 0, all bytes
--- zero, only when the lines do not fit." A line has 41 bytes now (document 02, order 7).
+-- zero, only when the lines do not fit." A line has 41 bytes now, or 49 (document 02, orders 7 and 9).
 -- Assumes nothing.
 use Rattle.std.specs.Prelude.{cond, List, ◌++◌, ℕ, ◌-◌, ◌/◌, min, ltb, length, replicate}
 use Rattle.text.specs.Widths.{rec_wide}
 use Rattle.up.specs.Ways.{rows_in}
-use Rattle.lines.specs.Lines.{widths, lines_of}
+use Rattle.lines.specs.Lines.{listed_rows}
 
 -- A text in a buffer of so many bytes: as many bytes as it has, or 0 if it does not fit;
 abbrev pub used : List ℕ → ℕ → ℕ
@@ -20,4 +20,4 @@ held words n = min n (length words / rec_wide)
 
 -- The lines of the first n records of a tree buffer.
 unfoldable pub lines_in : List ℕ → ℕ → List ℕ
-lines_in words n = lines_of widths (rows_in (held words n) words)
+lines_in words n = listed_rows (rows_in (held words n) words)

@@ -3,11 +3,11 @@ ghost use Rattle.std.specs.Prelude.{◌≡◌, ◌+◌, ◌*◌, ◌/◌, ◌≤
 ghost use Rattle.std.proofs.lemmas.List.Edits.{sets};
 ghost use Rattle.lines.specs.Hex.{hex};
 ghost use Rattle.lines.specs.Form as form;
-ghost use Rattle.lines.specs.Form.{line_of};
-ghost use Rattle.lines.specs.Lines.{widths, line_bytes, lines_of};
+ghost use Rattle.lines.specs.Form.{line_of, wide};
+ghost use Rattle.lines.specs.Lines.{with_way, lines_of};
 
 use crate::digits::digits;
-use crate::{HALF_DIGITS, KIND_DIGITS, PLACE_DIGITS};
+use crate::{HALF_DIGITS, KIND_DIGITS};
 use text::RECORD_WORDS;
 
 // The byte after a field with so many fields behind it.
@@ -31,34 +31,36 @@ fn field<const N: usize>(out: &mut [u8], at: usize, v: u32, after: u8) -> usize
     at + N + 1
 }
 
-// Writes the line of a record, and returns where it ends. Each field has a call of its own, so that its width is known where it is compiled; the
-// variables say where the fields begin.
+// Writes the line of a record, its places in N digits each, and returns where it ends. Each field has a call of its own, so that its width is known where it is
+// compiled; the variables say where the fields begin.
 // digits.rt says what a line took by a loop over the widths. The words are taken by index: their names (start, end
 // and so on) say here where the fields begin.
 #[inline(always)]
-fn line(out: &mut [u8], at: usize, words: &[u32; RECORD_WORDS]) -> usize
-    requires { at + line_bytes ≤ length out.old }
-    ensures end { result ≡ at + line_bytes }
-    ensures bytes { out.new ≡ sets out.old at (line_of widths words.now) }
+fn line<const N: usize>(out: &mut [u8], at: usize, words: &[u32; RECORD_WORDS]) -> usize
+    requires even { 2 * (N / 2) ≡ N }
+    requires in_bounds { at + wide (with_way N) ≤ length out.old }
+    ensures end { result ≡ at + wide (with_way N) }
+    ensures bytes { out.new ≡ sets out.old at (line_of (with_way N) words.now) }
 {
     let start = field::<KIND_DIGITS>(out, at, words[0], b' ');
-    let end = field::<PLACE_DIGITS>(out, start, words[1], b' ');
-    let low = field::<PLACE_DIGITS>(out, end, words[2], b' ');
+    let end = field::<N>(out, start, words[1], b' ');
+    let low = field::<N>(out, end, words[2], b' ');
     let high = field::<HALF_DIGITS>(out, low, words[3], b' ');
     let size = field::<HALF_DIGITS>(out, high, words[4], b' ');
-    let way = field::<PLACE_DIGITS>(out, size, words[5], b' ');
-    field::<PLACE_DIGITS>(out, way, words[6], b'\n')
+    let way = field::<N>(out, size, words[5], b' ');
+    field::<N>(out, way, words[6], b'\n')
 }
 
 // Writes the lines of records, and returns where they end.
-pub(crate) fn lines(out: &mut [u8], records: &[[u32; RECORD_WORDS]]) -> usize
-    requires { line_bytes * length records.now ≤ length out.old }
-    ensures end { result ≡ line_bytes * length records.now }
-    ensures bytes { out.new ≡ sets out.old 0 (lines_of widths records.now) }
+pub(crate) fn lines<const N: usize>(out: &mut [u8], records: &[[u32; RECORD_WORDS]]) -> usize
+    requires even { 2 * (N / 2) ≡ N }
+    requires in_bounds { wide (with_way N) * length records.now ≤ length out.old }
+    ensures end { result ≡ wide (with_way N) * length records.now }
+    ensures bytes { out.new ≡ sets out.old 0 (lines_of (with_way N) records.now) }
 {
     let mut p = 0;
     for words in records {
-        p = line(out, p, words);
+        p = line::<N>(out, p, words);
     }
     p
 }

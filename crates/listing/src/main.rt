@@ -6,7 +6,7 @@
 ghost use Rattle.std.specs.Prelude.{length};
 ghost use Rattle.listing.specs.Within.{Within};
 
-use lexer::DRAFT_BYTES;
+use lexer::SMALL_BYTES;
 use reader::entry::LISTING_BYTES;
 use std::io::{ErrorKind, Read, Write};
 use std::{fmt, io};
@@ -98,7 +98,8 @@ fn put(out: &mut impl Write, bytes: &[u8]) -> io::Result<()> {
     Ok(())
 }
 
-// Writes the lines of a draft. Its buffer, as that of `run`, has the size that is enough for every draft: memory that is asked for might not be there.
+// Writes the lines of a draft. Its buffer, as that of `run`, has the size that is enough for every draft within the small limits, which the program keeps:
+// memory that is asked for might not be there.
 fn list(rt: &HostRuntime, draft: &[u8]) -> io::Result<()> {
     let mut lines = [0; LISTING_BYTES];
     let used = reader::entry::list_draft(draft, &mut lines);
@@ -107,7 +108,7 @@ fn list(rt: &HostRuntime, draft: &[u8]) -> io::Result<()> {
 
 // One byte more than a draft may have is kept: more need not be, since the length alone refuses it.
 fn run(rt: &HostRuntime) -> Result<(), Failed> {
-    let mut buf = [0; DRAFT_BYTES + 1];
+    let mut buf = [0; SMALL_BYTES + 1];
     let draft = read_draft(rt, &mut buf).map_err(Failed::Read)?;
     list(rt, draft).map_err(Failed::Write)
 }

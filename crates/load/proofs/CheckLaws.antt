@@ -4,14 +4,13 @@ use Rattle.std.specs.Prelude.{Option}
 use mathlib.Core.Bool.{Bool, true, false, true≢false}
 use mathlib.Core.List.{List, [], ◌∷◌}
 use mathlib.Core.Path.{◌≡◌, sym, ap, ◌∙◌, subst}
-use Prim.Native.Nat.{ℕ, zero, suc, ◌+◌, ◌-◌, ◌<◌, ◌≤◌}
+use Prim.Native.Nat.{ℕ, ◌+◌, ◌-◌, ◌<◌, ◌≤◌}
 use native.Mathlib.Omega.{arith}
-use native.Mathlib.Decide.{dec_lt}
-use borrow.Author.Tests.{eq-eqb, lt-ltb, le-leb}
-use lib.Dec.{T, eqb, ltb, leb, eqb→eq}
+use borrow.Author.Tests.{lt-ltb, le-leb}
+use lib.Dec.{T, ltb, leb}
 use lib.ListN.{length, get_or}
-use Rattle.std.specs.List.{list_all, range_with_len}
-use Rattle.text.proofs.Table.{is_true, is_false, pair, first-of, second-of}
+use Rattle.std.proofs.Common.{below_more}
+use Rattle.text.proofs.Table.{is_true, is_false, pair}
 use Rattle.own.specs.Tree.{Rec}
 use Rattle.own.specs.Flat.{blank, children}
 use Rattle.kinds.specs.Shape.{half_range}
@@ -24,6 +23,7 @@ use Rattle.load.proofs.Checks.Stands.{stands-exactly, stands-each}
 use Rattle.load.specs.Checks.Judge.{judge, begun, verdict}
 use Rattle.load.proofs.Checks.Verdict.{right-found, found_right}
 use Rattle.load.specs.declared.walk.Seen.{Seen}
+use Rattle.load.proofs.Told.{told-so}
 
 -- Two tests that pass alike are equal.
 pub alike : (a b : Bool) → (T a → T b) → (T b → T a) → a ≡ b
@@ -68,20 +68,6 @@ module _ (rs : List Rec) (j : ℕ) (r : Rec) (its : r ≡ get_or rs j blank) whe
       }))
       (λ t. right-found r (children rs j) (small lo hi) (standing t).1 ((stands-exactly rs j).0 t).some)
 
--- A test of every number of a range.
-module _ (p : ℕ → Bool) where
-  range-all : (a n : ℕ) → T (list_all p (range_with_len a n)) → (k : ℕ) → a ≤ k → k < a + n → T (p k)
-  range-all a zero t k h l = absurd (omega arith)
-  range-all a (suc n) t k h l = go (dec_lt a k) (range-all (a + 1) n (second-of (p a) (list_all p (range_with_len (a + 1) n)) t) k)
-    where
-      go : Dec (a < k) → (a + 1 ≤ k → k < a + 1 + n → T (p k)) → T (p k)
-      go (yes q) f = f (omega arith) (omega arith)
-      go (no q) f = let e : a ≡ k = omega arith in subst (λ (x : ℕ). T (p x)) e (first-of (p a) (list_all p (range_with_len (a + 1) n)) t)
-
-  all-range : (a n : ℕ) → ((k : ℕ) → a ≤ k → k < a + n → T (p k)) → T (list_all p (range_with_len a n))
-  all-range a zero f = tt
-  all-range a (suc n) f = pair (p a) (list_all p (range_with_len (a + 1) n)) (f a (omega arith) (omega arith)) (all-range (a + 1) n (λ k h l. f k (omega arith) (omega arith)))
-
 -- Whether all records do, and the first is the top of them.
 module _ (rs : List Rec) where
   whole : T (is_whole rs) → Whole rs
@@ -102,15 +88,28 @@ module _ (rs : List Rec) where
     pub one-top : (b : Bool) → b ≡ is_top r → b ≡ false → false ≡ is_whole rs
     one-top b e f = refused (λ o. subst T (ap is_top (sym its) ∙ sym e ∙ f) o.top)
 
-    pub one_size : {n : ℕ} → n ≡ length rs → eqb r.size n ≡ false → false ≡ is_whole rs
-    one_size {n} e f = refused (λ o. true≢false (sym (eq-eqb r.size n (ap (λ (x : Rec). x.size) its ∙ o.counts_all ∙ sym e)) ∙ f))
+    pub one_size : {n : ℕ} → n ≡ length rs → (r.size ≡ n → ⊥) → false ≡ is_whole rs
+    one_size e f = refused (λ o. f (ap (λ (x : Rec). x.size) its ∙ o.counts_all ∙ sym e))
 
-    -- the others decide
-    pub one_rest : {n : ℕ} → n ≡ length rs → T (is_top r) → T (eqb r.size n) → {b : Bool} → b ≡ list_all (stands rs) (range_with_len 0 n) → b ≡ is_whole rs
-    one_rest {n} e t size {b} is =
-        is
-        ∙ alike (list_all (stands rs) (range_with_len 0 n)) (is_whole rs)
-        (λ a.
-        (whole-exactly rs).1 ((stands-each rs).1
-        (subst (λ (x : Rec). T (is_top x)) its t, ap (λ (x : Rec). x.size) (sym its) ∙ eqb→eq r.size n size ∙ e, λ j h. (stands-exactly rs j).0 (range-all (stands rs) 0 n a j (omega arith) (omega arith)))))
-        (λ o. all-range (stands rs) 0 n (λ j h k. (stands-exactly rs j).1 (((stands-each rs).0 (whole o)).2 j (omega arith))))
+-- What the loop over the records keeps: those before i stand.
+pub record Standing (rs : List Rec) (n i : ℕ) : Type 0 where
+  pub within : i ≤ n
+  pub each : (q : ℕ) → q < i → T (stands rs q)
+
+pub standing-start : (rs : List Rec) (n : ℕ) → Standing rs n 0
+standing-start rs n = record { within = omega arith; each = λ q h. absurd (omega arith) }
+
+module _ {rs : List Rec} {n i : ℕ} (x : Standing rs n i) where
+  pub standing-more : {b : Bool} → b ≡ stands rs i → b ≡ true → i < n → Standing rs n (i + 1)
+  standing-more e t h = record { within = omega arith; each = below_more _ _ x.each (told-so _ t e) }
+
+  module _ (long : n ≡ length rs) where
+    pub standing-not : {b : Bool} → b ≡ stands rs i → b ≡ false → i < n → false ≡ is_whole rs
+    standing-not e f h = refused rs (λ o. subst T (sym e ∙ f) ((stands-exactly rs i).1 (((stands-each rs).0 o).2 i (omega arith))))
+
+    -- where all do, under such a top, they form a whole
+    pub standing-all : {r : Rec} → r ≡ get_or rs 0 blank → {b : Bool} → b ≡ is_top r → b ≡ true → r.size ≡ n → n ≤ i → true ≡ is_whole rs
+    standing-all its e t size h =
+        sym (is_true (is_whole rs)
+        ((whole-exactly rs).1 ((stands-each rs).1
+        (subst (λ (y : Rec). T (is_top y)) its (told-so _ t e), ap (λ (y : Rec). y.size) (sym its) ∙ size ∙ long, λ j k. (stands-exactly rs j).0 (x.each j (omega arith))))))

@@ -1,18 +1,21 @@
--- The chunks of a text, and the first of them that is no line of a form.
+-- The chunks of a text: the first of them that is no line of a form, and the numbers of those that are.
 -- Assumes nothing.
-use Rattle.std.specs.Prelude.{MatchOption, IsSomeAnd, Option, Some, None, Bool, true, false, not, cond, ◌||◌, List, [], ◌∷◌, ◌++◌, ◌≡◌, refl, ℕ, zero, suc, ◌+◌, ◌<◌, ◌≤◌, T, eqb, ltb, length, take, drop, min}
-use Rattle.std.proofs.Common.{true≢false, length-take-le, drop_of_length-le, sym, ap, ◌∙◌, subst, arith, eqb→eq, length-append, take-append-drop, append-nil, append_assoc}
+use Rattle.std.specs.Prelude.{MatchOption, IsSomeAnd, Option, Some, None, Bool, true, false, not, cond, ◌||◌, List, [], ◌∷◌, ◌++◌, map, ◌≡◌, refl, ℕ, zero, suc, ◌+◌, ◌/◌, ◌<◌, ◌≤◌, T, eqb, ltb, length, take, drop, min}
+use Rattle.std.proofs.Common.{true≢false, drop_of_length-le, sym, ap, ◌∙◌, subst, arith, eqb→eq, length-append, take-append-drop, append-nil, append_assoc}
 use borrow.Author.Tests.{eq-eqb, lt-ltb, le-ltb}
 use native.Mathlib.Decide.{dec_lt}
 use Rattle.std.specs.Iterator.{AlwaysYields}
 use Rattle.std.proofs.lemmas.Iterator.{YieldsList}
 use Rattle.std.specs.Slice.Iter.{chunks_steps, chunks_rest, chunks_size}
-use Rattle.std.specs.List.{position_or_len}
+use Rattle.std.specs.List.{list_any, position_or_len}
+use Rattle.std.specs.Simd.{first_chunks}
 use Rattle.text.proofs.Table.{is_true, is_false}
 use Rattle.lines.specs.Form.{line_of, wide}
-use Rattle.load.specs.Listing.Read.{in_form, values_of, bad_from, bad_line, first_bad}
-use Rattle.load.proofs.LineLaws.{some-bad}
-use Rattle.load.proofs.Listing.LineLaws.{form-long, line-is, line-then, line-in}
+use Rattle.lines.specs.Lines.{long_widths, needs_more, is_long}
+use Rattle.lines.proofs.Lines.{long-any}
+use Rattle.load.specs.Listing.Read.{in_form, values_of, bad_from, bad_line, first_bad, rows_from, lines_read}
+use Rattle.load.proofs.LineLaws.{values-part, some-bad}
+use Rattle.load.proofs.Listing.LineLaws.{line-is, line-then, line-in}
 use Rattle.std.proofs.lemmas.List.{take_all, drop_at}
 use Rattle.std.proofs.Math.Seq.{take-append_seam}
 
@@ -24,10 +27,6 @@ chunks_of n (suc f) l = cond (eqb (length l) 0) [] (take n l ∷ chunks_of n f (
 nothing : (x : List ℕ) → length x ≡ 0 → x ≡ []
 nothing [] q = refl
 nothing (y ∷ x) q = absurd (omega arith)
-
-or-true : (b : Bool) → (b || true) ≡ true
-or-true true = refl
-or-true false = refl
 
 -- A part of a list that is as long as n, or all of it.
 first-part : (n : ℕ) (l a b : List ℕ) → l ≡ a ++ b → length a ≡ min n (length l) → (a ≡ take n l) × (b ≡ drop n l)
@@ -71,14 +70,14 @@ pub chunks-listed : (step : ℕ) (text : List ℕ) (s : _) → 0 < step → chun
 chunks-listed step text s n e r =
     record { runs = subst (AlwaysYields chunks_steps (λ y. y.now) s) (λ i. chunks_of (e i) (length text) (r i)) (chunks-yield (length text) s (omega arith) (omega (arith, ap length r))) }
 
--- A chunk is bad that is too short, or is no line of the form.
-abbrev pub is_bad : List ℕ → ℕ → List ℕ → Bool
-is_bad ws step l = ltb (length l) step || not (in_form ws l)
+-- A chunk is bad that is no line of the form, as one that is too short is.
+abbrev pub is_bad : List ℕ → List ℕ → Bool
+is_bad ws l = not (in_form ws l)
 
 -- The first bad one is that of the first bad line.
 module _ (ws : List ℕ) (step : ℕ) (e : step ≡ wide ws) where
   abbrev bad : List ℕ → Bool
-  bad l = is_bad ws step l
+  bad l = is_bad ws l
 
   in-form-front : (bs : List ℕ) → T (in_form ws bs) → T (in_form ws (take step bs))
   in-form-front bs t =
@@ -95,14 +94,9 @@ module _ (ws : List ℕ) (step : ℕ) (e : step ≡ wide ws) where
   bad-is : (bs : List ℕ) → bad (take step bs) ≡ not (in_form ws bs)
   bad-is bs = go (in_form ws bs) refl
     where
-      go : (b : Bool) → in_form ws bs ≡ b → (ltb (length (take step bs)) step || not (in_form ws (take step bs))) ≡ not b
-      go true f =
-          let t = in-form-front bs (subst T (sym f) tt) in
-          let m = length-take-le step bs (omega (arith, form-long ws bs (subst T (sym f) tt), e)) in
-          (λ i. le-ltb (length (take step bs)) step (omega (arith, m)) i || not (is_true (in_form ws (take step bs)) t i))
-      go false f =
-          ap (λ (b : Bool). ltb (length (take step bs)) step || not b) (is_false (in_form ws (take step bs)) (λ t. true≢false (sym (is_true (in_form ws bs) (in-form-back bs t)) ∙ f)))
-          ∙ or-true (ltb (length (take step bs)) step)
+      go : (b : Bool) → in_form ws bs ≡ b → not (in_form ws (take step bs)) ≡ not b
+      go true f = ap not (is_true (in_form ws (take step bs)) (in-form-front bs (subst T (sym f) tt)))
+      go false f = ap not (is_false (in_form ws (take step bs)) (λ t. true≢false (sym (is_true (in_form ws bs) (in-form-back bs t)) ∙ f)))
 
   -- its number, from 1, or 0
   pub number-at : ℕ → ℕ → ℕ → ℕ
@@ -159,3 +153,23 @@ from-place {P} k n {r} {m} e c f = go (ltb k n) (subst (λ (o : Option ℕ). Mat
     go : (b : Bool) → MatchOption (cond b (Some k) None) (m ≡ None) (λ x. IsSomeAnd m (P x)) → m ≡ first_bad (cond b (0 + k + 1) 0)
     go true q = some-one m q
     go false q = q
+
+-- The numbers of the lines are those of the chunks.
+pub chunks-read : (ws : List ℕ) (n : ℕ) (bs : List ℕ) → map (values_of ws) (first_chunks (wide ws) n bs) ≡ rows_from ws n bs
+unfolding rows_from
+chunks-read ws zero bs = refl
+chunks-read ws (suc n) bs = λ i. values-part ws (wide ws) bs (omega arith) i ∷ chunks-read ws n (drop (wide ws) bs) i
+
+any-map : {A B : Type 0} (p : B → Bool) (f : A → B) (l : List A) → list_any (λ a. p (f a)) l ≡ list_any p (map f l)
+any-map p f [] = refl
+any-map p f (a ∷ l) = ap (λ (b : Bool). p (f a) || b) (any-map p f l)
+
+-- Whether a line of a listing needs 49 bytes, from the chunks of the text.
+pub long-chunks : (text : List ℕ) {cs : List (List ℕ)} {b : Bool} → b ≡ list_any (λ l. needs_more (values_of long_widths l)) cs
+    → cs ≡ first_chunks (wide long_widths) (length text / wide long_widths) text → b ≡ is_long (lines_read long_widths text)
+unfolding lines_read
+long-chunks text {cs} e c =
+    e
+    ∙ any-map needs_more (values_of long_widths) cs
+    ∙ ap (list_any needs_more) (ap (map (values_of long_widths)) c ∙ chunks-read long_widths (length text / wide long_widths) text)
+    ∙ long-any (lines_read long_widths text)

@@ -1,5 +1,5 @@
--- The records of right trees, each with its way up, fit the digits of a line, where their places and their number do: kinds are few, low and high are
--- halves of 32 bits or count children, and a way up is no more than the number of its record.
+-- The records of right trees, each with its way up, fit lines with so many digits for places, where their places and their number do: kinds are few, low and
+-- high are halves of 32 bits or count children, and a way up is no more than the number of its record.
 -- Assumes nothing.
 use Rattle.std.specs.Prelude.{Bool, true, false, ◌&&◌, cond, List, [], ◌∷◌, map, ℕ, suc, ◌+◌, ◌<◌, ◌≤◌, T, eqb, length, get_or}
 use Rattle.std.proofs.Common.{sym, subst, arith}
@@ -21,7 +21,7 @@ use Rattle.own.proofs.Owners.{no_node, kept}
 use Rattle.own.specs.Kinds as kind
 use Rattle.lines.specs.Hex.{power}
 use Rattle.up.specs.Ways.{six, rows}
-use Rattle.lines.specs.Lines.{kind_digits, place_digits, six_widths, widths}
+use Rattle.lines.specs.Lines.{kind_digits, half_digits, sized, with_way}
 use Rattle.kinds.specs.Families as family
 use Rattle.kinds.specs.Shape.{half_range, number}
 use Rattle.kinds.specs.Fields as field
@@ -37,6 +37,7 @@ use Rattle.load.specs.Checks.Stands.{Stands}
 use Rattle.load.specs.Listing.InForm.{Fit, Fitting}
 use Rattle.load.proofs.FormLaws.{rows-fit}
 use Rattle.load.proofs.Handed.{stands}
+use Rattle.load.proofs.LineLaws.{power_le}
 
 -- Fields that name no number beyond a half.
 abbrev small : Fields → Bool
@@ -117,41 +118,46 @@ right-small r cs o some few =
         let q = holds-small r.low r.high (map bare cs) less f.fields (second-of a (small f.fields) s) h.fields in
         (omega (arith, eqb→eq f.kind r.kind e), q.0, q.1)
 
--- A place that fits.
-abbrev Early : Rec → Type 0
-Early r = (r.start < power place_digits) × (r.stop < power place_digits)
+module _ (n : ℕ) (short : n ≤ half_digits) where
+  -- so many digits tell apart no more than a half
+  power-few : power n ≤ half_range
+  power-few = power_le n half_digits short
 
--- The first six numbers of a record that stands in a list fit, if its place and the list do.
-record-fits : (rs : List Rec) (j : ℕ) → Stands rs j → Early (get_or rs j blank) → length rs < power place_digits → Fit six_widths (six (get_or rs j blank))
-record-fits rs j s (b, e) few =
-    let r = get_or rs j blank in
-    let m = s.room in
-    let (k, l, i) = right-small r (children rs j) s.right s.some (omega arith) in
-    (k, (b, (e, (l, (i, (omega arith, tt))))))
+  -- A place that fits.
+  abbrev Early : Rec → Type 0
+  Early r = (r.start < power n) × (r.stop < power n)
 
-module _ (ns : List Node) (ok : kinds.Right ns) (e : end 0 (tokens ns) < power place_digits) (few : length (tokens ns) < power place_digits) where
-  records-few : length (records ns) < power place_digits
-  records-few = omega (arith, (owning.law-3 ns ok).few)
+  -- The first six numbers of a record that stands in a list fit, if its place and the list do.
+  record-fits : (rs : List Rec) (j : ℕ) → Stands rs j → Early (get_or rs j blank) → length rs < power n → Fit (sized n) (six (get_or rs j blank))
+  record-fits rs j s (b, e) few =
+      let r = get_or rs j blank in
+      let m = s.room in
+      let (k, l, i) = right-small r (children rs j) s.right s.some (omega (arith, power-few)) in
+      (k, (b, (e, (l, (i, (omega arith, tt))))))
 
-  sixes-fit : All (λ r. Fit six_widths (six r)) (records ns)
-  sixes-fit = all_from (records ns) blank each
-    where
-      each : (j : ℕ) → j < length (records ns) → Fit six_widths (six (get_or (records ns) j blank))
-      each j lt =
-          let fine = owning.fine ns ok in
-          let in_all : j < length (all ns) = omega (arith, length-map (all ns) record_of) in
-          let b = all-at j no_node in_all (all-concat (bounded (roots ns) 0 ok.ordered fine.marked)) in
-          let early : Early (get_or (records ns) j blank) = subst Early (sym ((kept ns fine).stands j lt)) (omega (arith, b.some, b.high), omega (arith, b.high)) in
-          record-fits (records ns) j (stands ns ok j lt) early records-few
+  module _ (ns : List Node) (ok : kinds.Right ns) (e : end 0 (tokens ns) < power n) (few : length (tokens ns) < power n) where
+    records-few : length (records ns) < power n
+    records-few = omega (arith, (owning.law-3 ns ok).few)
 
-  -- The records of right trees fit, where the last token ends early and there are few.
-  pub fitting : Fitting widths (rows (records ns))
-  fitting = rows-fit (records ns) sixes-fit records-few
+    sixes-fit : All (λ r. Fit (sized n) (six r)) (records ns)
+    sixes-fit = all_from (records ns) blank each
+      where
+        each : (j : ℕ) → j < length (records ns) → Fit (sized n) (six (get_or (records ns) j blank))
+        each j lt =
+            let fine = owning.fine ns ok in
+            let in_all : j < length (all ns) = omega (arith, length-map (all ns) record_of) in
+            let b = all-at j no_node in_all (all-concat (bounded (roots ns) 0 ok.ordered fine.marked)) in
+            let early : Early (get_or (records ns) j blank) = subst Early (sym ((kept ns fine).stands j lt)) (omega (arith, b.some, b.high), omega (arith, b.high)) in
+            record-fits (records ns) j (stands ns ok j lt) early records-few
 
--- The records of a file of right trees fit, where its end does and there are fewer tokens.
-pub file-fitting : (ns : List Node) (len : ℕ) → kinds.Right ns → end 0 (tokens ns) ≤ len → len < power place_digits → suc (length (tokens ns)) < power place_digits
-    → Fitting widths (rows (filed len (records ns)))
-file-fitting ns len ok within e few =
-    let m = (owning.law-3 ns ok).few in
-    let top : Fit six_widths (six (program len (records ns))) = (omega arith, (omega arith, (e, (omega arith, (omega arith, (omega (arith, m), tt)))))) in
-    rows-fit (filed len (records ns)) (top & sixes-fit ns ok (omega arith) (omega arith)) (omega (arith, m))
+    -- The records of right trees fit, where the last token ends early and there are few.
+    pub fitting : Fitting (with_way n) (rows (records ns))
+    fitting = rows-fit n (records ns) sixes-fit records-few
+
+  -- The records of a file of right trees fit, where its end does and there are fewer tokens.
+  pub file-fitting : (ns : List Node) (len : ℕ) → kinds.Right ns → end 0 (tokens ns) ≤ len → len < power n → suc (length (tokens ns)) < power n
+      → Fitting (with_way n) (rows (filed len (records ns)))
+  file-fitting ns len ok within e few =
+      let m = (owning.law-3 ns ok).few in
+      let top : Fit (sized n) (six (program len (records ns))) = (omega arith, (omega arith, (e, (omega arith, (omega arith, (omega (arith, m), tt)))))) in
+      rows-fit n (filed len (records ns)) (top & sixes-fit ns ok (omega arith) (omega arith)) (omega (arith, m))

@@ -2,7 +2,7 @@
 -- Assumes nothing.
 use Rattle.std.specs.Prelude.{Some}
 use mathlib.Core.Bool.{Bool, true, false, ◌&&◌}
-use mathlib.Core.List.{List}
+use mathlib.Core.List.{List, [], ◌∷◌}
 use mathlib.Core.Path.{◌≡◌, refl, sym, ap, ap₂, ◌∙◌}
 use Prim.Native.Nat.{ℕ, zero, suc, ◌+◌, ◌-◌, ◌*◌, ◌%◌, ◌<◌, ◌≤◌}
 use native.Mathlib.Omega.{arith}
@@ -15,9 +15,9 @@ use Rattle.lines.specs.Hex.{power}
 use Rattle.lines.specs.Form.{after, wide}
 use Rattle.lines.specs.Lines.{half_digits}
 use Rattle.std.specs.List.{list_all}
-use Rattle.std.proofs.lemmas.List.{drop_more, get_or-take}
+use Rattle.std.proofs.lemmas.List.{drop_more, drop-take, get_or-take}
 use Rattle.std.proofs.lemmas.List.Folds.{list_all_more}
-use Rattle.load.specs.Listing.Read.{digit_of, is_digit, are_digits, number_of, in_form, first_bad}
+use Rattle.load.specs.Listing.Read.{digit_of, is_digit, are_digits, number_of, in_form, values_of, first_bad}
 use Rattle.load.proofs.Listing.DigitLaws.{number-below}
 
 -- What the loop of `value` keeps: the number that the first i digits are.
@@ -29,7 +29,7 @@ pub valued-start : (ds : List ℕ) → Valued ds 0 0
 unfolding number_of
 valued-start ds = record { within = omega arith; is = refl }
 
-power_le : (a b : ℕ) → a ≤ b → power a ≤ power b
+pub power_le : (a b : ℕ) → a ≤ b → power a ≤ power b
 power_le zero zero h = omega arith
 power_le zero (suc b) h = omega (arith, power_le zero b (omega arith))
 power_le (suc a) zero h = absurd (omega arith)
@@ -55,6 +55,19 @@ pub number-front : (n m : ℕ) (bs : List ℕ) → n ≤ m → number_of n (take
 unfolding number_of
 number-front zero m bs h = refl
 number-front (suc n) m bs h = ap₂ (λ (v b : ℕ). 16 * v + digit_of b % 16) (number-front n m bs (omega arith)) (get_or-take m bs n 0 (omega arith))
+
+-- so the numbers of a line are those of its bytes alone,
+pub values-part : (ws : List ℕ) (m : ℕ) (bs : List ℕ) → wide ws ≤ m → values_of ws (take m bs) ≡ values_of ws bs
+unfolding values_of
+values-part [] m bs h = refl
+values-part (n ∷ ns) m bs h =
+    let k = m - (n + 1) in
+    let e : m ≡ n + 1 + k = omega arith in
+    let rest : values_of ns (drop (n + 1) (take m bs)) ≡ values_of ns (drop (n + 1) bs) =
+    ap (λ (j : ℕ). values_of ns (drop (n + 1) (take j bs))) e
+    ∙ ap (values_of ns) (drop-take (n + 1) k bs)
+    ∙ values-part ns k (drop (n + 1) bs) (omega arith) in
+    λ i. number-front n m bs (omega arith) i ∷ rest i
 
 -- and they begin with digits where all of these are some.
 pub digits-front : (n : ℕ) (bs : List ℕ) → n ≤ length bs → list_all is_digit (take n bs) ≡ are_digits n bs

@@ -13,10 +13,13 @@ use Rattle.own.proofs.WordLaws.{recs-length}
 use Rattle.up.specs.Ways.{up_words, upward}
 use Rattle.up.proofs.Laws.{up-words-long, upward-held}
 use Rattle.lines.specs.Form.{wide}
-use Rattle.load.specs.Form.{Form, older, widths_of, form_of}
+use Rattle.lines.specs.Lines.{with_way}
+use Rattle.load.specs.Form.{Form, widths_of, digits_of, form_of, needed}
 use Rattle.load.specs.FunctionTest.{is_whole}
-use Rattle.load.specs.Load.{ways_right, is_right, load_as, load_of, records_of, contents, words_of}
-use Rattle.load.specs.Meant.{meant, not_loaded}
+use Rattle.load.specs.Load.{ways_given, ways_right, is_right, load_as, load_of, records_of, contents, words_of}
+use Rattle.load.specs.Meant.{meant, not_loaded, as_form}
+use Rattle.load.specs.declared.form.Form as code
+use Rattle.load.specs.declared.form.Form.TheVariants.{Older, Newer, Longer}
 use Rattle.load.proofs.Laws.{promised}
 use Rattle.load.specs.Promised.{Loads}
 use Rattle.load.specs.declared.NotLoaded.{NotLoaded}
@@ -24,14 +27,18 @@ use Rattle.load.specs.declared.NotLoaded.TheVariants.{BadLine, NotWhole, NoRoom}
 use Rattle.load.specs.Listing.Read.{bad_line, first_bad, rows_from, lines_read, rec_of}
 use Rattle.load.proofs.Listing.RecordLaws.{lines-long}
 
--- Whether its lines are right, by both tests.
-module _ (f : Form) (vs : List (List ℕ)) {b : Bool} (whole : b ≡ is_whole (map rec_of vs)) where
-  by_ways : b ≡ true → {x : Bool} → x ≡ ways_right f vs → x ≡ is_right f vs
-  by_ways e t = t ∙ ap (λ (x : Bool). x && ways_right f vs) (sym e ∙ whole)
+-- Whether its lines are right, by both tests, the second as the form says it.
+pub right-as : (f : Form) (text : List ℕ) {b : Bool} → b ≡ is_whole (map rec_of (lines_read (widths_of f) text)) → b ≡ true
+    → {g : Form} → f ≡ g → {x : Bool} → x ≡ ways_right g (lines_read (widths_of g) text) → x ≡ is_right f (lines_read (widths_of f) text)
+right-as f text whole e o t = t ∙ (λ i. (sym e ∙ whole) i && ways_right (sym o i) (lines_read (widths_of (sym o i)) text))
 
-  pub right-older : f ≡ older → b ≡ true → true ≡ is_right f vs
-  unfolding ways_right
-  right-older o e = by_ways e (ap (λ (g : Form). ways_right g vs) (sym o))
+-- The second, of a form that has a way up.
+pub right-given : (f : code.Form) {n : ℕ} (text : List ℕ) → (f ≡ Older → ⊥) → digits_of (as_form f) ≡ n → {x : Bool} → x ≡ ways_given (lines_read (with_way n) text)
+    → x ≡ ways_right (as_form f) (lines_read (widths_of (as_form f)) text)
+unfolding ways_right
+right-given Older text o d t = absurd (o refl)
+right-given Newer text o d t = t ∙ ap (λ (n : ℕ). ways_given (lines_read (with_way n) text)) (sym d)
+right-given Longer text o d t = t ∙ ap (λ (n : ℕ). ways_given (lines_read (with_way n) text)) (sym d)
 
 -- What the first bad line is, and that there is none.
 first-some : (n : ℕ) {l : ℕ} → Some l ≡ first_bad n → (l ≡ n) × (0 < l)
@@ -49,29 +56,37 @@ module _ (f : Form) (text : List ℕ) (room : ℕ) where
       let (is, h) = first-some (bad_line (widths_of f) text) e in
       (λ i. refused refusal.BadLine (is i)) ∙ simp (lt-ltb 0 (bad_line (widths_of f) text) (omega (arith, is)))
 
-  module _ (good : None ≡ first_bad (bad_line (widths_of f) text)) {b : Bool} (right : b ≡ is_right f (lines_read (widths_of f) text)) where
+  module _ (good : None ≡ first_bad (bad_line (widths_of f) text)) {d : Bool} (need : d ≡ needed f (lines_read (widths_of f) text)) where
     fine : ltb 0 (bad_line (widths_of f) text) ≡ false
     fine = le-ltb 0 (bad_line (widths_of f) text) (first-none (bad_line (widths_of f) text) good)
 
     -- what is left to test
-    left : {x short : Bool} → b ≡ x → ltb room (rec_wide * length (lines_read (widths_of f) text)) ≡ short
-        → cond x (cond short (refused refusal.NoLoadRoom 0) (accepted 0 (length (lines_read (widths_of f) text)))) (refused refusal.NotWhole 0) ≡ load_as f text room
+    left : {x y short : Bool} → d ≡ x → is_right f (lines_read (widths_of f) text) ≡ y → ltb room (rec_wide * length (lines_read (widths_of f) text)) ≡ short
+        → cond x (cond y (cond short (refused refusal.NoLoadRoom 0) (accepted 0 (length (lines_read (widths_of f) text)))) (refused refusal.NotWhole 0)) (refused refusal.BadLine 1)
+        ≡ load_as f text room
     unfolding load_as
-    left {x} {short} e s =
+    left {x} {y} {short} n o s =
         let vs = lines_read (widths_of f) text in
         let bad = bad_line (widths_of f) text in
         λ i. cond (sym fine i) (refused refusal.BadLine bad)
-        (cond ((sym e ∙ right) i) (cond (sym s i) (refused refusal.NoLoadRoom 0) (accepted 0 (length vs))) (refused refusal.NotWhole 0))
+        (cond ((sym n ∙ need) i)
+        (cond (sym o i) (cond (sym s i) (refused refusal.NoLoadRoom 0) (accepted 0 (length vs))) (refused refusal.NotWhole 0))
+        (refused refusal.BadLine 1))
 
-    pub load-none : b ≡ false → refused refusal.NotWhole 0 ≡ load_as f text room
-    load-none e = left e refl
+    pub load-needless : d ≡ false → refused refusal.BadLine 1 ≡ load_as f text room
+    load-needless n = left n refl refl
 
-    module _ (yes : b ≡ true) {n : ℕ} (long : n ≡ length (lines_read (widths_of f) text)) where
-      pub load-short : room / rec_wide < n → refused refusal.NoLoadRoom 0 ≡ load_as f text room
-      load-short h = left yes (lt-ltb room (rec_wide * length (lines_read (widths_of f) text)) (omega (arith, long, h)))
+    module _ (does : d ≡ true) {b : Bool} (right : b ≡ is_right f (lines_read (widths_of f) text)) where
+      pub load-none : b ≡ false → refused refusal.NotWhole 0 ≡ load_as f text room
+      load-none e = left does (sym right ∙ e) refl
 
-      pub load-records : n ≤ room / rec_wide → accepted 0 n ≡ load_as f text room
-      load-records h = ap (accepted 0) long ∙ left yes (le-ltb room (rec_wide * length (lines_read (widths_of f) text)) (omega (arith, long, h)))
+      module _ (yes : b ≡ true) {n : ℕ} (long : n ≡ length (lines_read (widths_of f) text)) where
+        pub load-short : room / rec_wide < n → refused refusal.NoLoadRoom 0 ≡ load_as f text room
+        load-short h = left does (sym right ∙ yes) (lt-ltb room (rec_wide * length (lines_read (widths_of f) text)) (omega (arith, long, h)))
+
+        pub load-records : n ≤ room / rec_wide → accepted 0 n ≡ load_as f text room
+        load-records h =
+            ap (accepted 0) long ∙ left does (sym right ∙ yes) (le-ltb room (rec_wide * length (lines_read (widths_of f) text)) (omega (arith, long, h)))
 
 -- The answer in the form of the listing is the answer.
 pub as-formed : (text : List ℕ) (room : ℕ) {f : Form} → f ≡ form_of text → {a : Answer} → a ≡ load_as f text room → a ≡ load_of text room
@@ -86,7 +101,7 @@ zeroed NoRoom rs room = refl
 -- as many records as there are lines, which fit
 loaded-is : (text : List ℕ) (room n : ℕ) → accepted 0 n ≡ load_of text room → (n ≡ length text / wide (widths_of (form_of text))) × (rec_wide * n ≤ room)
 unfolding load_as
-loaded-is text room n e = go (ltb 0 bad) (is_right (form_of text) vs) (ltb room (rec_wide * length vs)) refl e
+loaded-is text room n e = go (ltb 0 bad) (needed (form_of text) vs) (is_right (form_of text) vs) (ltb room (rec_wide * length vs)) refl e
   where
     vs : List (List ℕ)
     vs = lines_read (widths_of (form_of text)) text
@@ -94,13 +109,18 @@ loaded-is text room n e = go (ltb 0 bad) (is_right (form_of text) vs) (ltb room 
     bad : ℕ
     bad = bad_line (widths_of (form_of text)) text
 
-    go : (a b s : Bool) → ltb room (rec_wide * length vs) ≡ s
-        → accepted 0 n ≡ cond a (refused refusal.BadLine bad) (cond b (cond s (refused refusal.NoLoadRoom 0) (accepted 0 (length vs))) (refused refusal.NotWhole 0))
+    none : {c p : ℕ} → accepted 0 n ≡ refused c p → ⊥
+    none e = absurd cc
+
+    go : (a d b s : Bool) → ltb room (rec_wide * length vs) ≡ s
+        → accepted 0 n
+        ≡ cond a (refused refusal.BadLine bad) (cond d (cond b (cond s (refused refusal.NoLoadRoom 0) (accepted 0 (length vs))) (refused refusal.NotWhole 0)) (refused refusal.BadLine 1))
         → (n ≡ length text / wide (widths_of (form_of text))) × (rec_wide * n ≤ room)
-    go true b s q e = let z : ◌≡◌ {A = ℕ} 0 1 = cc in absurd (omega arith)
-    go false false s q e = let z : ◌≡◌ {A = ℕ} 0 1 = cc in absurd (omega arith)
-    go false true true q e = let z : ◌≡◌ {A = ℕ} 0 1 = cc in absurd (omega arith)
-    go false true false q e =
+    go true d b s q e = absurd (none e)
+    go false false b s q e = absurd (none e)
+    go false true false s q e = absurd (none e)
+    go false true true true q e = absurd (none e)
+    go false true true false q e =
         let k : n ≡ length vs = cc in
         let h = ltb-false room (rec_wide * length vs) q in
         (k ∙ lines-long (widths_of (form_of text)) text, omega arith)
@@ -144,6 +164,6 @@ module _ (text o l : List ℕ) {t w : List ℕ} (f : Form) (g : f ≡ form_of te
       ∙ ap (λ (b : Answer). contents b rs (length o)) a
 
 -- What is promised of the answer and the words, of those that are handed over.
-pub handed : (text : List ℕ) (room : ℕ) {f : Form} → f ≡ form_of text → {a : Answer} → a ≡ load_as f text room → {w : List ℕ} → w ≡ words_of text room → Loads text room a w
-handed text room e q {w} h =
-    subst (λ (a : Answer). Loads text room a w) (sym (as-formed text room e q)) (subst (Loads text room (load_of text room)) (sym h) (promised text room))
+pub handed : (text : List ℕ) (room : ℕ) {a : Answer} → a ≡ load_of text room → {w : List ℕ} → w ≡ words_of text room → Loads text room a w
+handed text room q {w} h =
+    subst (λ (a : Answer). Loads text room a w) (sym q) (subst (Loads text room (load_of text room)) (sym h) (promised text room))

@@ -3,20 +3,20 @@
 use Rattle.std.specs.Prelude.{Option, Bool, true}
 use mathlib.Core.List.{List}
 use mathlib.Core.Path.{◌≡◌, sym, ap, ◌∙◌, subst}
-use Prim.Native.Nat.{ℕ, suc, ◌+◌, ◌*◌, ◌/◌, ◌<◌, ◌≤◌}
+use Prim.Native.Nat.{ℕ, suc, ◌+◌, ◌-◌, ◌*◌, ◌/◌, ◌<◌, ◌≤◌}
 use native.Mathlib.Omega.{arith}
 use native.Mathlib.Nat.{mul-suc, div-add-mod, div-le_self, mul-le-mul_left}
-use lib.ListN.{length, get_or}
+use lib.ListN.{length, get_or, take, drop, length-take, length-drop}
+use Rattle.std.proofs.lemmas.List.{take_all}
 use Rattle.lines.specs.Form.{wide}
-use Rattle.lines.specs.Lines.{six_widths}
 use Rattle.load.specs.Meant.{as_form}
-use Rattle.load.proofs.Listing.LineForm.{held-form, first-six}
+use Rattle.load.proofs.Listing.LineForm.{held-form}
 use Rattle.load.proofs.Listing.LineLaws.{wide-front}
 use Rattle.own.specs.Tree.{Rec}
 use Rattle.own.specs.Flat.{blank}
 use Rattle.kinds.specs.Shape.{half_range}
-use Rattle.load.specs.Listing.Read.{records_in}
-use Rattle.load.specs.Listing.LineForm.{six_fields, LineForm}
+use Rattle.load.specs.Listing.Read.{values_of, records_in}
+use Rattle.load.specs.Listing.LineForm.{six_fields, first_six, LineForm}
 use Rattle.load.proofs.Listing.RecordLaws.{records-long, lines-long}
 use Rattle.load.specs.Children.Table.{state_count}
 use Rattle.load.specs.Children.Cue.{cue}
@@ -25,13 +25,13 @@ use Rattle.load.proofs.Children.Run.{cue-below}
 use Rattle.load.specs.Checks.Judge.{sits, past}
 use Rattle.load.specs.Checks.Listed.{fields, its_lines}
 use Rattle.load.proofs.Checks.Small.{sat}
-use Rattle.load.specs.declared.record.Listing.{Listing}
+use Rattle.load.specs.declared.form.Listing.{Listing}
 use Rattle.load.specs.declared.walk.Seen.{Seen}
 use Rattle.load.proofs.Told.{told-so}
 use Rattle.load.proofs.WalkLaws.{entry-below}
 use Rattle.load.proofs.Walking.{Walking, walking-more}
 
-mul-distrib-left : (a i : ℕ) → a * (i + 1) ≡ a * i + a
+pub mul-distrib-left : (a i : ℕ) → a * (i + 1) ≡ a * i + a
 mul-distrib-left a i = let e : i + 1 ≡ suc i = omega arith in ap (λ (k : ℕ). a * k) e ∙ mul-suc a i
 
 module _ (ws text : List ℕ) {step : ℕ} (f : LineForm ws step) where
@@ -80,10 +80,24 @@ past-state s c h e =
     let b = entry-below s.state (cue c.kind c.low c.high) h (cue-below c.kind c.low c.high) in
     omega (arith, l, b)
 
--- The first six fields of a line are there.
-pub its-line : (l : Listing) (i : ℕ) {step : ℕ} → step ≡ wide (fields l) → i < length (its_lines l) → step * i + wide six_widths ≤ length l.text.now
+-- The first six fields of a line are there, in the part of the text that begins with it,
+pub its-line : {n : ℕ} (l : Listing n) (i : ℕ) {step : ℕ} → step ≡ wide (fields l) → i < length (its_lines l) → step * i + wide (first_six (fields l)) ≤ length l.text.now
 its-line l i b h =
     let f = as_form l.form in
     let text = l.text.now in
-    let k = ap wide (first-six f) in
-    omega (arith, line-in (fields l) text (held-form f b) i (omega (arith, h, records-long (fields l) text, lines-long (fields l) text)), wide-front six_fields (fields l), k)
+    omega (arith, line-in (fields l) text (held-form f b) i (omega (arith, h, records-long (fields l) text, lines-long (fields l) text)), wide-front six_fields (fields l))
+
+-- and that part is the rest of the text.
+module _ {n : ℕ} (l : Listing n) (i : ℕ) {step : ℕ} (b : step ≡ wide (fields l)) {ws : List ℕ} (six : first_six (fields l) ≡ ws) where
+  abbrev from_line : List ℕ
+  from_line = take (length l.text.now - step * i) (drop (step * i) l.text.now)
+
+  pub line-room : i < length (its_lines l) → wide ws ≤ length from_line
+  line-room h =
+      omega (arith, its-line l i b h, ap wide six, length-take (length l.text.now - step * i) (drop (step * i) l.text.now), length-drop (step * i) l.text.now)
+
+  pub line-numbers : {vs : List ℕ} → vs ≡ values_of ws from_line → vs ≡ values_of (first_six (fields l)) (drop (wide (fields l) * i) l.text.now)
+  line-numbers e =
+      e
+      ∙ ap (values_of ws) (take_all (length l.text.now - step * i) (drop (step * i) l.text.now) (omega (arith, length-drop (step * i) l.text.now)))
+      ∙ (λ j. values_of (sym six j) (drop (b j * i) l.text.now))

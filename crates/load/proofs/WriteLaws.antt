@@ -9,8 +9,7 @@ use Rattle.text.specs.Widths.{rec_wide}
 use Rattle.own.specs.Tree.{Rec}
 use Rattle.own.specs.Words.{recs}
 use Rattle.lines.specs.Form.{wide}
-use Rattle.lines.specs.Lines.{six_widths}
-use Rattle.load.specs.Listing.LineForm.{six_fields, LineForm}
+use Rattle.load.specs.Listing.LineForm.{first_six, LineForm}
 use Rattle.load.specs.Listing.Read.{number_of, values_of, rows_from, rec_of}
 use Rattle.load.proofs.Listing.LineLaws.{values-long}
 use Rattle.load.proofs.Listing.RecordLaws.{record-by-six, six-long}
@@ -59,9 +58,6 @@ module _ {ws text l : List ℕ} {p k : ℕ} (x : Filling ws text l p k) where
   unfolding values_of
   filling-end h = ap (λ (d : List ℕ). sets l k (values_of d (drop p text))) (sym (drop_of_length-le ws h)) ∙ x.left
 
-pub six-numbers : (bs : List ℕ) → length (values_of six_widths bs) ≡ six_fields
-six-numbers bs = values-long six_widths bs
-
 -- The first records of a buffer are those of its first words, and those behind them.
 recs-split : (i k m : ℕ) (a b : List ℕ) → m ≡ i + k → length a ≡ rec_wide * i → recs m (a ++ b) ≡ recs i a ++ recs k b
 recs-split zero k m [] b e h = let z : m ≡ k = omega arith in ap (λ (n : ℕ). recs n b) z
@@ -107,12 +103,11 @@ module _ {ws text : List ℕ} {n : ℕ} {o l : List ℕ} {i : ℕ} (x : Writing 
   pub record_fits : i < n → rec_wide * n ≤ length o → rec_wide * i + rec_wide ≤ length l
   record_fits h k = omega (arith, x.long)
 
-  pub writing-more : {l₁ : List ℕ} {step : ℕ} → LineForm ws step → six_widths ≡ take six_fields ws → i < n → rec_wide * n ≤ length o
-      → l₁ ≡ sets l (rec_wide * i) (values_of six_widths (drop (step * i) text)) → Writing ws text n o l₁ (i + 1)
-  writing-more {l₁} {step} f six h k q =
-      let d = q ∙ ap (λ (w : List ℕ). sets l (rec_wide * i) (values_of w (drop (step * i) text))) six in
+  pub writing-more : {l₁ : List ℕ} {step : ℕ} → LineForm ws step → i < n → rec_wide * n ≤ length o
+      → l₁ ≡ sets l (rec_wide * i) (values_of (first_six ws) (drop (step * i) text)) → Writing ws text n o l₁ (i + 1)
+  writing-more {l₁} {step} f h k q =
       let bs = drop (step * i) text in
-      let vs = values_of (take six_fields ws) bs in
+      let vs = values_of (first_six ws) bs in
       let long = six-long ws bs f.full in
       let room = record_fits h k in
       let z = drop (rec_wide * i + length vs) l in
@@ -121,8 +116,8 @@ module _ {ws text : List ℕ} {n : ℕ} {o l : List ℕ} {i : ℕ} (x : Writing 
       let s : suc i ≡ i + 1 = omega arith in
       record {
         within = omega arith;
-        long = ap length d ∙ length-sets l (rec_wide * i) vs ∙ x.long;
-        so_far = ap (recs (i + 1)) (d ∙ sets-eq vs l (rec_wide * i) (omega (arith, long)) ∙ append_assoc a vs z)
+        long = ap length q ∙ length-sets l (rec_wide * i) vs ∙ x.long;
+        so_far = ap (recs (i + 1)) (q ∙ sets-eq vs l (rec_wide * i) (omega (arith, long)) ∙ append_assoc a vs z)
             ∙ recs-split i 1 (i + 1) a (vs ++ z) refl (length-take-le (rec_wide * i) l (omega arith))
             ∙ (λ j. recs-front i l (omega arith) j ++ (record-by-six ws bs z f.full j ∷ []))
             ∙ (λ j. x.so_far j ++ (rec_of (values_of ws (e j)) ∷ []))

@@ -1,4 +1,4 @@
--- Listings with known results: the example of document 01, and what orders 1, 3 and 7 say of others, as one list and one proof by computation. Refusals
+-- Listings with known results: the example of document 01, and what orders 1, 3, 7 and 9 say of others, as one list and one proof by computation. Refusals
 -- are in the papers' figures, so that the names for them are tested too.
 -- Assumes nothing.
 use Rattle.std.specs.Prelude.{List, [], ◌∷◌, ◌++◌, map, ◌≡◌, refl, ℕ, suc, take, drop}
@@ -10,6 +10,7 @@ use Rattle.text.specs.Same.{same}
 use Rattle.own.specs.Tree.{partner, canonical}
 use Rattle.lines.specs.Form.{LF}
 use Rattle.lines.specs.Hex.{upper_hex}
+use Rattle.lines.specs.Lines.{needs_more, is_long}
 use Rattle.num.specs.Bound.{is_bound}
 use Rattle.kinds.specs.Derive as derive
 use Rattle.kinds.specs.Shape as shape
@@ -98,6 +99,14 @@ file =
     ∷ "12 0010 0012 00000000 00000000 0001"
     ∷ []
 
+-- Spaces, and behind them a function, in lines of 49 bytes.
+abbrev far : List String
+far =
+    "01 00FFF8 010000 00000000 00000000 000003 000000"
+    ∷ "02 00FFFB 00FFFC 00000000 00000000 000001 000001"
+    ∷ "12 00FFFE 010000 00000000 00000000 000001 000002"
+    ∷ []
+
 -- How many records back the parent of each begins: of the example, and of the file.
 abbrev paper_ups : List String
 paper_ups = " 0000" ∷ " 0001" ∷ " 0002" ∷ " 0001" ∷ " 0001" ∷ " 0002" ∷ " 0001" ∷ " 0004" ∷ " 0001" ∷ []
@@ -126,6 +135,18 @@ known =
     ∷ record { text = ended (take 4 file) "" ++ climbing (drop 4 file) (drop 4 file_ups); room = 63; result = refused 16 5 }
     ∷ higher file (put 6 " 002" file_ups) 63 (refused 16 7)
     ∷ higher file (put 6 " 000a" file_ups) 63 (refused 16 7)
+    -- lines of 49 bytes: a draft of 65,536 spaces, of which the program ends there
+    ∷ whole ("29 000000 010000 00000000 00000000 000001 000000" ∷ []) 7 (accepted 0 1)
+    -- and one with a function that ends there
+    ∷ whole far 21 (accepted 0 3)
+    -- 16: that four digits would hold, at line 1, also where 17 or 18 would come; but a bad line is named before, one of 41 bytes too, and 17 behind it
+    ∷ whole ("29 000000 00FFFF 00000000 00000000 000001 000000" ∷ []) 7 (refused 16 1)
+    ∷ whole ("29 000001 00FFFF 00000000 00000000 000002 000001" ∷ []) 0 (refused 16 1)
+    ∷ behind ("29 000000 00FFFF 00000000 00000000 000001 000000" ∷ []) "0" (refused 16 2)
+    ∷ whole (put 2 "12 FFFE FFFF 00000000 00000000 0001 0001" far) 21 (refused 16 3)
+    ∷ whole ("29 0000 FFFF 00000000 00000000 0003 0000" ∷ drop 1 far) 21 (refused 16 2)
+    ∷ whole (put 2 "12 00FFFE 010000 00000000 00000000 000001 000001" far) 21 (refused 17 0)
+    ∷ whole far 20 (refused 18 0)
     -- 17: a wrong parent word: the parent's parent, a brother, and again; a top with 1, also where there is no room
     ∷ higher paper (put 7 " 0005" paper_ups) 63 (refused 17 0)
     ∷ higher file (put 4 " 0003" file_ups) 63 (refused 17 0)
@@ -174,5 +195,5 @@ known =
 pub known-agree : map (λ k. load_of k.text k.room) known ≡ map (λ k. k.result) known
 unfolding ascii ascii_from has all some count span partner canonical upper_hex is_bound derive.blank derive.dead derive.then derive.either derive.is_mark
     derive.is_part derive.after derive.spells shape.number shape.fits counted halves holds forms all_forms forms_for bare_part bare_shape fits inside placed right
-    is_whole place_in digit_of are_digits number_of in_form values_of bad_from bad_line rows_from lines_read same ways_right load_as
+    is_whole place_in digit_of are_digits number_of in_form values_of bad_from bad_line rows_from lines_read same is_long needs_more ways_right load_as
 known-agree = refl

@@ -5,7 +5,7 @@ use Rattle.text.specs.Answers.{Answer, accepted, refused, Values, values}
 use Rattle.text.specs.Refusals as refusal
 use Rattle.load.specs.Form as spec
 use Rattle.load.specs.declared.form.Form.{Form}
-use Rattle.load.specs.declared.form.Form.TheVariants.{Older, Newer}
+use Rattle.load.specs.declared.form.Form.TheVariants.{Older, Newer, Longer}
 use Rattle.load.specs.declared.NotLoaded.{NotLoaded}
 use Rattle.load.specs.declared.NotLoaded.TheVariants.{BadLine, NotWhole, NoRoom}
 
@@ -28,3 +28,4 @@ returned r = values (meant r)
 abbrev pub as_form : Form → spec.Form
 as_form Older = spec.older
 as_form Newer = spec.newer
+as_form Longer = spec.longer

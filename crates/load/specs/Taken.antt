@@ -1,4 +1,5 @@
--- When a listing is taken (document 01, "The listing program"; document 02, orders 1 and 7), as one statement; that it is accepted exactly then stands in proofs/Laws.antt.
+-- When a listing is taken (document 01, "The listing program"; document 02, orders 1, 7 and 9), as one statement; that it is accepted exactly then stands in
+-- proofs/Laws.antt.
 -- Assumes nothing: this is a definition.
 use Rattle.std.specs.Prelude.{List, ◌≡◌, ℕ, ◌*◌, ◌≤◌, length}
 use Rattle.text.specs.Widths.{rec_wide}

@@ -8,7 +8,8 @@ ghost use Rattle.load.specs.Checks.Judge.{as_rec};
 ghost use Rattle.load.specs.Checks.Small.{Below};
 ghost use Rattle.load.specs.Checks.Stands as standing;
 
-use crate::record::{Listing, Record};
+use crate::form::Listing;
+use crate::record::Record;
 use crate::walk::Seen;
 use crate::{begin, walk};
 use own::kind::Kind;
@@ -31,7 +32,7 @@ fn placed(r: Record) -> bool
 }
 
 // Whether the record of line j stands in the listing with all that it counts, and is right.
-fn stands(listing: &Listing, j: usize) -> bool
+fn stands<const N: usize>(listing: &Listing<N>, j: usize) -> bool
     requires { j < length (its_records listing.now) }
     ensures { result ≡ standing.stands (its_records listing.now) j }
 {
@@ -48,7 +49,8 @@ fn is_top(r: Record) -> bool
 }
 
 // Whether the records of a listing form a whole function or program.
-pub(crate) fn is_whole(listing: &Listing) -> bool
+// A loop over the lines: `all` would take a closure that holds the listing, and the check refuses one that holds a type with a constant among its parameters.
+pub(crate) fn is_whole<const N: usize>(listing: &Listing<N>) -> bool
     ensures { result ≡ test.is_whole (its_records listing.now) }
 {
     let n = listing.count();
@@ -56,5 +58,16 @@ pub(crate) fn is_whole(listing: &Listing) -> bool
         return false;
     }
     let top = listing.record(0);
-    is_top(top) && top.size as usize == n && (0..n).all(|j| stands(listing, j))
+    if !is_top(top) {
+        return false;
+    }
+    if top.size as usize != n {
+        return false;
+    }
+    for j in 0..n {
+        if !stands(listing, j) {
+            return false;
+        }
+    }
+    true
 }

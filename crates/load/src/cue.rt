@@ -75,7 +75,8 @@ fn number_cue(n: u64) -> usize
     SIZE
 }
 
-// The cue of a child, by its kind, low and high.
+// The cue of a child, by its kind, low and high. Laid out where it is called: what it does not look at is then not read.
+#[inline(always)]
 #[tactic(auto, using(crate::proofs::CueLaws::cue_by), unfolding(crate::specs::Children::Cue::place_from, crate::specs::Children::Cue::refined))]
 pub(crate) fn cue(child: Record) -> usize
     ensures { result ≡ spec.cue child.kind child.low child.high }

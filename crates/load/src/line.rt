@@ -42,8 +42,8 @@ fn are_digits(bytes: &[u8]) -> bool
     bytes.iter().all(|&b| digit(b) < BASE)
 }
 
-// Whether bytes begin with a line of this form.
-pub(crate) fn in_form(widths: &[usize], line: &[u8]) -> bool
+// Whether bytes begin with a line of this form, which are enough for one.
+fn in_form(widths: &[usize], line: &[u8]) -> bool
     requires widths_in_bounds { form.wide widths.now ≤ length line.now }
     ensures { result ≡ in_form widths.now line.now }
 {
@@ -60,15 +60,24 @@ pub(crate) fn in_form(widths: &[usize], line: &[u8]) -> bool
     true
 }
 
-// The number, from 1, of the first line that is not in form, if one is not. A line of the form has `step` bytes, which the widths add up to: both are constants
-// at each call, and form.rt says what that saves.
+// Whether bytes begin with a line of this form. It has `step` bytes, which the widths add up to: both are constants at each call, and form.rt says what that
+// saves.
+#[inline(always)]
+pub(crate) fn begins(widths: &[usize], step: usize, bytes: &[u8]) -> bool
+    requires { step ≡ form.wide widths.now }
+    ensures { result ≡ in_form widths.now bytes.now }
+{
+    bytes.len() >= step && in_form(widths, bytes)
+}
+
+// The number, from 1, of the first line that is not in form, if one is not.
 pub(crate) fn bad_line(widths: &[usize], step: usize, text: &[u8]) -> Option<usize>
     requires step_value { step ≡ form.wide widths.now }
     requires step_nonzero { 0 < step }
     ensures { result ≡ first_bad (bad_line widths.now text.now) }
 {
     text.chunks(step)
-        .position(|line| line.len() < step || !in_form(widths, line))
+        .position(|line| !begins(widths, step, line))
         .map(|i| i + 1)
 }
 

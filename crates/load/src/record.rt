@@ -7,13 +7,13 @@ ghost use Rattle.own.specs.Words.{recs};
 ghost use Rattle.kinds.specs.Shape.{number};
 ghost use Rattle.load.specs.Listing.Read.{values_of, rows_from, rec_of};
 ghost use Rattle.lines.specs.Form.{wide};
-ghost use Rattle.lines.specs.Lines.{six_widths};
+ghost use Rattle.load.specs.Listing.LineForm.{first_six};
 ghost use Rattle.load.specs.Checks.Listed.{fields, its_lines, its_records};
 ghost use Rattle.load.specs.Checks.Judge.{as_rec};
 
-use crate::form::Form;
+use crate::form::Listing;
 use crate::line;
-use lines::{SIX_FIELDS, WIDTHS};
+use lines::{LONG_DIGITS, LONG_WIDTHS, SIX_FIELDS, WIDTHS};
 use own::kind::Kind;
 use text::RECORD_WORDS;
 
@@ -46,14 +46,7 @@ impl Record {
     }
 }
 
-// A text with the form that its lines are held against.
-#[derive(Clone, Copy)]
-pub(crate) struct Listing<'a> {
-    pub(crate) form: Form,
-    pub(crate) text: &'a [u8],
-}
-
-impl<'a> Listing<'a> {
+impl<'a, const N: usize> Listing<'a, N> {
     // How many lines it has.
     pub(crate) fn count(&self) -> usize
         ensures { result ≡ length (its_lines self.now) }
@@ -65,10 +58,13 @@ impl<'a> Listing<'a> {
     #[inline(always)]
     fn numbers(&self, i: usize) -> [u32; SIX_FIELDS]
         requires { i < length (its_lines self.now) }
-        ensures { result ≡ values_of six_widths (drop (wide (fields self.now) * i) self.now.text.now) }
+        ensures { result ≡ values_of (first_six (fields self.now)) (drop (wide (fields self.now) * i) self.now.text.now) }
     {
-        let at = self.form.bytes() * i;
-        line::values(&WIDTHS[..SIX_FIELDS], &self.text[at..])
+        let line = &self.text[self.form.bytes() * i..];
+        if N == LONG_DIGITS {
+            return line::values(&LONG_WIDTHS[..SIX_FIELDS], line);
+        }
+        line::values(&WIDTHS[..SIX_FIELDS], line)
     }
 
     // The record of line i. Laid out too: with a call for each of them loading took 30 percent more.

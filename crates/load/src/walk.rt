@@ -11,7 +11,8 @@ ghost use Rattle.load.specs.Checks.Judge.{as_rec};
 ghost use Rattle.load.specs.Checks.Small.{Small, Below};
 
 use crate::begin::Counts;
-use crate::record::{Listing, Record};
+use crate::form::Listing;
+use crate::record::Record;
 use crate::table::STATES;
 use crate::{begin, cue};
 
@@ -62,7 +63,8 @@ fn sits(left: usize, parent: Record, child: Record) -> bool
         && child.end <= parent.end
 }
 
-// What is found past one child more.
+// What is found past one child more. Laid out where it is called, as `cue` is, which the compiler does by itself for one walk and not for two.
+#[inline(always)]
 fn past(seen: Seen, child: Record) -> Seen
     requires small { Small seen }
     requires size_nonzero { 0 < child.size }
@@ -85,7 +87,7 @@ fn past(seen: Seen, child: Record) -> Seen
 // been read, so no range has their lines. `successors` ends with `None`, both behind the last child and at one that does not sit, so it would have to be
 // asked again which of the two it was. An iterator of its own would have the ghost members `next_gives` and `remaining`, and answer a `Result` for a child
 // that does not sit, to be taken apart here again.
-pub(crate) fn walk(listing: &Listing, j: usize, parent: Record) -> Option<Seen>
+pub(crate) fn walk<const N: usize>(listing: &Listing<N>, j: usize, parent: Record) -> Option<Seen>
     requires parent_value { as_rec parent ≡ get_or (its_records listing.now) j blank }
     requires size_nonzero { 0 < parent.size }
     requires size_in_bounds { j + parent.size ≤ length (its_records listing.now) }

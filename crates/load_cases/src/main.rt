@@ -1,10 +1,11 @@
 // Loads the listings that its input gives, with buffers of the lengths that each case asks.
 // A case's numbers: the words of the buffer and the bytes of the listing. Written are the answer, whether all words are zero that must be, whether the
-// records written again are the listing, or where its lines are of 36 bytes those lines with a way up behind each, and the records, a line each.
+// records written again are the listing, whose lines are of 41 bytes or of 49, or where they are of 36 those lines with a way up behind each, and the records,
+// a line each.
 #![tactic(auto)]
 
 use cases::{Cases, UNWRITTEN, front, is_zero, zeros};
-use lines::{LINE_BYTES, SIX_BYTES};
+use lines::{LINE_BYTES, LONG_BYTES, SIX_BYTES};
 use std::alloc::Global;
 use std::io;
 use std::io::{BufWriter, Read, Write};
@@ -37,10 +38,10 @@ fn likeness(listing: &[u8], lines: &[u8]) -> &'static str {
     }
 }
 
-// The lines of records.
+// The lines of records, for which there is room in either form.
 fn list(alloc: Global, records: &[[u32; RECORD_WORDS]]) -> io::Result<Vec<u8>> {
     let count = records.len();
-    let mut lines = vec![in alloc; 0; count.saturating_mul(LINE_BYTES)]?;
+    let mut lines = vec![in alloc; 0; count.saturating_mul(LONG_BYTES)]?;
     let used = lines::list(records.as_flattened(), count, &mut lines);
     lines.truncate(used);
     Ok(lines)

@@ -31,6 +31,7 @@ use Rattle.own.specs.Numbers.{kind_number}
 use Rattle.own.specs.declared.kind.Kind.{Kind}
 use Rattle.lexer.specs.Classes as t
 use Rattle.lexer.specs.Lexemes.{Token}
+use Rattle.lexer.specs.Limits.{large_limits}
 use Rattle.grammar.specs.Shapes.Shapes.{shapes}
 use Rattle.grammar.specs.Shapes.Tables.{means, table}
 use Rattle.grammar.specs.Shapes.TablesIndex.{n-arm, n-head, n-identifier, n-function_name, n-alias_name}
@@ -53,9 +54,9 @@ use Rattle.parse.specs.Choice as choice
 abbrev pub u32_count : ℕ
 u32_count = half_range
 
--- So many tokens at most: then neither their number nor that of the records' words leaves a u32.
+-- No more tokens than the library may read: then neither their number nor that of the records' words leaves a u32.
 abbrev pub countable : ℕ
-countable = 16777216
+countable = large_limits.tokens
 
 -- What is read: a draft and its tokens.
 pub record Text : Type 0 where

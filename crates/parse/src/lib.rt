@@ -3,7 +3,7 @@
 
 ghost use Rattle.std.specs.Prelude.{◌≡◌, length};
 ghost use Rattle.text.specs.Front.{Held};
-ghost use Rattle.lexer.specs.Limits.{draft_limits};
+ghost use Rattle.lexer.specs.Limits.{large_limits};
 ghost use Rattle.lexer.specs.Buffer.{tokens_in};
 ghost use Rattle.own.specs.Words.{rec_words};
 ghost use Rattle.grammar.specs.Answers.Answer.{records_in};
@@ -69,8 +69,8 @@ pub fn parse(
     tree: &mut [u32],
     what: ReadAs,
 ) -> Result<usize, Refused>
-    ensures answer { meant count result ≡ answer_of (entry_of what) draft_limits.tokens draft.now tokens.now count (length tree.old) }
-    ensures tree { tree.new ≡ tree_of (entry_of what) draft_limits.tokens draft.now tokens.now count (length tree.old) }
+    ensures answer { meant count result ≡ answer_of (entry_of what) large_limits.tokens draft.now tokens.now count (length tree.old) }
+    ensures tree { tree.new ≡ tree_of (entry_of what) large_limits.tokens draft.now tokens.now count (length tree.old) }
 {
     let answer = parse_front(draft, tokens, count, tree, what);
     let used = RECORD_WORDS * answer.unwrap_or(0);
@@ -86,11 +86,11 @@ pub fn parse_front(
     tree: &mut [u32],
     what: ReadAs,
 ) -> Result<usize, Refused>
-    ensures answer { meant count result ≡ answer_of (entry_of what) draft_limits.tokens draft.now tokens.now count (length tree.old) }
+    ensures answer { meant count result ≡ answer_of (entry_of what) large_limits.tokens draft.now tokens.now count (length tree.old) }
     ensures held { Held (meant count result) (rec_words (records_in (reading_of (entry_of what) draft.now (tokens_in count tokens.now)))) tree.old tree.new }
 {
     // Both places are 0: the first token too many may not be in the buffer, and the reader comes to neither refusal (docs/DECISIONS.md, "Parser").
-    if entry::too_many(lexer::DRAFT_TOKENS, count, tokens.len()) {
+    if entry::too_many(lexer::LARGE_TOKENS, count, tokens.len()) {
         return Err(Refused {
             refusal: Refusal::TooMany,
             place: 0,

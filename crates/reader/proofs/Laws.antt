@@ -13,7 +13,7 @@ use Rattle.std.specs.Result.{ResultUnwrapsOrElse, result_unwrap_or}
 use Rattle.text.specs.Front.{front, Held}
 use Rattle.text.proofs.Front.{front-cleared}
 use Rattle.lexer.specs.Lexemes.{Token, lexemes}
-use Rattle.lexer.specs.Limits.{draft_limits, room, lexed_of, tokens_of, token_words}
+use Rattle.lexer.specs.Limits.{Limits, large_limits, limits_for, room, lexed_of, tokens_of, token_words}
 use Rattle.lexer.specs.Buffer.{tokens_in}
 use Rattle.lexer.proofs.Fits.{not-both, lexed-fits, lexed-short, read-back, words-fit, tokens-cleared}
 use Rattle.text.specs.Widths.{tok_wide, rec_wide}
@@ -36,6 +36,7 @@ use Rattle.parse.specs.Entry.{too_many, too_long, reading_of, answer_of}
 use Rattle.reader.specs.declared.Counts.{Counts}
 use Rattle.reader.specs.declared.lexed.Lexed.{Lexed}
 use Rattle.reader.specs.Read.{meant}
+use Rattle.reader.proofs.BothLimits.{most-bytes, most-tokens}
 
 -- The counts of a refusal are no token and no record.
 pub no-counts : (r : Result Counts Refused) {k : Counts} → ResultUnwrapsOrElse r (λ (d : Counts). (d.tokens ≡ 0) × (d.records ≡ 0)) k → k ≡ result_unwrap_or r (record { tokens = 0; records = 0 })
@@ -56,20 +57,24 @@ as-many space (read ts rs) {n} {m} e = go (ltb space (rec_wide * length rs)) e
     go false f = sym (ap records_of f)
 
 -- The buffer holds the draft's tokens.
-pub tokens-held : (draft words old : List ℕ) (n : ℕ) → lexed_of draft_limits draft (length old) ≡ accepted n 0 → words ≡ front (token_words (tokens_of (lexemes draft))) old → tokens_in n words ≡ tokens_of (lexemes draft)
-tokens-held draft words old n e w =
+pub tokens-held : (l : Limits) (draft words old : List ℕ) (n : ℕ) → lexed_of l draft (length old) ≡ accepted n 0 → words ≡ front (token_words (tokens_of (lexemes draft))) old → tokens_in n words ≡ tokens_of (lexemes draft)
+tokens-held l draft words old n e w =
     let ts = tokens_of (lexemes draft) in
-    ap₂ (λ (k : ℕ) (u : List ℕ). tokens_in k u) (sym (lexed-fits draft_limits draft (length old) n e).0) w ∙ read-back ts (drop (length (token_words ts)) old)
+    ap₂ (λ (k : ℕ) (u : List ℕ). tokens_in k u) (sym (lexed-fits l draft (length old) n e).0) w ∙ read-back ts (drop (length (token_words ts)) old)
 
 -- The parser over the tokens that were lexed.
 module _ (en : Entry) (x : Lexed) (rw : ℕ) where
-  not-many : too_many draft_limits.tokens x.count (length x.words.now) ≡ false
+  -- within the limits that they were lexed within
+  abbrev l : Limits
+  l = limits_for x.limits
+
+  not-many : too_many large_limits.tokens x.count (length x.words.now) ≡ false
   unfolding too_many room
   not-many =
-      let h = lexed-fits draft_limits x.draft.now (length x.words.now) x.count x.counted in
+      let h = lexed-fits l x.draft.now (length x.words.now) x.count x.counted in
       let a = h.0 in
       let b = h.1 in
-      ap₂ (λ (u v : Bool). u || v) (le-ltb draft_limits.tokens x.count (omega arith)) (le-ltb (length x.words.now) (tok_wide * x.count) (omega arith))
+      ap₂ (λ (u v : Bool). u || v) (le-ltb large_limits.tokens x.count (omega (arith, most-tokens x.limits))) (le-ltb (length x.words.now) (tok_wide * x.count) (omega arith))
 
   not-long : too_long en (length x.draft.now) ≡ false
   unfolding too_long
@@ -77,35 +82,35 @@ module _ (en : Entry) (x : Lexed) (rw : ℕ) where
     where
       go : (en : Entry) → too_long en (length x.draft.now) ≡ false
       go single_function = refl
-      go whole_file = lt-leb u32_count (length x.draft.now) (omega (arith, lexed-short draft_limits x.draft.now (length x.words.now) x.count x.counted))
+      go whole_file = lt-leb u32_count (length x.draft.now) (omega (arith, most-bytes x.limits, lexed-short l x.draft.now (length x.words.now) x.count x.counted))
 
-  its-reading : reading en draft_limits x.draft.now (length x.words.now) ≡ reading_of en x.draft.now (tokens_in x.count x.words.now)
+  its-reading : reading en l x.draft.now (length x.words.now) ≡ reading_of en x.draft.now (tokens_in x.count x.words.now)
   unfolding reading reading_of
   its-reading =
       ap (λ (a : Answer). lexed en a x.draft.now (tokens_of (lexemes x.draft.now))) x.counted
       ∙ ap (λ (ts : List Token). shaped en x.draft.now ts (shape_of en (classes_of (toks_of x.draft.now ts)))) (sym x.held)
 
-  its-fitted : fitted rw (reading en draft_limits x.draft.now (length x.words.now)) ≡ answer en draft_limits x.draft.now (length x.words.now) rw
+  its-fitted : fitted rw (reading en l x.draft.now (length x.words.now)) ≡ answer en l x.draft.now (length x.words.now) rw
   unfolding answer
   its-fitted = refl
 
-  its-answer : answer en draft_limits x.draft.now (length x.words.now) rw ≡ fitted rw (reading_of en x.draft.now (tokens_in x.count x.words.now))
+  its-answer : answer en l x.draft.now (length x.words.now) rw ≡ fitted rw (reading_of en x.draft.now (tokens_in x.count x.words.now))
   unfolding answer
   its-answer = ap (fitted rw) its-reading
 
   -- The parser's answer is the definition's,
-  pub parsed-answer : answer_of en draft_limits.tokens x.draft.now x.words.now x.count rw ≡ answer en draft_limits x.draft.now (length x.words.now) rw
+  pub parsed-answer : answer_of en large_limits.tokens x.draft.now x.words.now x.count rw ≡ answer en l x.draft.now (length x.words.now) rw
   unfolding answer_of
   parsed-answer =
       ap₂ (λ (b c : Bool). cond b (refused (refusal_number refusal.TooMany) 0) (cond c (refused (refusal_number refusal.TooLong) 0) (fitted rw (reading_of en x.draft.now (tokens_in x.count x.words.now))))) not-many not-long ∙ sym its-answer
 
   -- and where the draft is accepted its records, given their ways up, are at the front of the buffer.
-  pub parsed-raised : (old : List ℕ) {out : List ℕ} {k m : ℕ} → answer en draft_limits x.draft.now (length x.words.now) rw ≡ accepted k m
-      → out ≡ front (rec_words (records_in (reading_of en x.draft.now (tokens_in x.count x.words.now)))) old → upward m out ≡ front (up_words (records_read en draft_limits x.draft.now (length x.words.now))) old
+  pub parsed-raised : (old : List ℕ) {out : List ℕ} {k m : ℕ} → answer en l x.draft.now (length x.words.now) rw ≡ accepted k m
+      → out ≡ front (rec_words (records_in (reading_of en x.draft.now (tokens_in x.count x.words.now)))) old → upward m out ≡ front (up_words (records_read en l x.draft.now (length x.words.now))) old
   unfolding records_read
   parsed-raised old {out} {k} {m} a h =
-      let rs = records_in (reading en draft_limits x.draft.now (length x.words.now)) in
-      let many : m ≡ length rs = as-many rw (reading en draft_limits x.draft.now (length x.words.now)) (its-fitted ∙ a) in
+      let rs = records_in (reading en l x.draft.now (length x.words.now)) in
+      let many : m ≡ length rs = as-many rw (reading en l x.draft.now (length x.words.now)) (its-fitted ∙ a) in
       let long : length (rec_words rs) ≡ length (up_words rs) = record-words-length rs ∙ sym (up-words-long rs) in
       ap₂ upward many (h ∙ ap (λ (r : Reading). front (rec_words (records_in r)) old) (sym its-reading))
       ∙ raised-words rs (drop (length (rec_words rs)) old)
@@ -113,31 +118,31 @@ module _ (en : Entry) (x : Lexed) (rw : ℕ) where
 
 module _ (en : Entry) where
   -- Of an accepted draft the tokens fit, and cleared behind them the buffer is the one that is handed over;
-  module _ (draft old : List ℕ) (rw : ℕ) {n m : ℕ} (e : answer en draft_limits draft (length old) rw ≡ accepted n m) where
-    its-lexed : lexed_of draft_limits draft (length old) ≡ accepted n 0
+  module _ (draft old : List ℕ) (rw : ℕ) {n m : ℕ} (e : answer en large_limits draft (length old) rw ≡ accepted n m) where
+    its-lexed : lexed_of large_limits draft (length old) ≡ accepted n 0
     its-lexed =
-        let a = (law-1 en draft_limits draft (length old) rw n m).0 e in
-        lexed-within en draft_limits draft (length old) rw a.its_tokens a.shaped.within ∙ ap (λ (k : ℕ). accepted k 0) (sym a.tokens_number)
+        let a = (law-1 en large_limits draft (length old) rw n m).0 e in
+        lexed-within en large_limits draft (length old) rw a.its_tokens a.shaped.within ∙ ap (λ (k : ℕ). accepted k 0) (sym a.tokens_number)
 
     pub tokens-fit : tok_wide * n ≤ length old
-    tokens-fit = (words-fit draft_limits draft old n its-lexed).0
+    tokens-fit = (words-fit large_limits draft old n its-lexed).0
 
-    pub accepted-tokens : {out : List ℕ} → out ≡ front (token_words (tokens_of (lexemes draft))) old → take (tok_wide * n) out ++ replicate (length out - tok_wide * n) 0 ≡ token_buffer en draft_limits draft (length old) rw
-    accepted-tokens h = tokens-cleared draft_limits draft old n its-lexed h ∙ sym (token-buffer-lexed en draft_limits draft (length old) rw n m e)
+    pub accepted-tokens : {out : List ℕ} → out ≡ front (token_words (tokens_of (lexemes draft))) old → take (tok_wide * n) out ++ replicate (length out - tok_wide * n) 0 ≡ token_buffer en large_limits draft (length old) rw
+    accepted-tokens h = tokens-cleared large_limits draft old n its-lexed h ∙ sym (token-buffer-lexed en large_limits draft (length old) rw n m e)
 
   -- and so do the records.
-  module _ (draft old : List ℕ) (tw : ℕ) {n m : ℕ} (e : answer en draft_limits draft tw (length old) ≡ accepted n m) where
+  module _ (draft old : List ℕ) (tw : ℕ) {n m : ℕ} (e : answer en large_limits draft tw (length old) ≡ accepted n m) where
     abbrev rs : List Rec
-    rs = records_read en draft_limits draft tw
+    rs = records_read en large_limits draft tw
 
     many : m ≡ length rs
     unfolding answer records_read
-    many = as-many (length old) (reading en draft_limits draft tw) e
+    many = as-many (length old) (reading en large_limits draft tw) e
 
     pub records-room : rec_wide * m ≤ length old
-    records-room = let a = (law-1 en draft_limits draft tw (length old) n m).0 e in omega (arith, a.fits, a.records_number)
+    records-room = let a = (law-1 en large_limits draft tw (length old) n m).0 e in omega (arith, a.fits, a.records_number)
 
-    pub accepted-tree : {out : List ℕ} → out ≡ front (up_words rs) old → take (rec_wide * m) out ++ replicate (length out - rec_wide * m) 0 ≡ tree_buffer en draft_limits draft tw (length old)
+    pub accepted-tree : {out : List ℕ} → out ≡ front (up_words rs) old → take (rec_wide * m) out ++ replicate (length out - rec_wide * m) 0 ≡ tree_buffer en large_limits draft tw (length old)
     unfolding tree_buffer
     accepted-tree h =
         ap (λ (z : List ℕ). take (rec_wide * m) z ++ replicate (length z - rec_wide * m) 0) h
@@ -145,15 +150,15 @@ module _ (en : Entry) where
         ∙ sym (ap (λ (x : Answer). content x (up_words rs) (length old)) e)
 
   -- A refusal: every word of both buffers is 0.
-  pub refused-tokens : (draft : List ℕ) (tw rw : ℕ) {c p : ℕ} → answer en draft_limits draft tw rw ≡ refused c p → replicate tw 0 ≡ token_buffer en draft_limits draft tw rw
-  refused-tokens draft tw rw {c} {p} e = sym (law-4-refused en draft_limits draft tw rw c p e).0
+  pub refused-tokens : (draft : List ℕ) (tw rw : ℕ) {c p : ℕ} → answer en large_limits draft tw rw ≡ refused c p → replicate tw 0 ≡ token_buffer en large_limits draft tw rw
+  refused-tokens draft tw rw {c} {p} e = sym (law-4-refused en large_limits draft tw rw c p e).0
 
-  pub refused-tree : (draft : List ℕ) (tw rw : ℕ) {c p : ℕ} → answer en draft_limits draft tw rw ≡ refused c p → replicate rw 0 ≡ tree_buffer en draft_limits draft tw rw
-  refused-tree draft tw rw {c} {p} e = sym (law-4-refused en draft_limits draft tw rw c p e).1
+  pub refused-tree : (draft : List ℕ) (tw rw : ℕ) {c p : ℕ} → answer en large_limits draft tw rw ≡ refused c p → replicate rw 0 ≡ tree_buffer en large_limits draft tw rw
+  refused-tree draft tw rw {c} {p} e = sym (law-4-refused en large_limits draft tw rw c p e).1
 
   -- Whatever is answered, of a refusal no word: the words fit, and cleared behind them both buffers are those that are handed over.
-  module _ (draft old : List ℕ) (rw : ℕ) (r : Result Counts Refused) (e : meant r ≡ answer en draft_limits draft (length old) rw) {k : Counts} (none : Counts) (k_is : k ≡ result_unwrap_or r none) (zero_is : none.tokens ≡ 0) where
-    tokens-told : {u : Result Counts Refused} → r ≡ u → answer en draft_limits draft (length old) rw ≡ meant u
+  module _ (draft old : List ℕ) (rw : ℕ) (r : Result Counts Refused) (e : meant r ≡ answer en large_limits draft (length old) rw) {k : Counts} (none : Counts) (k_is : k ≡ result_unwrap_or r none) (zero_is : none.tokens ≡ 0) where
+    tokens-told : {u : Result Counts Refused} → r ≡ u → answer en large_limits draft (length old) rw ≡ meant u
     tokens-told q = sym e ∙ ap meant q
 
     pub its-tokens-fit : tok_wide * k.tokens ≤ length old
@@ -164,18 +169,18 @@ module _ (en : Entry) where
         go (Err x) q f = let n = ap (λ c. c.tokens) f in omega (arith, n, zero_is)
 
     pub its-tokens : {out : List ℕ} → length out ≡ length old → Held (meant r) (token_words (tokens_of (lexemes draft))) old out
-        → take (tok_wide * k.tokens) out ++ replicate (length out - tok_wide * k.tokens) 0 ≡ token_buffer en draft_limits draft (length old) rw
+        → take (tok_wide * k.tokens) out ++ replicate (length out - tok_wide * k.tokens) 0 ≡ token_buffer en large_limits draft (length old) rw
     its-tokens {out} long h = go r refl k_is
       where
         cleared : ℕ → List ℕ
         cleared n = take (tok_wide * n) out ++ replicate (length out - tok_wide * n) 0
 
-        go : (u : Result Counts Refused) → r ≡ u → k ≡ result_unwrap_or u none → cleared k.tokens ≡ token_buffer en draft_limits draft (length old) rw
+        go : (u : Result Counts Refused) → r ≡ u → k ≡ result_unwrap_or u none → cleared k.tokens ≡ token_buffer en large_limits draft (length old) rw
         go (Ok c) q f = ap (λ c. cleared c.tokens) f ∙ accepted-tokens draft old rw (tokens-told q) (h.holds _ _ (ap meant q))
         go (Err x) q f = ap (λ c. cleared c.tokens) f ∙ ap cleared zero_is ∙ ap (λ n. replicate n 0) (omega (arith, long)) ∙ refused-tokens draft (length old) rw (tokens-told q)
 
-  module _ (draft old : List ℕ) (tw : ℕ) (r : Result Counts Refused) (e : meant r ≡ answer en draft_limits draft tw (length old)) {k : Counts} (none : Counts) (k_is : k ≡ result_unwrap_or r none) (zero_is : none.records ≡ 0) where
-    records-told : {u : Result Counts Refused} → r ≡ u → answer en draft_limits draft tw (length old) ≡ meant u
+  module _ (draft old : List ℕ) (tw : ℕ) (r : Result Counts Refused) (e : meant r ≡ answer en large_limits draft tw (length old)) {k : Counts} (none : Counts) (k_is : k ≡ result_unwrap_or r none) (zero_is : none.records ≡ 0) where
+    records-told : {u : Result Counts Refused} → r ≡ u → answer en large_limits draft tw (length old) ≡ meant u
     records-told q = sym e ∙ ap meant q
 
     pub its-records-fit : rec_wide * k.records ≤ length old
@@ -185,18 +190,18 @@ module _ (en : Entry) where
         go (Ok c) q f = let n = ap (λ c. c.records) f in omega (arith, n, records-room draft old tw (records-told q))
         go (Err x) q f = let n = ap (λ c. c.records) f in omega (arith, n, zero_is)
 
-    pub its-tree : {out : List ℕ} → length out ≡ length old → Held (meant r) (up_words (records_read en draft_limits draft tw)) old out
-        → take (rec_wide * k.records) out ++ replicate (length out - rec_wide * k.records) 0 ≡ tree_buffer en draft_limits draft tw (length old)
+    pub its-tree : {out : List ℕ} → length out ≡ length old → Held (meant r) (up_words (records_read en large_limits draft tw)) old out
+        → take (rec_wide * k.records) out ++ replicate (length out - rec_wide * k.records) 0 ≡ tree_buffer en large_limits draft tw (length old)
     its-tree {out} long h = go r refl k_is
       where
         cleared : ℕ → List ℕ
         cleared n = take (rec_wide * n) out ++ replicate (length out - rec_wide * n) 0
 
-        go : (u : Result Counts Refused) → r ≡ u → k ≡ result_unwrap_or u none → cleared k.records ≡ tree_buffer en draft_limits draft tw (length old)
+        go : (u : Result Counts Refused) → r ≡ u → k ≡ result_unwrap_or u none → cleared k.records ≡ tree_buffer en large_limits draft tw (length old)
         go (Ok c) q f = ap (λ c. cleared c.records) f ∙ accepted-tree draft old tw (records-told q) (h.holds _ _ (ap meant q))
         go (Err x) q f = ap (λ c. cleared c.records) f ∙ ap cleared zero_is ∙ ap (λ n. replicate n 0) (omega (arith, long)) ∙ refused-tree draft tw (length old) (records-told q)
 
   -- What the lexer refuses is refused.
-  pub lexer-refused : (draft : List ℕ) (tw rw : ℕ) {c p : ℕ} → lexed_of draft_limits draft tw ≡ refused c p → answer en draft_limits draft tw rw ≡ refused c p
+  pub lexer-refused : (l : Limits) (draft : List ℕ) (tw rw : ℕ) {c p : ℕ} → lexed_of l draft tw ≡ refused c p → answer en l draft tw rw ≡ refused c p
   unfolding answer reading
-  lexer-refused draft tw rw e = ap (λ (x : Answer). fitted rw (lexed en x draft (tokens_of (lexemes draft)))) e
+  lexer-refused l draft tw rw e = ap (λ (x : Answer). fitted rw (lexed en x draft (tokens_of (lexemes draft)))) e

@@ -1,7 +1,10 @@
 pub mod Laws
 pub mod LineLaws
 pub mod EntryLaws
+pub mod BothLimits
+pub mod AlsoListed
 pub mod Fits
+pub mod Nothing
 pub mod Refusing
 pub mod Restored
 pub mod Short

@@ -9,7 +9,7 @@ use Rattle.std.proofs.lemmas.Bool.{cases_lt}
 use Rattle.std.proofs.Math.Dec.{ltb}
 use Rattle.std.proofs.Math.ListN.{length}
 use Rattle.lexer.specs.Lexemes.{Token, Lexemes, tokens, refused_at, lexemes}
-use Rattle.lexer.specs.Limits.{Limits, limits_of, draft_limits, first_too_deep, room, no_token, deep, judged, lexed_of, tokens_of}
+use Rattle.lexer.specs.Limits.{Limits, limits_of, small_limits, first_too_deep, room, no_token, deep, judged, lexed_of, tokens_of}
 use Rattle.lexer.proofs.Fits.{lexed-fits}
 use Rattle.lexer.proofs.Tokens.{Between, tokens-between}
 use Rattle.text.specs.Widths.{tok_wide, rec_wide}
@@ -76,56 +76,55 @@ module _ (draft : List ℕ) (k : ℕ) (few : length (tokens_of (lexemes draft)) 
                 (ap (fitted rw) e ∙ ap (λ (b : Bool). cond b (refused (refusal_number refusal.NoRoom) 0) (accepted (length ts) (length rs))) q))
 
   -- So the listing is the same by any buffers that have room for k tokens;
-  pub same-tokens : (tw tw' rw : ℕ) → k ≤ room draft_limits tw → k ≤ room draft_limits tw' → listing whole_file draft_limits draft tw rw ≡ listing whole_file draft_limits draft tw' rw
+  pub same-tokens : (tw tw' rw : ℕ) → k ≤ room small_limits tw → k ≤ room small_limits tw' → listing whole_file small_limits draft tw rw ≡ listing whole_file small_limits draft tw' rw
   unfolding listing answer records_read
   same-tokens tw tw' rw h h' =
-      ap (λ (r : Reading). lines (listed (fitted rw r) (records_in r))) (same-reading whole_file draft_limits.bytes draft_limits.tokens tw draft_limits.tokens tw' h h')
+      ap (λ (r : Reading). lines (listed (fitted rw r) (records_in r))) (same-reading whole_file small_limits.bytes small_limits.tokens tw small_limits.tokens tw' h h')
 
--- and where so many tokens are found, by any that have room for the records of as many.
-pub same-records : (draft : List ℕ) (n tw rw rw' : ℕ) → lexed_of draft_limits draft tw ≡ accepted n 0 → rec_wide * (over whole_file + n) ≤ rw → rec_wide * (over whole_file + n) ≤ rw'
-    → listing whole_file draft_limits draft tw rw ≡ listing whole_file draft_limits draft tw rw'
+-- and where so many tokens are found, by any that have room for the records of as many, within any limits.
+pub same-records : (l : Limits) (draft : List ℕ) (n tw rw rw' : ℕ) → lexed_of l draft tw ≡ accepted n 0 → rec_wide * (over whole_file + n) ≤ rw → rec_wide * (over whole_file + n) ≤ rw'
+    → listing whole_file l draft tw rw ≡ listing whole_file l draft tw rw'
 unfolding listing answer records_read room
-same-records draft n tw rw rw' e h h' =
-    let f = lexed-fits draft_limits draft tw n e in
+same-records l draft n tw rw rw' e h h' =
+    let f = lexed-fits l draft tw n e in
     let many = f.0 in
     let fit = f.1 in
     let en = whole_file in
-    let bytes = draft_limits.bytes in
     let few : length (tokens_of (lexemes draft)) ≤ n = omega (arith, many) in
-    let r = reading en (limits_of bytes n) draft (tok_wide * n) in
-    let s : reading en draft_limits draft tw ≡ r = same-reading draft n few en bytes draft_limits.tokens tw n (tok_wide * n) (omega (arith, many, fit)) (omega arith) in
+    let r = reading en (limits_of l.bytes n) draft (tok_wide * n) in
+    let s : reading en l draft tw ≡ r = same-reading draft n few en l.bytes l.tokens tw n (tok_wide * n) (omega (arith, many, fit)) (omega arith) in
     ap (λ (r : Reading). lines (listed (fitted rw r) (records_in r))) s
-    ∙ ap (λ (x : Answer). lines (listed x (records_in r))) (records-fit draft n few en bytes rw rw' h h' r refl)
+    ∙ ap (λ (x : Answer). lines (listed x (records_in r))) (records-fit draft n few en l.bytes rw rw' h h' r refl)
     ∙ sym (ap (λ (r : Reading). lines (listed (fitted rw' r) (records_in r))) s)
 
 -- So a draft is listed as by the largest buffers, where that for its tokens has room for as many as it has bytes.
-pub short-listing : (draft : List ℕ) (tw : ℕ) → length draft ≤ tw / tok_wide → tw ≤ tok_wide * draft_limits.tokens → listing whole_file draft_limits draft tw (rec_wide * records_most) ≡ listing_of draft
+pub short-listing : (draft : List ℕ) (tw : ℕ) → length draft ≤ tw / tok_wide → tw ≤ tok_wide * small_limits.tokens → listing whole_file small_limits draft tw (rec_wide * records_most) ≡ listing_of draft
 unfolding room
-short-listing draft tw h k = same-tokens draft (length draft) (few-tokens draft) tw (tok_wide * draft_limits.tokens) (rec_wide * records_most) (omega arith) (omega arith)
+short-listing draft tw h k = same-tokens draft (length draft) (few-tokens draft) tw (tok_wide * small_limits.tokens) (rec_wide * records_most) (omega arith) (omega arith)
 
 -- So it is where that buffer has room for as many tokens as the draft has bytes or as any may have, whichever are fewer.
-pub roomy_listing : (draft : List ℕ) (tw : ℕ) → tok_wide * min (length draft) draft_limits.tokens ≤ tw → tw ≤ tok_wide * draft_limits.tokens
-    → listing whole_file draft_limits draft tw (rec_wide * records_most) ≡ listing_of draft
-roomy_listing draft tw h k = go (cases_lt draft_limits.tokens (length draft))
+pub roomy_listing : (draft : List ℕ) (tw : ℕ) → tok_wide * min (length draft) small_limits.tokens ≤ tw → tw ≤ tok_wide * small_limits.tokens
+    → listing whole_file small_limits draft tw (rec_wide * records_most) ≡ listing_of draft
+roomy_listing draft tw h k = go (cases_lt small_limits.tokens (length draft))
   where
-    go : (draft_limits.tokens < length draft) ⊎ (length draft ≤ draft_limits.tokens) → listing whole_file draft_limits draft tw (rec_wide * records_most) ≡ listing_of draft
-    go (inl l) = let q : tw ≡ tok_wide * draft_limits.tokens = omega (arith, h, k, l) in ap (λ (m : ℕ). listing whole_file draft_limits draft m (rec_wide * records_most)) q
+    go : (small_limits.tokens < length draft) ⊎ (length draft ≤ small_limits.tokens) → listing whole_file small_limits draft tw (rec_wide * records_most) ≡ listing_of draft
+    go (inl l) = let q : tw ≡ tok_wide * small_limits.tokens = omega (arith, h, k, l) in ap (λ (m : ℕ). listing whole_file small_limits draft m (rec_wide * records_most)) q
     go (inr l) = short-listing draft tw (omega (arith, h, l)) k
 
 -- And by buffers for as many tokens as it has bytes, and the records of as many.
-pub short-buffers : (draft : List ℕ) (k : ℕ) → length draft ≤ k → k ≤ draft_limits.tokens
-    → listing whole_file draft_limits draft (tok_wide * k) (rec_wide * (over whole_file + k)) ≡ listing whole_file draft_limits draft (tok_wide * draft_limits.tokens) (rec_wide * records_most)
+pub short-buffers : (draft : List ℕ) (k : ℕ) → length draft ≤ k → k ≤ small_limits.tokens
+    → listing whole_file small_limits draft (tok_wide * k) (rec_wide * (over whole_file + k)) ≡ listing whole_file small_limits draft (tok_wide * small_limits.tokens) (rec_wide * records_most)
 unfolding listing answer records_read room
 short-buffers draft k short h =
     let n = few-tokens draft in
     let fit : length (tokens_of (lexemes draft)) ≤ k = omega (arith, n, short) in
     let en = whole_file in
-    let bytes = draft_limits.bytes in
-    let most = draft_limits.tokens in
+    let bytes = small_limits.bytes in
+    let most = small_limits.tokens in
     let here = rec_wide * (over en + k) in
     let few = reading en (limits_of bytes k) draft (tok_wide * k) in
-    let a : reading en draft_limits draft (tok_wide * k) ≡ few = same-reading draft k fit en bytes most (tok_wide * k) k (tok_wide * k) (omega (arith, h)) (omega arith) in
-    let b : reading en draft_limits draft (tok_wide * most) ≡ few = same-reading draft k fit en bytes most (tok_wide * most) k (tok_wide * k) (omega (arith, h)) (omega arith) in
+    let a : reading en small_limits draft (tok_wide * k) ≡ few = same-reading draft k fit en bytes most (tok_wide * k) k (tok_wide * k) (omega (arith, h)) (omega arith) in
+    let b : reading en small_limits draft (tok_wide * most) ≡ few = same-reading draft k fit en bytes most (tok_wide * most) k (tok_wide * k) (omega (arith, h)) (omega arith) in
     let c : fitted (rec_wide * records_most) few ≡ fitted here few = records-fit draft k fit en bytes (rec_wide * records_most) here (omega (arith, h)) (omega arith) few refl in
     ap (λ (r : Reading). lines (listed (fitted here r) (records_in r))) a
     ∙ sym (ap (λ (r : Reading). lines (listed (fitted (rec_wide * records_most) r) (records_in r))) b ∙ ap (λ (x : Answer). lines (listed x (records_in few))) c)

@@ -2,15 +2,18 @@
 ghost use Rattle.std.specs.Prelude.{◌≡◌, length};
 ghost use Rattle.text.specs.Answers.{accepted};
 ghost use Rattle.lexer.specs.Lexemes.{lexemes};
-ghost use Rattle.lexer.specs.Limits.{draft_limits, lexed_of, tokens_of};
+ghost use Rattle.lexer.specs.Limits.{limits_for, lexed_of, tokens_of};
 ghost use Rattle.lexer.specs.Buffer.{tokens_in};
 
-// The words are all of the buffer, whose length is in what is answered, so the number of tokens stands beside them.
+use lexer::Limits;
+
+// The words are all of the buffer, whose length is in what is answered, so the number of tokens stands beside them, and so do the limits that they are within.
 #[derive(Clone, Copy)]
 pub(crate) struct Lexed<'a> {
     pub(crate) draft: &'a [u8],
     pub(crate) words: &'a [u32],
     pub(crate) count: usize,
-    ghost counted: { lexed_of draft_limits draft.now (length words.now) ≡ accepted count 0 },
+    pub(crate) limits: Limits,
+    ghost counted: { lexed_of (limits_for limits) draft.now (length words.now) ≡ accepted count 0 },
     ghost held: { tokens_in count words.now ≡ tokens_of (lexemes draft.now) },
 }

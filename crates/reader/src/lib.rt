@@ -1,9 +1,10 @@
-// The reader: from the bytes of a draft to its tokens and the records of its tree, or one refusal with its place.
+// The reader: from the bytes of a draft to its tokens and the records of its tree, or one refusal with its place. Its limits are the large ones of the two
+// sets (document 02, order 9); `list_draft` alone keeps the small ones.
 #![tactic(auto)]
 
 ghost use Rattle.std.specs.Prelude.{◌≡◌, length};
 ghost use Rattle.lexer.specs.Lexemes.{lexemes};
-ghost use Rattle.lexer.specs.Limits.{draft_limits, tokens_of, token_words};
+ghost use Rattle.lexer.specs.Limits.{large_limits, limits_for, tokens_of, token_words};
 ghost use Rattle.up.specs.Ways.{up_words};
 ghost use Rattle.grammar.specs.Entry.{single_function, whole_file};
 ghost use Rattle.parse.specs.Entry.{entry_of};
@@ -14,6 +15,7 @@ ghost use Rattle.grammar.specs.Answers.Promised.{Promised};
 ghost use Rattle.reader.specs.Read.{meant, returned};
 
 use crate::lexed::Lexed;
+use lexer::Limits;
 use parse::ReadAs;
 use text::refusal::Refused;
 use text::{RECORD_WORDS, TOKEN_WORDS};
@@ -32,11 +34,11 @@ pub struct Counts {
 
 // Reads one function: three words a token, seven words a record, zeros behind them; on a refusal every word of both buffers is 0.
 pub fn read(draft: &[u8], tokens: &mut [u32], tree: &mut [u32]) -> Result<Counts, Refused>
-    ensures answer { meant result ≡ answer single_function draft_limits draft.now (length tokens.old) (length tree.old) }
-    ensures values { returned result ≡ values (answer single_function draft_limits draft.now (length tokens.old) (length tree.old)) }
-    ensures tokens { tokens.new ≡ token_buffer single_function draft_limits draft.now (length tokens.old) (length tree.old) }
-    ensures tree { tree.new ≡ tree_buffer single_function draft_limits draft.now (length tokens.old) (length tree.old) }
-    ensures laws { Promised single_function draft_limits draft.now (length tokens.old) (length tree.old) (meant result) tokens.new tree.new }
+    ensures answer { meant result ≡ answer single_function large_limits draft.now (length tokens.old) (length tree.old) }
+    ensures values { returned result ≡ values (answer single_function large_limits draft.now (length tokens.old) (length tree.old)) }
+    ensures tokens { tokens.new ≡ token_buffer single_function large_limits draft.now (length tokens.old) (length tree.old) }
+    ensures tree { tree.new ≡ tree_buffer single_function large_limits draft.now (length tokens.old) (length tree.old) }
+    ensures laws { Promised single_function large_limits draft.now (length tokens.old) (length tree.old) (meant result) tokens.new tree.new }
 {
     read_as(draft, tokens, tree, ReadAs::Function)
 }
@@ -44,11 +46,11 @@ pub fn read(draft: &[u8], tokens: &mut [u32], tree: &mut [u32]) -> Result<Counts
 // Reads a file, functions and type items: the same, and the first record is that of the whole file. It is an entry of its own, as document 02 has it (order 3):
 // "The single-function entry answers as before". `read_as` does the work of both.
 pub fn read_file(draft: &[u8], tokens: &mut [u32], tree: &mut [u32]) -> Result<Counts, Refused>
-    ensures answer { meant result ≡ answer whole_file draft_limits draft.now (length tokens.old) (length tree.old) }
-    ensures values { returned result ≡ values (answer whole_file draft_limits draft.now (length tokens.old) (length tree.old)) }
-    ensures tokens { tokens.new ≡ token_buffer whole_file draft_limits draft.now (length tokens.old) (length tree.old) }
-    ensures tree { tree.new ≡ tree_buffer whole_file draft_limits draft.now (length tokens.old) (length tree.old) }
-    ensures laws { Promised whole_file draft_limits draft.now (length tokens.old) (length tree.old) (meant result) tokens.new tree.new }
+    ensures answer { meant result ≡ answer whole_file large_limits draft.now (length tokens.old) (length tree.old) }
+    ensures values { returned result ≡ values (answer whole_file large_limits draft.now (length tokens.old) (length tree.old)) }
+    ensures tokens { tokens.new ≡ token_buffer whole_file large_limits draft.now (length tokens.old) (length tree.old) }
+    ensures tree { tree.new ≡ tree_buffer whole_file large_limits draft.now (length tokens.old) (length tree.old) }
+    ensures laws { Promised whole_file large_limits draft.now (length tokens.old) (length tree.old) (meant result) tokens.new tree.new }
 {
     read_as(draft, tokens, tree, ReadAs::File)
 }
@@ -61,9 +63,9 @@ fn read_as(
     tree: &mut [u32],
     what: ReadAs,
 ) -> Result<Counts, Refused>
-    ensures answer { meant result ≡ answer (entry_of what) draft_limits draft.now (length tokens.old) (length tree.old) }
-    ensures tokens { tokens.new ≡ token_buffer (entry_of what) draft_limits draft.now (length tokens.old) (length tree.old) }
-    ensures tree { tree.new ≡ tree_buffer (entry_of what) draft_limits draft.now (length tokens.old) (length tree.old) }
+    ensures answer { meant result ≡ answer (entry_of what) large_limits draft.now (length tokens.old) (length tree.old) }
+    ensures tokens { tokens.new ≡ token_buffer (entry_of what) large_limits draft.now (length tokens.old) (length tree.old) }
+    ensures tree { tree.new ≡ tree_buffer (entry_of what) large_limits draft.now (length tokens.old) (length tree.old) }
 {
     let reading = read_front(draft, tokens, tree, what);
     let counts = reading.unwrap_or_default();
@@ -79,23 +81,24 @@ fn read_front(
     tree: &mut [u32],
     what: ReadAs,
 ) -> Result<Counts, Refused>
-    ensures answer { meant result ≡ answer (entry_of what) draft_limits draft.now (length tokens.old) (length tree.old) }
+    ensures answer { meant result ≡ answer (entry_of what) large_limits draft.now (length tokens.old) (length tree.old) }
     ensures tokens { Held (meant result) (token_words (tokens_of (lexemes draft.now))) tokens.old tokens.new }
-    ensures tree { Held (meant result) (up_words (records_read (entry_of what) draft_limits draft.now (length tokens.old))) tree.old tree.new }
+    ensures tree { Held (meant result) (up_words (records_read (entry_of what) large_limits draft.now (length tokens.old))) tree.old tree.new }
 {
-    let count = lexer::lex_front(draft, tokens)?;
+    let count = lexer::lex_front(draft, tokens, Limits::Large)?;
     let lexed = Lexed {
         draft,
         words: tokens,
         count,
+        limits: Limits::Large,
     };
     parsed(&lexed, tree, what)
 }
 
 // The answer of the parser over the tokens that were lexed, its records given their ways up.
 fn parsed(lexed: &Lexed, tree: &mut [u32], what: ReadAs) -> Result<Counts, Refused>
-    ensures answer { meant result ≡ answer (entry_of what) draft_limits lexed.now.draft.now (length lexed.now.words.now) (length tree.old) }
-    ensures tree { Held (meant result) (up_words (records_read (entry_of what) draft_limits lexed.now.draft.now (length lexed.now.words.now))) tree.old tree.new }
+    ensures answer { meant result ≡ answer (entry_of what) (limits_for lexed.now.limits) lexed.now.draft.now (length lexed.now.words.now) (length tree.old) }
+    ensures tree { Held (meant result) (up_words (records_read (entry_of what) (limits_for lexed.now.limits) lexed.now.draft.now (length lexed.now.words.now))) tree.old tree.new }
 {
     let records = parse::parse_front(lexed.draft, lexed.words, lexed.count, tree, what)?;
     up::way_up(tree, records);

@@ -1,7 +1,7 @@
 // Reads and lists the drafts that its input gives, with buffers of the lengths that each case asks.
 // A case's numbers: the words of the token buffer, the words of the tree buffer, the bytes of the byte buffer and the bytes of the draft. Written are the
-// answers of all three entries, whether an accepted draft's records own its tokens, whether what is behind the results is zero, whether the words of one
-// function are those of the file behind its first record, and the lines of the listing.
+// answers of all four entries, whether an accepted draft's records own its tokens, whether what is behind the results is zero, whether the words of one
+// function are those of the file behind its first record, the lines of the listing, and those within the large limits where they are others.
 #![tactic(auto)]
 
 use cases::{Case, Cases, UNWRITTEN, front, is_zero, zeros};
@@ -124,16 +124,72 @@ fn write_readings(out: &mut impl Write, alloc: Global, case: Case<'_, 4>) -> io:
     writeln!(out)
 }
 
-// The answer of `list_draft`, and the lines that it wrote.
-fn write_listing(out: &mut impl Write, alloc: Global, case: Case<'_, 4>) -> io::Result<()> {
+// How many bytes a listing used, and whether those behind its lines are 0; its lines. More than the buffer has is wrong at once.
+fn write_used<'a>(
+    out: &mut impl Write,
+    name: &str,
+    lines: &'a [u8],
+    used: usize,
+) -> io::Result<&'a [u8]> {
+    let Some((lines, behind)) = lines.split_at_checked(used) else {
+        write!(out, "{name} {used} {}", zeros(false))?;
+        return Ok(&lines[..0]);
+    };
+    write!(out, "{name} {used} {}", zeros(is_zero(behind)))?;
+    Ok(lines)
+}
+
+// The answer of `list_draft`, and the lines that it wrote into a buffer.
+fn write_small<'a>(
+    out: &mut impl Write,
+    draft: &[u8],
+    lines: &'a mut [u8],
+) -> io::Result<&'a [u8]> {
+    let used = reader::entry::list_draft(draft, lines);
+    let lines = write_used(out, "listed", lines, used)?;
+    writeln!(out)?;
+    out.write_all(lines)?;
+    Ok(lines)
+}
+
+// Whether buffers of tokens and tree hold what `read_file` leaves in as long ones.
+fn is_as_read(alloc: Global, draft: &[u8], tokens: &[u32], tree: &[u32]) -> io::Result<bool> {
+    let mut other_tokens = vec![in alloc; UNWRITTEN.into(); tokens.len()]?;
+    let mut other_tree = vec![in alloc; UNWRITTEN.into(); tree.len()]?;
+    let _ = reader::read_file(draft, &mut other_tokens, &mut other_tree);
+    Ok(tokens == other_tokens.as_slice() && tree == other_tree.as_slice())
+}
+
+// The answer of `list_large`, whether it leaves in the buffers of tokens and tree what `read_file` leaves there, and its lines where they are not those of
+// `list_draft`.
+fn write_large(
+    out: &mut impl Write,
+    alloc: Global,
+    case: Case<'_, 4>,
+    small: &[u8],
+) -> io::Result<()> {
+    let [token_words, record_words, bytes, _] = case.numbers;
+    let mut tokens = vec![in alloc; UNWRITTEN.into(); token_words]?;
+    let mut tree = vec![in alloc; UNWRITTEN.into(); record_words]?;
+    let mut lines = vec![in alloc; UNWRITTEN; bytes]?;
+    let used = reader::entry::list_large(case.text, &mut tokens, &mut tree, &mut lines);
+    let lines = write_used(out, "large", &lines, used)?;
+    if !is_as_read(alloc, case.text, &tokens, &tree)? {
+        write!(out, " NOT SAME")?;
+    }
+    writeln!(out)?;
+    if lines != small {
+        out.write_all(lines)?;
+    }
+    Ok(())
+}
+
+// The listings of a draft, within the small limits and within the large ones.
+fn write_listings(out: &mut impl Write, alloc: Global, case: Case<'_, 4>) -> io::Result<()> {
     let [_, _, bytes, _] = case.numbers;
     let mut lines = vec![in alloc; UNWRITTEN; bytes]?;
-    let used = reader::entry::list_draft(case.text, &mut lines);
-    let Some((lines, behind)) = lines.split_at_checked(used) else {
-        return writeln!(out, "listed {used} {}", zeros(false));
-    };
-    writeln!(out, "listed {used} {}", zeros(is_zero(behind)))?;
-    out.write_all(lines)
+    let small = write_small(out, case.text, &mut lines)?;
+    write_large(out, alloc, case, small)
 }
 
 // No case is run after one that is wrong: `Cases` ends there.
@@ -147,7 +203,7 @@ fn main(rt: HostRuntime) -> io::Result<()> {
         match case {
             Ok(case) => {
                 write_readings(&mut out, alloc, case)?;
-                write_listing(&mut out, alloc, case)?;
+                write_listings(&mut out, alloc, case)?;
             }
             Err(bad) => writeln!(out, "{bad}")?,
         }

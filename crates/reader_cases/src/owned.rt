@@ -55,7 +55,7 @@ impl From<&TokenWords> for Token {
     }
 }
 
-// A record by all its seven words; the record of `load` is the six that a line of either form has, and stays in its crate.
+// A record by all its seven words; the record of `load` is the six that a line of every form has, and stays in its crate.
 // The kind stays a number, since a wrong reader may write any number there: `kinds::may_hold` and `may_own` take numbers and refuse those of no kind, so an
 // `Option<Kind>` would be turned back at each of their calls.
 #[derive(Clone, Copy, PartialEq, Eq, Debug)]

@@ -7,7 +7,7 @@ use std::fmt;
 
 #[derive(Clone, Copy, PartialEq, Eq, Debug)]
 pub enum Refusal {
-    // draft over 16,384 bytes
+    // draft over 16,384 bytes, or at the library 1,048,576
     TooLong = 1,
     // a byte over 127 outside comments
     NotAscii = 2,
@@ -17,7 +17,7 @@ pub enum Refusal {
     Unclosed = 4,
     // the word `simc`
     Simc = 5,
-    // over 2,048 tokens, or over a third of the token buffer's words
+    // over 2,048 tokens, or at the library 131,072, or over a third of the token buffer's words
     TooMany = 6,
     // over 48 brackets open, or over 8 `match` tokens in a row
     TooDeep = 7,
@@ -37,7 +37,7 @@ pub enum Refusal {
     NoPartners = 14,
     // tree buffer under seven words a record
     NoRoom = 15,
-    // of a listing: a line is of neither form, or of another than the first
+    // of a listing: a line is of none of the three forms, or of another than the first, or all are longer than their numbers need
     BadLine = 16,
     // the lines form neither a whole function nor a whole program, or a way up is wrong
     NotWhole = 17,

@@ -1,22 +1,48 @@
-// The entries for C: the listing of a draft, and the records of a listing. c/togmelic.h declares them.
+// The entries for C: the listing of a draft within the small limits or the large ones, and the records of a listing. c/togmelic.h declares them.
 #![tactic(auto)]
 
 ghost use Rattle.std.specs.Prelude.{◌≡◌, [], ◌∷◌, ◌↔◌, ◌<◌, length};
+ghost use Rattle.lexer.specs.Limits.{large_limits};
+ghost use Rattle.lines.specs.Lines.{widths, lines_of};
+ghost use Rattle.lines.specs.Written.{used, padded};
 ghost use Rattle.load.specs.Load.{load_of, words_of};
 ghost use Rattle.load.specs.Promised.{Loads};
-ghost use Rattle.reader.specs.Listed.{listing_of, used_of, bytes_of};
+ghost use Rattle.grammar.specs.Entry.{whole_file};
+ghost use Rattle.grammar.specs.Answers.Answer.{answer, token_buffer, tree_buffer};
+ghost use Rattle.grammar.specs.Answers.Promised.{Promised};
+ghost use Rattle.grammar.specs.Answers.Lines.{listing};
+ghost use Rattle.reader.specs.Listed.{listing_of, rows_listed, used_of, bytes_of};
 ghost use Rattle.reader.specs.Loading.{records_loaded, refusal_loaded, Refusing};
 
 use reader::loading::LoadRefusal;
 
-// Lists a draft: its lines, zeros behind them; 0 and zeros alone if the buffer is too short for them: C has no `Option`.
+// Lists a draft within the small limits: its lines of 41 bytes, zeros behind them; 0 and zeros alone if the buffer is too short for them: C has no `Option`.
 #[unsafe(no_mangle)]
 pub extern "C" fn togmelic_list(draft: &[u8], out: &mut [u8]) -> usize
     ensures used { result ≡ used_of draft.now (length out.old) }
     ensures bytes { out.new ≡ bytes_of draft.now (length out.old) }
     ensures nothing { (result ≡ 0) ↔ (length out.old < length (listing_of draft.now)) }
+    ensures short { listing_of draft.now ≡ lines_of widths (rows_listed draft.now) }
 {
     reader::entry::list_draft(draft, out)
+}
+
+// Lists a draft within the large limits: the same, with lines of 41 bytes or of 49, by way of lent buffers, in which the tokens and the tree stand afterwards.
+#[unsafe(no_mangle)]
+pub extern "C" fn togmelic_list_large(
+    draft: &[u8],
+    tokens: &mut [u32],
+    tree: &mut [u32],
+    out: &mut [u8],
+) -> usize
+    ensures used { result ≡ used (listing whole_file large_limits draft.now (length tokens.old) (length tree.old)) (length out.old) }
+    ensures bytes { out.new ≡ padded (listing whole_file large_limits draft.now (length tokens.old) (length tree.old)) (length out.old) }
+    ensures tokens { tokens.new ≡ token_buffer whole_file large_limits draft.now (length tokens.old) (length tree.old) }
+    ensures tree { tree.new ≡ tree_buffer whole_file large_limits draft.now (length tokens.old) (length tree.old) }
+    ensures laws { Promised whole_file large_limits draft.now (length tokens.old) (length tree.old) (answer whole_file large_limits draft.now (length tokens.old) (length tree.old)) tokens.new tree.new }
+    ensures nothing { (result ≡ 0) ↔ (length out.old < length (listing whole_file large_limits draft.now (length tokens.old) (length tree.old))) }
+{
+    reader::entry::list_large(draft, tokens, tree, out)
 }
 
 // Loads a listing: the number of records, seven words each, zeros behind them, and a refusal of 0 at line 0. Or 0, every word 0, and the refusal: C has no

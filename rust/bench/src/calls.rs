@@ -2,14 +2,15 @@
 //! the partner.
 
 use crate::times::Call;
+use partner::{Entry, Limits};
 
 /// Bytes of the buffer that is lent for a listing, and words of the one for records.
 pub const LIST_ROOM: usize = togmelic::MOST_BYTES;
 pub const LOAD_ROOM: usize = togmelic::RECORD_WORDS * togmelic::MOST_LINES;
 
 /// The proved reader's call and the partner's.
-pub const LIST: [Call<u8>; 2] = [list_here, partner::list_into];
-pub const LOAD: [Call<u32>; 2] = [load_here, load_partner];
+pub const LIST: [Call<[u8]>; 2] = [list_here, partner::list_into];
+pub const LOAD: [Call<[u32]>; 2] = [load_here, load_partner];
 
 fn list_here(draft: &[u8], out: &mut [u8]) -> usize {
     togmelic::list(draft, out).map_or(0, <[u8]>::len)
@@ -46,7 +47,8 @@ pub fn short_lines(draft: &[u8]) -> Vec<u8> {
 /// How many tokens the partner's lexer gives, none where it refuses the draft: for so many the buffer is long enough.
 pub fn tokens(draft: &[u8]) -> usize {
     let suffices = |tokens: &usize| {
-        let reading = partner::read(draft, partner::Entry::File, 3 * tokens, LOAD_ROOM);
+        let words = (partner::TOKEN_WORDS * tokens, LOAD_ROOM);
+        let reading = partner::read(draft, Entry::File, Limits::SMALL, words);
         !matches!(reading, Err((partner::kinds::refusal::TOO_MANY_TOKENS, _)))
     };
     (0..=togmelic::MOST_LINES)

@@ -1,6 +1,6 @@
 //! The drafts that are measured. Most are a text in the body of `fn f(){..}`: six tokens, and the first open bracket.
 
-use crate::turned::turned;
+use crate::turned::{turned, TOKENS};
 
 /// A name and what makes the draft of that name.
 type Case = (&'static str, fn() -> Vec<u8>);
@@ -97,7 +97,7 @@ fn matches() -> Vec<u8> {
 /// Where exchanging arms cost the proved reader most for each token before order 11, of all that bench/reader/rotation.sh tries; within three percent of
 /// the most now.
 fn rotation() -> Vec<u8> {
-    turned(35, 4, false)
+    turned(TOKENS, 35, 4, false)
 }
 
 /// A draft of 45 lines, as one would be written.

@@ -3,13 +3,17 @@
 //!     bench KIND CASE size                    tokens, or records
 //!     bench KIND CASE here|partner REPEATS    calls one of the two: what it used of the buffer, and a checksum
 //!     bench tokens|depth                      times over tokens and over open brackets
+//!     bench large names                       the cases of `large`, a line each
 //! KIND is `list`, a draft in and its listing out; `load`, that listing in and its records out; or `short`, the same
 //! listing in lines of 36 bytes, without the way up. `here` is the proved reader through its entries for C, `partner` the
 //! plain Rust reader. Both are called by the same loop with the same buffer, of 84,009 bytes or 14,343 words, lent again
-//! each time. The checksum is taken once, after the loop, so that it cancels where two runs are subtracted.
+//! each time. `large`, which has cases of its own (large.rs), is a draft in, and its tokens, its tree and its listing out,
+//! by the entry with the large limits, which is lent the three buffers. The checksum is taken once, after the loop, so that
+//! it cancels where two runs are subtracted.
 
 mod calls;
 mod cases;
+mod large;
 mod scaling;
 mod times;
 mod turned;
@@ -25,8 +29,9 @@ fn main() -> ExitCode {
         Some(lines) => println!("{lines}"),
         None => {
             eprintln!(
-                "use: bench list|load|short times, bench list|load|short CASE size, \
-                 bench list|load|short CASE here|partner REPEATS, bench tokens|depth"
+                "use: bench list|load|short|large times, bench list|load|short|large CASE size, \
+                 bench list|load|short|large CASE here|partner REPEATS, bench tokens|depth, \
+                 bench large names"
             );
             return ExitCode::FAILURE;
         }
@@ -38,12 +43,26 @@ fn answer(words: &[&str]) -> Option<String> {
     match *words {
         ["tokens"] => Some(scaling::over_tokens()),
         ["depth"] => Some(scaling::over_depth()),
-        ["list", "times"] => Some(times::table(&rows("list")?, LIST, &mut vec![0; LIST_ROOM])),
-        [kind, "times"] => Some(times::table(&rows(kind)?, LOAD, &mut vec![0; LOAD_ROOM])),
+        ["large", "names"] => Some(large::names().join("\n")),
+        ["large", "times"] => large::times(),
+        ["large", case, "size"] => large::size(case),
+        ["large", case, which, repeats] => {
+            large::repeated(case, place(which)?, repeats.parse().ok()?)
+        }
+        ["list", "times"] => Some(times::table(
+            &rows("list")?,
+            LIST,
+            &mut vec![0; LIST_ROOM][..],
+        )),
+        [kind, "times"] => Some(times::table(
+            &rows(kind)?,
+            LOAD,
+            &mut vec![0; LOAD_ROOM][..],
+        )),
         [kind, case, "size"] => size(kind, &cases::draft(case)?),
         [kind, case, which, repeats] => {
             let input = input(kind, &cases::draft(case)?)?;
-            let which = ["here", "partner"].iter().position(|name| *name == which)?;
+            let which = place(which)?;
             let repeats = repeats.parse().ok()?;
             Some(match kind {
                 "list" => repeated(LIST[which], &input, vec![0; LIST_ROOM], repeats),
@@ -52,6 +71,11 @@ fn answer(words: &[&str]) -> Option<String> {
         }
         _ => None,
     }
+}
+
+/// The place of one of the two in a pair of calls.
+fn place(which: &str) -> Option<usize> {
+    ["here", "partner"].iter().position(|name| *name == which)
 }
 
 /// The cases that are measured so, each with what is read. All are listed, and the listings of accepted ones loaded.
@@ -84,18 +108,11 @@ fn size(kind: &str, draft: &[u8]) -> Option<String> {
 
 /// What a call used of the buffer, and the checksum of the buffer.
 fn repeated<Word: Copy + Into<u64>>(
-    call: Call<Word>,
+    call: Call<[Word]>,
     input: &[u8],
     mut out: Vec<Word>,
     repeats: u32,
 ) -> String {
-    let used = times::repeat((call, input), &mut out, repeats);
-    format!("{used} {:016x}", checksum(&out))
-}
-
-/// The FNV-1a checksum of 64 bits, over bytes or words.
-fn checksum<Word: Copy + Into<u64>>(words: &[Word]) -> u64 {
-    words.iter().fold(0xcbf2_9ce4_8422_2325, |sum, word| {
-        (sum ^ (*word).into()).wrapping_mul(0x100_0000_01b3)
-    })
+    let used = times::repeat((call, input), &mut out[..], repeats);
+    format!("{used} {:016x}", times::checksum(&out))
 }

@@ -22,5 +22,5 @@ pub fn over_depth() -> String {
 
 fn listed(rows: impl Iterator<Item = (String, Vec<Vec<u8>>)>) -> String {
     let rows: Vec<_> = rows.collect();
-    table(&rows, LIST, &mut vec![0; LIST_ROOM])
+    table(&rows, LIST, &mut vec![0; LIST_ROOM][..])
 }

@@ -3,10 +3,10 @@
 use std::hint::black_box;
 use std::time::{Duration, Instant};
 
-/// Reads bytes and writes all of a lent buffer: how much of it is used.
-pub type Call<Word> = fn(&[u8], &mut [Word]) -> usize;
+/// Reads bytes and writes all of what is lent, a buffer or several: how much is used.
+pub type Call<Out> = fn(&[u8], &mut Out) -> usize;
 /// A call and what it reads.
-pub type Run<'a, Word> = (Call<Word>, &'a [u8]);
+pub type Run<'a, Out> = (Call<Out>, &'a [u8]);
 /// The name of a row, and what is read for it.
 pub type Row = (String, Vec<Vec<u8>>);
 
@@ -16,7 +16,7 @@ const BATCHES: usize = 100;
 const BATCH: Duration = Duration::from_millis(2);
 
 /// Calls again and again with the same buffer: what the last call used of it.
-pub fn repeat<Word>((call, input): Run<Word>, out: &mut [Word], repeats: u32) -> usize {
+pub fn repeat<Out: ?Sized>((call, input): Run<Out>, out: &mut Out, repeats: u32) -> usize {
     let mut used = 0;
     for _ in 0..repeats {
         used = black_box(call)(black_box(input), black_box(&mut *out));
@@ -26,9 +26,9 @@ pub fn repeat<Word>((call, input): Run<Word>, out: &mut [Word], repeats: u32) ->
 
 /// A line for each row: its name, and for each of its inputs the time of each call, in microseconds. Batches of all runs
 /// of the table take turns, so that what disturbs the machine for a while disturbs all.
-pub fn table<Word>(rows: &[Row], calls: [Call<Word>; 2], out: &mut [Word]) -> String {
+pub fn table<Out: ?Sized>(rows: &[Row], calls: [Call<Out>; 2], out: &mut Out) -> String {
     let inputs = rows.iter().flat_map(|(_, inputs)| inputs);
-    let runs: Vec<Run<Word>> = inputs
+    let runs: Vec<Run<Out>> = inputs
         .flat_map(|input| calls.map(|call| (call, input.as_slice())))
         .collect();
     let mut times = least(&runs, out).into_iter();
@@ -40,7 +40,7 @@ pub fn table<Word>(rows: &[Row], calls: [Call<Word>; 2], out: &mut [Word]) -> St
 }
 
 /// The time of one call of each run: the least of its batches. Those of all runs take turns, with the same buffer.
-fn least<Word>(runs: &[Run<Word>], out: &mut [Word]) -> Vec<f64> {
+fn least<Out: ?Sized>(runs: &[Run<Out>], out: &mut Out) -> Vec<f64> {
     let sizes: Vec<u32> = runs.iter().map(|run| batch_size(*run, out)).collect();
     let mut least = vec![f64::INFINITY; runs.len()];
     for _ in 0..BATCHES {
@@ -53,7 +53,7 @@ fn least<Word>(runs: &[Run<Word>], out: &mut [Word]) -> Vec<f64> {
 }
 
 /// How many calls a batch has.
-fn batch_size<Word>(run: Run<Word>, out: &mut [Word]) -> u32 {
+fn batch_size<Out: ?Sized>(run: Run<Out>, out: &mut Out) -> u32 {
     let mut size = 1;
     while time(run, out, size) < BATCH {
         size *= 2;
@@ -61,8 +61,15 @@ fn batch_size<Word>(run: Run<Word>, out: &mut [Word]) -> u32 {
     size
 }
 
-fn time<Word>(run: Run<Word>, out: &mut [Word], repeats: u32) -> Duration {
+fn time<Out: ?Sized>(run: Run<Out>, out: &mut Out, repeats: u32) -> Duration {
     let start = Instant::now();
     repeat(run, out, repeats);
     start.elapsed()
+}
+
+/// The FNV-1a checksum of 64 bits, over bytes or words.
+pub fn checksum<Word: Copy + Into<u64>>(words: &[Word]) -> u64 {
+    words.iter().fold(0xcbf2_9ce4_8422_2325, |sum, word| {
+        (sum ^ (*word).into()).wrapping_mul(0x100_0000_01b3)
+    })
 }

@@ -3,8 +3,8 @@
 
 use crate::cases::body;
 
-/// Tokens of these drafts at most, and of a match without its arms' expressions.
-const TOKENS: usize = 2_000;
+/// Tokens of the drafts of the search at most, and of a match without its arms' expressions.
+pub const TOKENS: usize = 2_000;
 const MATCH: usize = 10;
 /// Many records for its tokens, in few brackets: seven in ten, and a comma.
 const CALLS: &str = "f(f(f(x))),";
@@ -13,6 +13,7 @@ const CALLS: &str = "f(f(f(x))),";
 pub fn named(name: &str) -> Option<Vec<u8>> {
     match *name.split('-').collect::<Vec<_>>() {
         ["chain", levels, aside, place @ ("first" | "last")] => Some(turned(
+            TOKENS,
             levels.parse().ok()?,
             aside.parse().ok()?,
             place == "last",
@@ -23,9 +24,9 @@ pub fn named(name: &str) -> Option<Vec<u8>> {
 }
 
 /// Matches one in the other. One arm of each leads inward, and the other has so many nested calls aside, written first or
-/// last. The innermost arm has as many of them as the tokens allow.
-pub fn turned(levels: usize, aside: usize, is_last: bool) -> Vec<u8> {
-    let rest = TOKENS.saturating_sub(8 + levels * (MATCH + 2 + 11 * aside));
+/// last. The innermost arm has as many of them as so many tokens allow.
+pub fn turned(tokens: usize, levels: usize, aside: usize, is_last: bool) -> Vec<u8> {
+    let rest = tokens.saturating_sub(8 + levels * (MATCH + 2 + 11 * aside));
     let mut inner = array(rest / 11);
     let aside = array(aside);
     for _ in 0..levels {

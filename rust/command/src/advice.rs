@@ -22,7 +22,7 @@ pub(crate) fn advice(number: u32) -> &'static str {
         12 => "keep one sort of arms; where the value is of an enum, each arm is a path, such as `A::None`, not `None`",
         13 => "write two arms, `Left` and `Right`, `None` and `Some`, or `false` and `true`, each once",
         14 => "pair `Left` with `Right`, `None` with `Some`, and `false` with `true`",
-        15 => "lend a tree buffer of 14,343 words, which is enough for every draft",
+        15 => "lend a tree buffer of 917,511 words, which is enough for every draft",
         19 => "look for a digit too many in the length, which is the number of the array's elements",
         21 => "save the file as UTF-8, or convert it by `iconv -f ENCODING -t UTF-8 FILE > NEW`",
         _ => "",

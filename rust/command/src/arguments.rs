@@ -3,6 +3,7 @@
 use crate::command::{Choice, Command};
 use crate::style::When;
 use std::ffi::{OsStr, OsString};
+use togmelic::Limits;
 
 /// A right call of a command.
 #[derive(Debug, Default, PartialEq, Eq)]
@@ -10,6 +11,17 @@ pub(crate) struct Call {
     pub(crate) files: Vec<OsString>,
     pub(crate) color: When,
     pub(crate) json: bool,
+    pub(crate) large: bool,
+}
+
+impl Call {
+    /// How large a draft may be.
+    pub(crate) fn limits(&self) -> Limits {
+        match self.large {
+            true => Limits::Large,
+            false => Limits::Small,
+        }
+    }
 }
 
 #[derive(Debug, PartialEq, Eq)]
@@ -76,14 +88,22 @@ fn set_option(command: &Command, call: &mut Call, argument: &OsStr) -> Result<()
             })?;
         }
         "--json" if command.options.contains(&Choice::Json) => {
-            if value.is_some() {
-                return Err("--json takes no value".to_owned());
-            }
-            call.json = true;
+            call.json = without_value(name, value)?;
+        }
+        "--large" if command.options.contains(&Choice::Large) => {
+            call.large = without_value(name, value)?;
         }
         _ => return Err(unknown_option(argument)),
     }
     Ok(())
+}
+
+/// An option is on where it stands, and has nothing behind it.
+fn without_value(name: &str, value: Option<&str>) -> Result<bool, String> {
+    match value {
+        None => Ok(true),
+        Some(_) => Err(format!("{name} takes no value")),
+    }
 }
 
 fn when(value: &str) -> Option<When> {
@@ -117,19 +137,41 @@ mod tests {
         let call = Call {
             files: files(&["a", "-", "b"]),
             color: When::Never,
-            json: false,
+            ..Call::default()
         };
         let given = ["a", "--color=always", "-", "b", "--color=never"];
         assert_eq!(asked(&crate::check::COMMAND, &given), Ok(Asked::Run(call)));
         let call = Call {
             files: files(&["a"]),
-            color: When::Auto,
             json: true,
+            large: true,
+            ..Call::default()
         };
         assert_eq!(
-            asked(&crate::tree::COMMAND, &["a", "--json"]),
+            asked(&crate::tree::COMMAND, &["--large", "a", "--json"]),
             Ok(Asked::Run(call))
         );
+    }
+
+    #[test]
+    fn large_is_an_option_of_each() {
+        for command in &crate::COMMANDS {
+            for (given, limits) in [
+                (&["a"][..], Limits::Small),
+                (&["a", "--large"], Limits::Large),
+                (&["--large", "a", "--large"], Limits::Large),
+                (&["--", "a"], Limits::Small),
+            ] {
+                let Ok(Asked::Run(call)) = asked(command, given) else {
+                    panic!("a wrong call: {given:?}");
+                };
+                assert_eq!((call.limits(), call.files), (limits, files(&["a"])));
+            }
+            wrong(command, &["--large=", "a"], "--large takes no value");
+            wrong(command, &["a", "--large=1"], "--large takes no value");
+            wrong(command, &["a", "--larger"], "unknown option '--larger'");
+            wrong(command, &["--large"], "no file");
+        }
     }
 
     #[test]

@@ -23,6 +23,7 @@ pub(crate) struct Command {
 pub(crate) enum Choice {
     Color,
     Json,
+    Large,
 }
 
 /// The exit status; of several files, the greatest of theirs.

@@ -60,6 +60,10 @@ impl Choice {
                  unless NO_COLOR is set or TERM is dumb\n"
             }
             Choice::Json => "  --json         one JSON object on one line, for programs\n",
+            Choice::Large => {
+                "  --large        drafts of up to 1,048,576 bytes and 131,072 tokens; without it\n                 \
+                 of up to 16,384 and 2,048\n"
+            }
         }
     }
 }

@@ -4,23 +4,25 @@ use crate::{errors, standard};
 use std::ffi::OsStr;
 use std::fs::File;
 use std::io::{self, Read};
-use togmelic::MOST_DRAFT;
+use togmelic::Limits;
 
 /// The draft in a file; `-` is standard input. No more is read than tells a draft that is too long.
-pub(crate) fn read(file: &OsStr) -> io::Result<Vec<u8>> {
+pub(crate) fn read(file: &OsStr, limits: Limits) -> io::Result<Vec<u8>> {
     let stream = if file == "-" {
         standard::file(io::stdin())?
     } else {
         File::open(file)?
     };
     let mut draft = Vec::new();
-    stream.take(MOST_DRAFT as u64 + 1).read_to_end(&mut draft)?;
+    stream
+        .take(limits.bytes() as u64 + 1)
+        .read_to_end(&mut draft)?;
     Ok(draft)
 }
 
 /// The same for a command of one file: where it cannot be read this is said.
-pub(crate) fn read_or_complain(file: &OsStr) -> Option<Vec<u8>> {
-    read(file)
+pub(crate) fn read_or_complain(file: &OsStr, limits: Limits) -> Option<Vec<u8>> {
+    read(file, limits)
         .map_err(|error| errors::of_file(file, &error))
         .ok()
 }

@@ -7,8 +7,8 @@ pub(crate) struct Place {
     pub(crate) column: usize,
 }
 
-/// The place of every byte of a draft, and the one behind it. A draft is short, so that all of them are found in one
-/// walk, however many are asked for.
+/// The place of every byte of a draft, and the one behind it: all of them are found in one walk, however many are asked
+/// for.
 pub(crate) fn places(draft: &[u8]) -> Vec<Place> {
     let mut places = Vec::with_capacity(draft.len() + 1);
     let mut place = Place { line: 1, column: 1 };

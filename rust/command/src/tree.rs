@@ -6,14 +6,14 @@ mod label;
 
 use crate::arguments::Call;
 use crate::command::{Choice, Command, Status};
-use crate::{errors, input, refused, terminal};
+use crate::refused::Refused;
+use crate::{errors, input, terminal};
 use std::io::{self, Write};
-use togmelic::Refusal;
 
 pub(crate) const COMMAND: Command = Command {
     name: "tree",
     summary: "shows the tree of a draft",
-    usage: "tree [--color=WHEN] [--json] FILE",
+    usage: "tree [--color=WHEN] [--json] [--large] FILE",
     about: "\
 Shows the tree of a draft, one line a record: what it is, and the line and the
 column at which it begins. A draft that is refused has no tree: what check says
@@ -24,39 +24,50 @@ Examples:
   togmelic tree escrow.simf
   togmelic tree --json escrow.simf | jq '.records[].label'
 ",
-    options: &[Choice::Color, Choice::Json],
+    options: &[Choice::Color, Choice::Json, Choice::Large],
     several: false,
     run,
 };
 
 fn run(call: &Call, out: &mut dyn Write) -> io::Result<Status> {
-    let file = &call.files[0];
-    let Some(draft) = input::read_or_complain(file) else {
+    let (file, limits) = (&call.files[0], call.limits());
+    let Some(draft) = input::read_or_complain(file, limits) else {
         return Ok(Status::Failed);
     };
-    match togmelic::read(&draft) {
-        Ok(tree) => {
-            if call.json {
-                json::tree(out, file, &draft, &tree)?;
-            } else {
-                let look = terminal::look(&io::stdout(), call.color);
-                draw::tree(out, look, &draft, &tree)?;
-            }
-            Ok(Status::Accepted)
+    let tree = match togmelic::read_within(&draft, limits) {
+        Ok(tree) => tree,
+        Err(refusal) => {
+            let draft = &draft;
+            return refuse(
+                call,
+                &Refused {
+                    draft,
+                    refusal,
+                    limits,
+                },
+                out,
+            );
         }
-        Err(refusal) if call.json => {
-            json::refusal(out, file, &draft, &refusal)?;
-            Ok(Status::Refused)
-        }
-        Err(refusal) => refuse(call, &draft, &refusal),
+    };
+    if call.json {
+        json::tree(out, file, &draft, &tree)?;
+    } else {
+        let look = terminal::look(&io::stdout(), call.color);
+        draw::tree(out, look, &draft, &tree)?;
     }
+    Ok(Status::Accepted)
 }
 
 /// Standard output is the tree's, so what is said of a draft without one goes to standard error.
-fn refuse(call: &Call, draft: &[u8], refusal: &Refusal) -> io::Result<Status> {
+fn refuse(call: &Call, refused: &Refused, out: &mut dyn Write) -> io::Result<Status> {
+    let file = &call.files[0];
+    if call.json {
+        json::refusal(out, file, refused)?;
+        return Ok(Status::Refused);
+    }
     let look = terminal::look(&io::stderr(), call.color);
     let mut said = Vec::new();
-    refused::write(&mut said, look, &call.files[0], draft, refusal)?;
+    refused.write(&mut said, look, file)?;
     match errors::warn(&said) {
         true => Ok(Status::Refused),
         false => Ok(Status::Failed),

@@ -20,7 +20,7 @@ use std::path::{Path, PathBuf};
 use std::process::{Command, Output, Stdio};
 
 /// So many cases there are; one that is lost or added without a word is seen.
-const CASES: usize = 165;
+const CASES: usize = 197;
 
 /// The folders of the cases, in the order of their names. Whatever else stands there is a fault.
 fn cases() -> Vec<PathBuf> {
@@ -218,14 +218,27 @@ fn help_names_the_calls() {
         (&["-h"], &program),
         (
             &["check", "--help"],
-            &["togmelic check", "\n  --color=WHEN ", "FILE"],
+            &[
+                "togmelic check",
+                "\n  --color=WHEN ",
+                "\n  --large ",
+                "FILE",
+            ],
         ),
         (&["list", "-h"], &["togmelic list", "\n  --help, -h "]),
         (
             &["tree", "--help"],
-            &["togmelic tree", "\n  --color=WHEN ", "\n  --json "],
+            &[
+                "togmelic tree",
+                "\n  --color=WHEN ",
+                "\n  --json ",
+                "\n  --large ",
+            ],
         ),
-        (&["list", "--help"], &["togmelic list", "FILE"]),
+        (
+            &["list", "--help"],
+            &["togmelic list", "\n  --large ", "FILE"],
+        ),
         // Arguments are taken in order, so what is wrong behind it is not looked at, nor is a file.
         (&["check", "--help", "--colour"], &["togmelic check"]),
         (&["tree", "missing.simf", "--help"], &["togmelic tree"]),

@@ -1,25 +1,48 @@
 //! Drafts at each limit, just under it and over it, and byte buffers of every length.
 
 use crate::comparison::Comparison;
+use partner::Limits;
+use std::ops::RangeInclusive;
 use togmelic::{LINE, MOST_BYTES};
 
 pub fn all(comparison: &mut Comparison) {
-    let drafts = [bytes(), tokens(), brackets(), matches(), numbers(), files()].concat();
-    for draft in drafts {
+    let drafts = [
+        at_limits(Limits::SMALL).concat(),
+        brackets(),
+        matches(),
+        numbers(),
+        nested_files(),
+    ];
+    for draft in drafts.iter().flatten() {
         comparison.check(draft.as_bytes(), MOST_BYTES);
     }
     buffers(comparison);
 }
 
+/// Functions and files with as many bytes and tokens as the limits allow, or one fewer, or one or two more.
+pub fn at_limits(limits: Limits) -> [Vec<String>; 3] {
+    let (bytes, tokens) = (around(limits.bytes), around(limits.tokens));
+    [
+        long_functions(bytes.clone()),
+        many_tokens(tokens.clone()),
+        files(bytes, tokens),
+    ]
+}
+
+/// A number and those next to it.
+fn around(number: usize) -> RangeInclusive<usize> {
+    number - 1..=number + 2
+}
+
 /// A text in the body of a function.
-fn body(text: &str) -> String {
+pub fn body(text: &str) -> String {
     format!("fn f(){{{text}}}")
 }
 
-/// Drafts of 16,383 to 16,386 bytes.
-fn bytes() -> Vec<String> {
+/// Drafts of so many bytes.
+fn long_functions(lengths: RangeInclusive<usize>) -> Vec<String> {
     let mut drafts = Vec::new();
-    for length in 16_383..=16_386 {
+    for length in lengths {
         let fill = |piece: &str| piece.repeat(length - 8);
         drafts.push(body(&fill(" ")));
         drafts.push(body(&fill("x")));
@@ -35,10 +58,10 @@ fn bytes() -> Vec<String> {
     drafts
 }
 
-/// Drafts of 2,047 to 2,050 tokens.
-fn tokens() -> Vec<String> {
+/// Drafts of so many tokens.
+fn many_tokens(counts: RangeInclusive<usize>) -> Vec<String> {
     let mut drafts = Vec::new();
-    for count in 2_047..=2_050 {
+    for count in counts {
         // The head and the closing brace are six tokens.
         let inner = count - 6;
         let (pairs, odd) = (inner / 2, inner % 2);
@@ -157,10 +180,10 @@ fn numbers() -> Vec<String> {
     texts.iter().flat_map(places).collect()
 }
 
-/// Files at the limits: blanks and comments alone, and items up to each limit and over it.
-fn files() -> Vec<String> {
+/// Files of so many bytes, blanks and comments alone among them, and of so many tokens.
+fn files(lengths: RangeInclusive<usize>, counts: RangeInclusive<usize>) -> Vec<String> {
     let mut drafts = Vec::new();
-    for length in 16_383..=16_386 {
+    for length in lengths {
         drafts.push(" ".repeat(length));
         drafts.push(format!("//{}", "a".repeat(length - 2)));
         drafts.push(format!("/*{}*/", "a".repeat(length - 4)));
@@ -168,14 +191,19 @@ fn files() -> Vec<String> {
         drafts.push(format!("type {}=u8;", "A".repeat(length - 9)));
     }
     // Five tokens a type and six a function; then the first tokens of a type.
-    for count in 2_047..=2_050 {
+    for count in counts {
         for functions in 0..5 {
             let types = count - 6 * functions;
             let cut = ["", "type", "type A", "type A=", "type A=A"][types % 5];
             drafts.push("fn f(){}".repeat(functions) + &"type A=A;".repeat(types / 5) + cut);
         }
     }
-    // Brackets are closed again before the next item.
+    drafts
+}
+
+/// Brackets are closed again before the next item.
+fn nested_files() -> Vec<String> {
+    let mut drafts = Vec::new();
     for count in 47..=50 {
         let item = format!("type A={}A{};", "(".repeat(count), ")".repeat(count));
         drafts.push(item.repeat(2));

@@ -1,5 +1,5 @@
-//! Compares every byte of the proved reader's answer, through its entry for C, with the partner's, and every word of
-//! what it loads. Use: compare RUN..., where RUN is
+//! Compares every byte of the proved reader's answer, through its entries for C, with the partner's, every word of its
+//! tokens and its tree, and every word of what it loads. Use: compare RUN..., where RUN is
 //!   bytes     every string of a few bytes
 //!   lexemes   every string of a few lexemes, in telling surroundings
 //!   utf8      every string of a few bytes in comments, every character, and sequences that are nearly UTF-8
@@ -9,15 +9,22 @@
 //!   stream    the drafts on standard input: length, line end, bytes
 //!   shapes    listings of records with every few children
 //!   listings  the listings of the drafts on standard input, whole and damaged
-//! Listings are compared in both forms, of 41 and of 36 bytes a line, and with lines of both.
+//!   large     drafts at the large limits and around numbers of four digits, and the listings of those that are accepted
+//!   contracts SEED COUNT
+//!             so many random files of up to a megabyte, some over the limits and some damaged, and their listings
+//! Of the drafts that go through the small entry some or all go through the large one too, with buffers of several
+//! lengths. Listings are compared in all three forms, of 36, 41 and 49 bytes a line, and with lines of several.
 //! Writes one line a run and the total. After a difference, the smallest such draft or listing stands on standard
 //! error.
 
+mod answers;
 mod comparison;
+mod contracts;
 mod damage;
 mod faults;
 mod files;
 mod grafts;
+mod large;
 mod lexemes;
 mod limits;
 mod listings;
@@ -33,67 +40,84 @@ use loading::Loading;
 use std::io::Read;
 use std::process::ExitCode;
 
-/// Drafts and listings compared, and how many of them were accepted.
+/// Drafts compared at the small entry, drafts compared at the large one and listings, and how many of each were accepted.
 #[derive(Default)]
 struct Total {
     drafts: [u64; 2],
+    large: [u64; 2],
     listings: [u64; 2],
     differs: bool,
 }
 
 fn main() -> ExitCode {
     let mut total = Total::default();
-    for name in std::env::args().skip(1) {
-        let ran = match name.as_str() {
-            "shapes" | "listings" => total.load(&name),
-            _ => total.read(&name),
-        };
-        if ran.is_none() {
+    let mut arguments = std::env::args().skip(1);
+    while let Some(name) = arguments.next() {
+        if total.run(name.clone(), &mut arguments).is_none() {
             eprintln!("compare: no such run, or no whole stream of drafts: {name}");
             return ExitCode::from(2);
         }
     }
     let Total {
         drafts: [drafts, accepted],
+        large: [large, large_accepted],
         listings: [listings, loaded],
         differs,
     } = total;
-    println!("compare: total: {drafts} drafts, {accepted} accepted, {listings} listings, {loaded} accepted");
+    println!(
+        "compare: total: {drafts} drafts, {accepted} accepted, {large} within the large limits, {large_accepted} accepted, \
+         {listings} listings, {loaded} accepted"
+    );
     // No draft and no listing at all is no comparison.
     ExitCode::from(u8::from(differs || drafts + listings == 0))
 }
 
 impl Total {
-    /// A run that reads drafts.
-    fn read(&mut self, name: &str) -> Option<()> {
-        let mut run = Comparison::new();
-        match name {
-            "bytes" => strings::bytes(&mut run),
-            "lexemes" => lexemes::all(&mut run),
-            "utf8" => utf8::all(&mut run),
-            "limits" => limits::all(&mut run),
-            "faults" => faults::all(&mut run),
-            "files" => files::all(&mut run),
-            "stream" => stream(&mut run)?,
+    /// A run of that name, which may take more arguments. It has drafts or listings or both.
+    fn run(&mut self, mut name: String, rest: &mut impl Iterator<Item = String>) -> Option<()> {
+        let (mut drafts, mut listings) = (Comparison::new(), Loading::new());
+        match name.as_str() {
+            "bytes" => strings::bytes(&mut drafts),
+            "lexemes" => lexemes::all(&mut drafts),
+            "utf8" => utf8::all(&mut drafts),
+            "limits" => limits::all(&mut drafts),
+            "faults" => faults::all(&mut drafts),
+            "files" => files::all(&mut drafts),
+            "stream" => stream(&mut drafts)?,
+            "shapes" => shapes::all(&mut listings),
+            "listings" => listings::all(&standard_input()?, &mut listings)?,
+            "large" => large::all(&mut drafts, &mut listings),
+            "contracts" => {
+                let (seed, count) = (rest.next()?, rest.next()?.parse().ok()?);
+                contracts::all(&seed, count, &mut drafts, &mut listings);
+                name = format!("contracts, seed {seed}");
+            }
             _ => return None,
         }
-        let (drafts, accepted) = (run.drafts, run.accepted);
-        let answer = answer(run.agrees());
-        println!("compare: {name}: {drafts} drafts, {accepted} accepted, {answer}");
-        run.show_difference();
-        self.drafts[0] += drafts;
-        self.drafts[1] += accepted;
-        self.differs |= !run.agrees();
+        if drafts.drafts > 0 {
+            self.add_drafts(&name, &drafts);
+        }
+        if listings.listings() > 0 {
+            self.add_listings(&name, &listings);
+        }
         Some(())
     }
 
-    /// A run that loads listings.
-    fn load(&mut self, name: &str) -> Option<()> {
-        let mut run = Loading::new();
-        match name {
-            "shapes" => shapes::all(&mut run),
-            _ => listings::all(&standard_input()?, &mut run)?,
-        }
+    fn add_drafts(&mut self, name: &str, run: &Comparison) {
+        let (drafts, accepted) = (run.drafts, run.accepted);
+        let (large, large_accepted) = (run.large, run.large_accepted);
+        let answer = answer(run.agrees());
+        println!(
+            "compare: {name}: {drafts} drafts, {accepted} accepted, \
+             {large} within the large limits, {large_accepted} accepted, {answer}"
+        );
+        run.show_difference();
+        add(&mut self.drafts, [drafts, accepted]);
+        add(&mut self.large, [large, large_accepted]);
+        self.differs |= !run.agrees();
+    }
+
+    fn add_listings(&mut self, name: &str, run: &Loading) {
         let (listings, accepted) = (run.listings(), run.accepted);
         let [form, function, room] = run.refused;
         let answer = answer(run.agrees());
@@ -102,11 +126,14 @@ impl Total {
              {form} refused with 16, {function} with 17, {room} with 18, {answer}"
         );
         run.show_difference();
-        self.listings[0] += listings;
-        self.listings[1] += accepted;
+        add(&mut self.listings, [listings, accepted]);
         self.differs |= !run.agrees();
-        Some(())
     }
+}
+
+fn add(sum: &mut [u64; 2], [all, accepted]: [u64; 2]) {
+    sum[0] += all;
+    sum[1] += accepted;
 }
 
 fn answer(agrees: bool) -> &'static str {

@@ -1,6 +1,7 @@
 //! All records of a few children, in functions and files that are right otherwise, tops of every place, and listings of as
-//! many lines as sizes count.
+//! many lines as four digits count, and of more.
 
+use crate::damage::far;
 use crate::loading::Loading;
 use crate::strings;
 use crate::trees::{
@@ -8,7 +9,7 @@ use crate::trees::{
     Tree,
 };
 use partner::kinds::record;
-use partner::{write_lines, write_short_lines, Record};
+use partner::{write_in, write_lines, Form, Record};
 use std::ops::RangeInclusive;
 use togmelic::RECORD_WORDS;
 
@@ -97,10 +98,13 @@ fn compare(tree: Tree, loading: &mut Loading) -> bool {
     taken
 }
 
-/// Compares the records' lines in both forms.
+/// Compares the records' lines with and without the way up, and now and then in six digits, with an end that needs them.
 fn check(records: &[Record], loading: &mut Loading) -> bool {
     let words = RECORD_WORDS * records.len();
-    loading.check(&write_short_lines(records), words);
+    if loading.listings() % 16 < 2 {
+        loading.check(&write_lines(&far(records)), words);
+    }
+    loading.check(&write_in(Form::Older, records), words);
     loading.check(&write_lines(records), words)
 }
 
@@ -179,16 +183,16 @@ fn placed(mut tree: Tree, (start, end): (u32, u32)) -> Tree {
     tree
 }
 
-/// Listings of so many records that four digits just count them, and of more: chains and rows in a function and in a
-/// file, and items in a row.
+/// Listings of so many records that four digits just count them, and of more, in all forms: chains and rows in a function
+/// and in a file, and items in a row.
 fn long(loading: &mut Loading) {
-    for count in [0xFFFE, 0xFFFF, 0x1_0000, 0x1_0001, 0x1_0003] {
+    for count in [0xFFFE, 0xFFFF, 0x1_0000, 0x1_0001, 0x1_0003, 0x2_0001] {
         // Three of the records stand around the others: function, name, block; and a file's program.
         let functions = row_and_chain(count - 3).map(function);
         let files = row_and_chain(count - 4).map(|trees| program(&[function(trees)]));
         let items = program(&vec![smallest(record::TYPE_ITEM); (count - 1) / 3]);
         for tree in functions.iter().chain(&files).chain([&items]) {
-            for lines in [write_lines(tree), write_short_lines(tree)] {
+            for lines in Form::ALL.map(|form| write_in(form, tree)) {
                 for room in [RECORD_WORDS * tree.len() - 1, RECORD_WORDS * tree.len()] {
                     loading.check(&lines, room);
                 }

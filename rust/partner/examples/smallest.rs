@@ -2,7 +2,7 @@
 //! for 9 to 14 and 19 every token list that has the right shape so far and leaves room for what the number
 //! needs.
 
-use partner::{read_with_room, Entry};
+use partner::{read_with_room, Entry, Limits};
 use std::collections::BTreeMap;
 
 /// The shortest spelling of a number that 64 bits do not hold.
@@ -38,7 +38,7 @@ fn try_bytes() {
 
 /// The number of the refusal, 0 for none.
 fn number(draft: &[u8]) -> u32 {
-    let refusal = read_with_room(draft, Entry::File).err();
+    let refusal = read_with_room(draft, Entry::File, Limits::SMALL).err();
     refusal.map_or(0, |(number, _)| number)
 }
 
@@ -67,7 +67,7 @@ impl Search {
 
     fn visit(&mut self, tokens: &mut Vec<&'static str>, draft: &str) {
         self.tried += 1;
-        match read_with_room(draft.as_bytes(), Entry::File) {
+        match read_with_room(draft.as_bytes(), Entry::File, Limits::SMALL) {
             // Only the end is wrong, or nothing is: the tokens can be continued.
             Err((8, place)) if place == draft.len() => self.extend(tokens, draft),
             Ok(_) => self.extend(tokens, draft),

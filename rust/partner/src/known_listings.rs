@@ -1,6 +1,6 @@
 //! The listings of `listings.txt`, each loaded and compared with its stated result.
 
-use crate::{load, write_lines, write_short_lines, RECORD_WORDS};
+use crate::{load, write_in, write_lines, Form, RECORD_WORDS};
 
 const CASES: &str = include_str!("../listings.txt");
 
@@ -57,7 +57,7 @@ fn holds(result: &str, listing: &str) -> bool {
         Ok(records) => {
             what == Some("load")
                 && numbers == [records.len()]
-                && [write_lines(&records), write_short_lines(&records)]
+                && [write_lines(&records), write_in(Form::Older, &records)]
                     .contains(&listing.as_bytes().to_vec())
         }
         Err((number, line)) => what == Some("refuse") && numbers == [number as usize, line],

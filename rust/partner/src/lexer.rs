@@ -1,12 +1,15 @@
 //! Lexemes: from the bytes of a draft to its tokens, or to the earliest of the refusals 2 to 5 and 21.
 
 use crate::kinds::{refusal, token};
-use crate::{Step, Token, TOKENS};
+use crate::{Step, Token};
+
+/// Room for so many tokens is made at first, where the draft may have as many.
+const MOST_AT_FIRST: usize = 2_048;
 
 /// All tokens of the draft, or the earliest of the refusals 2 to 5 and 21. The draft is read from its
 /// start, so the first one met is the earliest.
 pub fn lex(draft: &[u8]) -> Step<Vec<Token>> {
-    let mut tokens = Vec::with_capacity(TOKENS.min(draft.len()));
+    let mut tokens = Vec::with_capacity(MOST_AT_FIRST.min(draft.len()));
     let mut at = 0;
     while at < draft.len() {
         let end = trivia_end(draft, at)?;

@@ -1,6 +1,7 @@
 //! A reader of escrow drafts, one function or a whole file: from the bytes of a draft to its tokens
 //! and its tree of records, or to one of the refusals 1 to 15, 19 and 21. It looks ahead at the next
 //! tokens and never reads twice.
+//! There are two sets of limits, [`Limits::SMALL`] and [`Limits::LARGE`].
 //! Its listings come back, those without the way up too: from the lines to the records, or to one of the refusals 16 to 18.
 
 pub mod kinds;
@@ -14,7 +15,8 @@ mod names;
 mod parser;
 pub mod streams;
 
-pub use listing::{list_into, listing, write_lines, write_short_lines};
+pub use limits::Limits;
+pub use listing::{list_into, list_large_into, listing, write_in, write_lines, Form};
 pub use load::load;
 
 /// Kind, start, end.
@@ -30,10 +32,8 @@ type Step<T = ()> = Result<T, Refusal>;
 
 /// Words of a record.
 pub const RECORD_WORDS: usize = 7;
-const DRAFT_BYTES: usize = 16_384;
-const TOKENS: usize = 2_048;
-/// Each record owns a token, but for the first of a file.
-const RECORDS: usize = TOKENS + 1;
+/// Words of a token.
+pub const TOKEN_WORDS: usize = 3;
 
 /// What a draft is read as.
 #[derive(Clone, Copy, Debug, PartialEq, Eq)]
@@ -44,18 +44,27 @@ pub enum Entry {
     File,
 }
 
-/// Reads a draft with buffers that are enough for every one.
-pub fn read_with_room(draft: &[u8], entry: Entry) -> Reading {
-    read(draft, entry, 3 * TOKENS, RECORD_WORDS * RECORDS)
+/// Words of a token buffer and of a tree buffer.
+pub type Words = (usize, usize);
+
+/// Reads a draft with buffers that are enough for every one within the limits.
+pub fn read_with_room(draft: &[u8], entry: Entry, limits: Limits) -> Reading {
+    let words = (TOKEN_WORDS * limits.tokens, RECORD_WORDS * limits.records());
+    read(draft, entry, limits, words)
 }
 
 /// Reads a draft into tokens and records for buffers of the given numbers of words.
-pub fn read(draft: &[u8], entry: Entry, token_words: usize, tree_words: usize) -> Reading {
-    if draft.len() > DRAFT_BYTES {
-        return Err((kinds::refusal::DRAFT_TOO_LONG, DRAFT_BYTES));
+pub fn read(
+    draft: &[u8],
+    entry: Entry,
+    limits: Limits,
+    (token_words, tree_words): Words,
+) -> Reading {
+    if draft.len() > limits.bytes {
+        return Err((kinds::refusal::DRAFT_TOO_LONG, limits.bytes));
     }
     let tokens = lexer::lex(draft)?;
-    limits::check_number(&tokens, token_words / 3)?;
+    limits::check_number(&tokens, limits.tokens.min(token_words / TOKEN_WORDS))?;
     limits::check_depth(&tokens)?;
     let records = parser::parse(draft, &tokens, entry)?;
     if tree_words < RECORD_WORDS * records.len() {

@@ -1,13 +1,38 @@
-//! The limits over all tokens: refusals 6 and 7.
+//! The limits: of bytes and tokens, of which there are two sets, and those over all tokens, refusals 6 and 7.
 
 use crate::kinds::{refusal, token};
-use crate::{Step, Token, TOKENS};
+use crate::{Step, Token};
+
+/// How many bytes and how many tokens a draft may have.
+#[derive(Clone, Copy, Debug, PartialEq, Eq)]
+pub struct Limits {
+    pub bytes: usize,
+    pub tokens: usize,
+}
+
+impl Limits {
+    /// Those of the listing program and of the first entry for C.
+    pub const SMALL: Limits = Limits {
+        bytes: 16_384,
+        tokens: 2_048,
+    };
+    /// Those of the library.
+    pub const LARGE: Limits = Limits {
+        bytes: 1_048_576,
+        tokens: 131_072,
+    };
+
+    /// Each record owns a token, but for the first of a file.
+    pub const fn records(self) -> usize {
+        self.tokens + 1
+    }
+}
 
 const OPEN_BRACKETS: usize = 48;
 const MATCHES_IN_A_ROW: usize = 8;
 
 pub fn check_number(tokens: &[Token], room: usize) -> Step {
-    match tokens.get(room.min(TOKENS)) {
+    match tokens.get(room) {
         Some(first_too_many) => Err((refusal::TOO_MANY_TOKENS, first_too_many[1] as usize)),
         None => Ok(()),
     }

@@ -1,4 +1,4 @@
-//! Listings come back: the records of a listing in either form, or one of the refusals 16 to 18, tested in this order.
+//! Listings come back: the records of a listing in any form, or one of the refusals 16 to 18, tested in this order.
 
 mod children;
 mod fields;
@@ -7,7 +7,7 @@ mod form;
 mod tests;
 
 use crate::kinds::{record, refusal};
-use crate::{Record, Refusal, RECORD_WORDS};
+use crate::{Form, Record, Refusal, RECORD_WORDS};
 use form::Lines;
 
 /// Loads a listing for a record buffer of that many words: its records, or the number and line of the refusal.
@@ -27,7 +27,7 @@ fn tree(lines: Lines) -> Option<Vec<Record>> {
         return None;
     }
     let ways = ways_up(&records);
-    if !lines.have_ways {
+    if lines.form == Form::Older {
         for (record, way) in records.iter_mut().zip(&ways) {
             record[6] = *way;
         }

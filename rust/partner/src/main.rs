@@ -1,4 +1,4 @@
-//! Lists the draft on standard input. `--many` lists a stream of drafts, `--cases` answers a stream
+//! Lists the draft on standard input within the small limits, with `--large` within the large ones. `--many` lists a stream of drafts, `--cases` answers a stream
 //! of drafts and `--listings` one of listings, each with lent buffers, and `--self-test` runs the
 //! drafts and listings with known results.
 
@@ -13,7 +13,8 @@ fn main() -> io::Result<()> {
     let mut input = Vec::new();
     io::stdin().read_to_end(&mut input)?;
     let answer = match mode.as_deref() {
-        None => partner::listing(&input),
+        None => partner::listing(&input, partner::Limits::SMALL),
+        Some("--large") => partner::listing(&input, partner::Limits::LARGE),
         Some("--many") => partner::streams::many(&input).ok_or(io::ErrorKind::InvalidData)?,
         Some("--cases") => partner::streams::cases(&input).ok_or(io::ErrorKind::InvalidData)?,
         Some("--listings") => {

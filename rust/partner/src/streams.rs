@@ -1,7 +1,8 @@
 //! Streams of drafts and of listings on standard input, with one answer after the other.
 
 use crate::{
-    list_into, listing, load, read, write_lines, write_short_lines, Entry, Reading, Record,
+    list_into, list_large_into, listing, load, read, write_in, write_lines, Entry, Form, Limits,
+    Reading, Record, Words,
 };
 
 /// The listings of a stream of drafts: length, line end, bytes, both ways.
@@ -9,7 +10,7 @@ pub fn many(mut stream: &[u8]) -> Option<Vec<u8>> {
     let mut answers = Vec::new();
     while !stream.is_empty() {
         let draft = next_draft(&mut stream)?;
-        let lines = listing(draft);
+        let lines = listing(draft, Limits::SMALL);
         answers.extend_from_slice(format!("{}\n", lines.len()).as_bytes());
         answers.extend_from_slice(&lines);
     }
@@ -24,8 +25,9 @@ pub fn next_draft<'a>(stream: &mut &'a [u8]) -> Option<&'a [u8]> {
 
 /// The answers to a stream of cases. A case is a line of four numbers, the words of the token
 /// buffer, the words of the tree buffer, the bytes of the byte buffer and the bytes of the draft;
-/// then the draft and a line end. Answered are both entries, the draft read as one function and as a
-/// file, and the listing.
+/// then the draft and a line end. Answered are the draft read as one function and as a file, both
+/// within the large limits, the listing within the small ones, and that within the large ones, whose
+/// lines are left out where they are the same.
 pub fn cases(mut stream: &[u8]) -> Option<Vec<u8>> {
     let mut answers = Vec::new();
     while !stream.is_empty() {
@@ -34,19 +36,33 @@ pub fn cases(mut stream: &[u8]) -> Option<Vec<u8>> {
         if take(&mut stream, 1)? != b"\n" {
             return None;
         }
-        let function = read(draft, Entry::Function, token_words, tree_words);
-        let file = read(draft, Entry::File, token_words, tree_words);
-        let mut out = vec![0; room];
-        let used = list_into(draft, &mut out);
-        let lines = [
-            format!("function {}\n", answer(&function)),
-            format!("file {}{}\n", answer(&file), sameness(&function, &file)),
-            format!("listed {used} zeros\n"),
-        ];
-        answers.extend_from_slice(lines.concat().as_bytes());
-        answers.extend_from_slice(&out[..used]);
+        add_readings(&mut answers, draft, (token_words, tree_words));
+        add_listings(&mut answers, draft, (token_words, tree_words), room);
     }
     Some(answers)
+}
+
+fn add_readings(answers: &mut Vec<u8>, draft: &[u8], words: Words) {
+    let function = read(draft, Entry::Function, Limits::LARGE, words);
+    let file = read(draft, Entry::File, Limits::LARGE, words);
+    let lines = [
+        format!("function {}\n", answer(&function)),
+        format!("file {}{}\n", answer(&file), sameness(&function, &file)),
+    ];
+    answers.extend_from_slice(lines.concat().as_bytes());
+}
+
+fn add_listings(answers: &mut Vec<u8>, draft: &[u8], (tokens, tree): Words, room: usize) {
+    let [mut small, mut large] = [vec![0; room], vec![0; room]];
+    let used = list_into(draft, &mut small);
+    answers.extend_from_slice(format!("listed {used} zeros\n").as_bytes());
+    answers.extend_from_slice(&small[..used]);
+    let (mut tokens, mut tree) = (vec![0; tokens], vec![0; tree]);
+    let large_used = list_large_into(draft, &mut tokens, &mut tree, &mut large);
+    answers.extend_from_slice(format!("large {large_used} zeros\n").as_bytes());
+    if small[..used] != large[..large_used] {
+        answers.extend_from_slice(&large[..large_used]);
+    }
 }
 
 fn answer(reading: &Reading) -> String {
@@ -101,7 +117,7 @@ pub fn listings(mut stream: &[u8]) -> Option<Vec<u8>> {
 fn written_again(records: &[Record], listing: &[u8]) -> &'static str {
     if write_lines(records) == listing {
         "same"
-    } else if write_short_lines(records) == listing {
+    } else if write_in(Form::Older, records) == listing {
         "wider"
     } else {
         "NOT THE SAME"

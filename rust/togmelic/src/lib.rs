@@ -8,11 +8,16 @@
 //! In the repository, docs/LANGUAGE.md says which drafts are read and within what limits, docs/KINDS.md which records there
 //! are and what they hold, and docs/REFUSALS.md what each refusal means and what to do about it.
 //!
-//! [`list`] and [`load_into`] write into a lent buffer and allocate nothing; [`listing`], [`read`] and [`load`] bring
-//! their own. Each of them may be called with any bytes and from any thread, and no answer depends on an earlier call.
-//! The reader keeps its tokens and its tree on the stack and calls itself for what is nested: the deepest drafts
-//! take less than 400,000 bytes, so lend its thread 1 MiB. Loading takes less than 4,096 bytes, however deep the listing is
-//! nested.
+//! [`list`], [`listing`] and [`read`] take drafts of up to 16,384 bytes and 2,048 tokens, [`Limits::Small`].
+//! [`list_large`] takes 1,048,576 bytes and 131,072 tokens, [`Limits::Large`], for contracts that a program generates, and
+//! [`listing_within`] and [`read_within`] take either, as they are told.
+//!
+//! [`list`], [`list_large`] and [`load_into`] write into lent buffers and allocate nothing; the others bring their own. Each
+//! of them may be called with any bytes and from any thread, and no answer depends on an earlier call.
+//! Within the small limits the reader keeps its tokens and its tree on the stack, and it calls itself for what is nested:
+//! the deepest drafts take less than 400,000 bytes, so lend its thread 1 MiB. Within the large limits tokens and tree are not
+//! on the stack, and it takes up to 320,000 bytes, however long the draft is. Loading takes less than 4,096 bytes, however
+//! deep the listing is nested.
 //!
 //! ```
 //! use togmelic::Kind;
@@ -48,27 +53,35 @@
 //! ```
 
 mod kinds;
+mod limits;
 mod lines;
 mod load;
 mod numbered;
 mod record;
 mod refusal;
+mod within;
 
 pub use kinds::{Alias, Arm, Call, Kind};
+pub use limits::Limits;
 pub use lines::{records, NoRecord};
 pub use load::{load, load_into, RECORD_WORDS};
-pub use record::{holders, Record};
+pub use record::{holders, records_in, Record};
 pub use refusal::{LoadRefusal, Refusal};
+pub use within::{list_large, listing_within, read_within};
 
-/// Bytes of the longest draft that is read; one with more is refused with 1.
-pub const MOST_DRAFT: usize = 16_384;
+/// Bytes of the longest draft that [`list`], [`listing`] and [`read`] take; one with more is refused with 1.
+pub const MOST_DRAFT: usize = Limits::Small.bytes();
 /// Bytes of a line, its line end among them.
 pub const LINE: usize = 41;
 /// Bytes of a line as it was written before records had the way up; [`load`] takes such lines too.
 pub const SHORT_LINE: usize = 36;
-/// No draft has more lines: one for each of 2,048 tokens at most, and the program's.
-pub const MOST_LINES: usize = 2_049;
-/// A buffer of so many bytes suffices for every draft.
+/// Bytes of a line of [`list_large`] where four digits do not hold every start, end, size and way up of its listing.
+pub const LONG_LINE: usize = 49;
+/// Words of a token: kind, start, end.
+pub const TOKEN_WORDS: usize = 3;
+/// No listing of [`list`] has more lines: one for each of 2,048 tokens at most, and the program's.
+pub const MOST_LINES: usize = Limits::Small.lines();
+/// A buffer of so many bytes is enough for every listing of [`list`].
 pub const MOST_BYTES: usize = LINE * MOST_LINES;
 
 extern "C" {
@@ -80,7 +93,7 @@ extern "C" {
     ) -> usize;
 }
 
-/// Lists a draft into `out` and answers the lines, with zeros in the rest of `out`.
+/// Lists a draft within [`Limits::Small`] into `out` and answers the lines, with zeros in the rest of `out`.
 /// `None` only where the lines do not fit; then every byte of `out` is zero.
 /// A refused draft is listed too: one line, of kind 00.
 pub fn list<'out>(draft: &[u8], out: &'out mut [u8]) -> Option<&'out [u8]> {
@@ -91,7 +104,7 @@ pub fn list<'out>(draft: &[u8], out: &'out mut [u8]) -> Option<&'out [u8]> {
     (used > 0).then(|| &out[..used])
 }
 
-/// The whole listing of a draft: one line a record, or one line for a refusal.
+/// The whole listing of a draft within [`Limits::Small`]: one line a record, or one line for a refusal.
 pub fn listing(draft: &[u8]) -> Vec<u8> {
     let mut out = vec![0; MOST_BYTES];
     let used = list(draft, &mut out).map_or(0, <[u8]>::len);
@@ -99,8 +112,8 @@ pub fn listing(draft: &[u8]) -> Vec<u8> {
     out
 }
 
-/// The records of a draft, a parent before its children, or the refusal. The first is the program's, so there is one
-/// also where the draft has no item.
+/// The records of a draft within [`Limits::Small`], a parent before its children, or the refusal. The first is the
+/// program's, so there is one also where the draft has no item.
 pub fn read(draft: &[u8]) -> Result<Vec<Record>, Refusal> {
     let tree: Result<_, NoRecord> = records(&listing(draft)).collect();
     tree.map_err(|reason| match reason {

@@ -20,8 +20,9 @@ extern "C" {
 /// `Kind::Function` in a listing of one function alone. No draft is at hand, so a listing may be taken that is not your
 /// draft's, or no draft's at all: see [`Record::place`].
 ///
-/// The lines are as [`list`](crate::list) writes them, or all of them are of [`SHORT_LINE`] bytes, as they were kept
-/// before records had the way up, which is worked out then.
+/// All lines are of one form: of [`LINE`](crate::LINE) bytes, as [`list`](crate::list) writes them; of
+/// [`LONG_LINE`](crate::LONG_LINE), as [`list_large`](crate::list_large) writes those that need it, and no others are taken; or of
+/// [`SHORT_LINE`], as they were kept before records had the way up, which is worked out then.
 pub fn load_into(listing: &[u8], words: &mut [u32]) -> Result<usize, LoadRefusal> {
     let mut refusal = LoadRefusal { number: 0, line: 0 };
     // SAFETY: the pointers of the slices are never null and good for the length beside them, in bytes and in words;
@@ -47,7 +48,7 @@ pub fn load_into(listing: &[u8], words: &mut [u32]) -> Result<usize, LoadRefusal
 /// The records of a listing, a parent before its children, or the refusal, which is never 18. As with [`load_into`],
 /// they may be those of another draft.
 pub fn load(listing: &[u8]) -> Result<Vec<Record>, LoadRefusal> {
-    // Enough in either form: of the shorter there are more lines.
+    // Enough in every form: of the shortest there are most lines.
     let mut words = vec![0; listing.len() / SHORT_LINE * RECORD_WORDS];
     let count = load_into(listing, &mut words)?;
     let (records, _) = words.as_chunks();

@@ -102,6 +102,23 @@ impl Record {
     }
 }
 
+/// The records of a tree's words, as [`list_large`](crate::list_large) and [`load_into`](crate::load_into) leave them in a
+/// lent buffer: seven words each, up to the zeros behind them, one by one and without an allocation.
+///
+/// ```
+/// use togmelic::{load_into, records_in, Kind};
+///
+/// let lines = togmelic::listing(b"fn f(){}");
+/// let mut words = [0; 40];
+/// assert_eq!(load_into(&lines, &mut words), Ok(4));
+/// let kinds: Vec<Kind> = records_in(&words).map(|record| record.kind).collect();
+/// assert_eq!(kinds, [Kind::Program, Kind::Function, Kind::Name, Kind::Block]);
+/// ```
+pub fn records_in(words: &[u32]) -> impl Iterator<Item = Record> + '_ {
+    let (records, _) = words.as_chunks();
+    records.iter().map_while(|words| Record::from_words(*words))
+}
+
 /// The numbers of the records that hold record `at` of a tree, its parent first and the top last: none for the top
 /// itself, nor where the tree has no such record. Of any records it makes a walk that ends; what [`read`](crate::read)
 /// and [`load`](crate::load) answer is a tree.

@@ -1,26 +1,30 @@
 //! Refusals, with their reasons in words.
 
+use crate::Limits;
 use std::fmt;
 
 /// Why a draft is refused, and where. docs/REFUSALS.md says of each number what it means and what to do about it.
 #[derive(Clone, Copy, Debug, PartialEq, Eq, Hash)]
 pub struct Refusal {
-    /// 1 to 14, 19 or 21; 15 needs a tree buffer shorter than the one used here.
+    /// 1 to 14, 19 or 21; also 15, where [`list_large`](crate::list_large) was lent a tree buffer that is too short.
     pub number: u32,
     /// Number of a byte of the draft, from 0; the draft's length where something is missing at its end. For refusal 1 it
-    /// is 16,384, which may stand within a character of a comment: cut bytes there, not a `str`.
+    /// is the limit, [`Limits::bytes`], which may stand within a character of a comment: cut bytes there, not a `str`.
     pub place: usize,
 }
 
 impl Refusal {
-    /// What the number says, in words.
+    /// What the number says, in words. Of 1 and 6 the place tells within which limits it was read. Where
+    /// [`list_large`](crate::list_large) was lent too few words for tokens, 6 is about these, which no number tells.
     pub fn reason(&self) -> &'static str {
         match self.number {
+            1 if self.is_large() => "the draft is over 1,048,576 bytes",
             1 => "the draft is over 16,384 bytes",
             2 => "a byte outside comments is over 127",
             3 => "no lexeme starts here",
             4 => "a block comment is never closed",
             5 => "the word simc is reserved",
+            6 if self.is_large() => "there are over 131,072 tokens",
             6 => "there are over 2,048 tokens",
             7 => "over 48 brackets are open, or over 8 match stand in a row",
             8 => "the draft cannot go on with this token",
@@ -35,6 +39,12 @@ impl Refusal {
             21 => "the comment is not well-formed UTF-8",
             _ => "no such refusal",
         }
+    }
+
+    /// Whether it is one of the large limits that is passed. The small ones are passed at or before the byte that they allow
+    /// last; the large ones far behind it, since each of so many tokens has a byte.
+    fn is_large(&self) -> bool {
+        self.place > Limits::Small.bytes()
     }
 }
 
@@ -66,7 +76,9 @@ impl LoadRefusal {
     /// What the number says, in words.
     pub fn reason(&self) -> &'static str {
         match self.number {
-            16 => "the line is in neither form, or in another than the first line",
+            16 => {
+                "the line is in none of the three forms, or in another than the first line, or longer than need be"
+            }
             17 => "the lines form neither one file nor one function, or a way up does not lead to the parent",
             18 => "the record buffer is too short",
             _ => "no such refusal",

@@ -2,7 +2,7 @@
 //! document 01 ("Records and the marks they own") and document 02, order 3, those of `CallName` and `BuiltinAlias` from
 //! the Rust that they speak of; and each is what the reader gives the text beside it.
 
-use togmelic::{listing, Alias, Arm, Call, Kind};
+use togmelic::{listing, Alias, Arm, Call, Kind, LONG_LINE, SHORT_LINE};
 
 const PAGE: &str = include_str!("../../../docs/KINDS.md");
 const ESCROW: &str = include_str!("../../../examples/escrow.simf");
@@ -288,7 +288,21 @@ fn lines_of_the_page() {
         .filter(|line| line.len() == 40 && line.split(' ').count() == 7)
         .collect();
     assert_eq!(shown.len(), 13);
-    for line in shown {
-        assert!(lines.lines().any(|found| found == line), "{line}");
+    for line in &shown {
+        assert!(lines.lines().any(|found| found == *line), "{line}");
+    }
+    // The first of them once with six digits for each place, and once without the way up.
+    let fields: Vec<&str> = shown[0].split(' ').collect();
+    let [kind, start, end, low, high, size, up] = fields[..] else {
+        panic!("seven numbers: {fields:?}");
+    };
+    let long = format!("    {kind} 00{start} 00{end} {low} {high} 00{size} 00{up}");
+    let short = format!("    {kind} {start} {end} {low} {high} {size}");
+    assert_eq!(
+        (long.len(), short.len()),
+        (4 + LONG_LINE - 1, 4 + SHORT_LINE - 1)
+    );
+    for line in [long, short] {
+        assert_eq!(PAGE.lines().filter(|shown| **shown == line).count(), 1);
     }
 }

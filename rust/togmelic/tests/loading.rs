@@ -134,7 +134,7 @@ fn written_and_loaded() {
     }
 }
 
-/// Every other line of the form that the first is not of, and lines of neither form.
+/// Every other line of another form than the first, and lines of none.
 #[test]
 fn lines_of_another_form() {
     let short = shortened(LINES);
@@ -303,11 +303,11 @@ fn refusals_in_words() {
     let refusal = |number, line| LoadRefusal { number, line }.to_string();
     assert_eq!(
         refusal(16, 3),
-        "refusal 16 at line 3: the line is in neither form, or in another than the first line"
+        "refusal 16 at line 3: the line is in none of the three forms, or in another than the first line, or longer than need be"
     );
     assert_eq!(
         refusal(16, 1),
-        "refusal 16 at line 1: the line is in neither form, or in another than the first line"
+        "refusal 16 at line 1: the line is in none of the three forms, or in another than the first line, or longer than need be"
     );
     assert_eq!(
         refusal(17, 0),

@@ -1,10 +1,11 @@
 //! The drafts that nest deepest, each read by a thread with 1 MiB of stack.
 
-use togmelic::{read, Record, Refusal};
+use togmelic::{read_within, Limits, Record, Refusal};
 
-fn read_in_thread(draft: String) -> Result<Vec<Record>, Refusal> {
+fn read_in_thread(draft: &str, limits: Limits) -> Result<Vec<Record>, Refusal> {
+    let draft = draft.to_owned();
     let thread = std::thread::Builder::new().stack_size(1 << 20);
-    let reader = thread.spawn(move || read(draft.as_bytes()));
+    let reader = thread.spawn(move || read_within(draft.as_bytes(), limits));
     reader.expect("a thread").join().expect("an answer")
 }
 
@@ -24,8 +25,13 @@ fn matches_in_every_bracket() {
     ] {
         let level = "match ".repeat(8) + bracket;
         let draft = format!("fn f(){{{}{}", level.repeat(47), "match ".repeat(8));
-        let place = draft.len();
-        assert_eq!(read_in_thread(draft), Err(Refusal { number: 8, place }));
+        let (number, place) = (8, draft.len());
+        for limits in [Limits::Small, Limits::Large] {
+            assert_eq!(
+                read_in_thread(&draft, limits),
+                Err(Refusal { number, place })
+            );
+        }
     }
 }
 
@@ -33,6 +39,20 @@ fn matches_in_every_bracket() {
 #[test]
 fn pairs() {
     let draft = format!("fn f(){{{}1{}}}", "(".repeat(47), ",1)".repeat(47));
-    let tree = read_in_thread(draft).expect("an accepted draft");
-    assert_eq!(tree.len(), 2 * 47 + 1 + 4);
+    for limits in [Limits::Small, Limits::Large] {
+        let tree = read_in_thread(&draft, limits).expect("an accepted draft");
+        assert_eq!(tree.len(), 2 * 47 + 1 + 4);
+    }
+}
+
+/// As deep in a draft that is as long as may be, behind 10,000 other functions.
+#[test]
+fn deep_and_long() {
+    let functions = "fn f(){a;}".repeat(10_000);
+    let pairs = format!("fn f(){{{}1{}}}", "(".repeat(47), ",1)".repeat(47));
+    let mut draft = functions + &pairs;
+    draft += &" ".repeat(Limits::Large.bytes() - draft.len());
+    let tree = read_in_thread(&draft, Limits::Large).expect("an accepted draft");
+    assert_eq!(tree.len(), 4 * 10_000 + 2 * 47 + 1 + 4);
+    assert_eq!(tree[0].end, Limits::Large.bytes());
 }

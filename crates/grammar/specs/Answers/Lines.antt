@@ -1,7 +1,9 @@
--- The listing (document 01, "The listing program"): the line of a refusal, and all lines of an answer. The line of a record is in crate `lines`.
+-- The listing (document 01, "The listing program"): the line of a refusal, and all lines of an answer. The line of a record, and in how many digits the lines
+-- of a listing are written (document 02, order 9), are in crate `lines`: a refusal's line has 49 bytes where its place needs more than four digits.
 -- Assumes nothing.
 use Rattle.std.specs.Prelude.{List, [], ◌∷◌, ◌++◌, ◌≡◌, refl, ℕ}
 use Rattle.text.specs.Ascii.{ascii, ascii_from}
+use Rattle.text.specs.Lists.{some}
 use Rattle.text.specs.Answers.{Answer, accepted, refused, Values, values}
 use Rattle.text.specs.Refusals.{refusal_number}
 use Rattle.text.specs.declared.refusal.Refusal.TheVariants as refusal
@@ -9,7 +11,7 @@ use Rattle.lexer.specs.Limits.{Limits}
 use Rattle.own.specs.Tree.{Rec}
 use Rattle.lines.specs.Hex.{upper_hex, hex}
 use Rattle.lines.specs.Form.{LF, line_of}
-use Rattle.lines.specs.Lines.{lines_of, lines}
+use Rattle.lines.specs.Lines.{lines_of, needs_more, is_long, listed_rows, lines}
 use Rattle.grammar.specs.Entry.{Entry}
 use Rattle.grammar.specs.Answers.Answer.{answer, records_read}
 
@@ -28,5 +30,10 @@ listing en l draft tw rw = lines (listed (answer en l draft tw rw) (records_read
 
 -- Refusal 8 at 31: kind 00, 31 twice, 8 as low, high 0, size 1, way up 0.
 pub refusal-line : lines (listed (refused (refusal_number refusal.Misshapen) 31) []) ≡ ascii "00 001F 001F 00000008 00000000 0001 0000" ++ (LF ∷ [])
-unfolding lines_of line_of hex upper_hex refusal_rec ascii ascii_from
+unfolding some needs_more is_long listed_rows lines_of line_of hex upper_hex refusal_rec ascii ascii_from
 refusal-line = refl
+
+-- Refusal 1 at 1,048,576, which four digits do not hold: the way up in six digits, as its place and its size.
+pub long-refusal-line : lines (listed (refused (refusal_number refusal.TooLong) 1048576) []) ≡ ascii "00 100000 100000 00000001 00000000 000001 000000" ++ (LF ∷ [])
+unfolding some needs_more is_long listed_rows lines_of line_of hex upper_hex refusal_rec ascii ascii_from
+long-refusal-line = refl

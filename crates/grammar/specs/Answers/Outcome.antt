@@ -1,6 +1,6 @@
 -- When the reader accepts and when it refuses, row by row in document 01's order of refusals: "Refusal 1 is tested first; of 2 to 5 the earliest
 -- place wins; then 6, 7 and 8 in turn, each over all tokens; of 9 to 14 the earliest place; last 15." 19 is "among 9 to 14" and 21 "among 2 to 5"
--- (document 02, orders 2 and 6).
+-- (document 02, orders 2 and 6). "Refusals 1 and 6 take the new limits at the library, with places to match" (order 9): the limits are a parameter.
 -- Assumes nothing: these are definitions. That `answer` is just that stands in proofs/Answers/OutcomeLaws.antt.
 use Rattle.std.specs.Prelude.{List, ◌++◌, map, ◌≡◌, ℕ, suc, ◌-◌, ◌*◌, ◌≤◌, ◌<◌, length, get_or, take, replicate}
 use Rattle.std.proofs.Math.Option.{none, some}
@@ -62,11 +62,11 @@ pub record Misshapen (en : Entry) (l : Limits) (draft : List ℕ) (tw p : ℕ) :
 
 -- Refused: one case a row, or one for rows that are told apart by what is found, each with no row before it.
 pub data Refusal (en : Entry) (l : Limits) (draft : List ℕ) (tw rw : ℕ) : ℕ → ℕ → Type 0 where
-  -- 1: "draft over 16,384 bytes"
+  -- 1: "draft over 16,384 bytes", and 1,048,576 at the library
   too_long : l.bytes < length draft → Refusal en l draft tw rw (refusal_number refusal.TooLong) l.bytes
   -- those of the bytes: "of 2 to 5 the earliest place wins", 21 among them
   bad_bytes : {c p : ℕ} → length draft ≤ l.bytes → Earliest draft c p → Refusal en l draft tw rw c p
-  -- 6: "over 2,048 tokens, or over a third of the token buffer's words", at the "first token too many"
+  -- 6: "over 2,048 tokens, or over a third of the token buffer's words", and 131,072 at the library, at the "first token too many"
   too_many : {ts : List Token} → length draft ≤ l.bytes → lexemes draft ≡ tokens ts → room l tw < length ts
       → Refusal en l draft tw rw (refusal_number refusal.TooMany) (get_or ts (room l tw) no_token).start
   -- 7: "over 48 brackets open, or over 8 `match` tokens in a row", at "the token that passes it"

@@ -4,7 +4,7 @@
 -- Assumes nothing.
 use Rattle.std.specs.Prelude.{List, [], ◌∷◌, ◌++◌, map, ◌≡◌, refl, ℕ, zero, suc}
 use Rattle.text.specs.Ascii.{ascii, ascii_from}
-use Rattle.lexer.specs.Limits.{limits_of, draft_limits}
+use Rattle.lexer.specs.Limits.{limits_of, small_limits}
 use Rattle.grammar.specs.Entry.{single_function}
 use Rattle.grammar.specs.Cases.Cases.{Result, refused_with, records, buffers, Case, defined, roomy, whole, braced, in_braces}
 
@@ -41,7 +41,7 @@ cases =
     ∷ record { entry = single_function; limits = limits_of 99 9; token_space = 0; tree_space = 0; draft = ascii "fn #"; result = refused_with 3 3 }
     ∷ record { entry = single_function; limits = limits_of 99 8; token_space = 99; tree_space = 0; draft = times 9 (ascii "match "); result = refused_with 6 48 }
     ∷ in_braces "match x{} 1" (refused_with 8 17)
-    ∷ record { entry = single_function; limits = draft_limits; token_space = 99; tree_space = 0; draft = braced "fold::<g,3>(x)"; result = refused_with 9 16 }
+    ∷ record { entry = single_function; limits = small_limits; token_space = 99; tree_space = 0; draft = braced "fold::<g,3>(x)"; result = refused_with 9 16 }
     -- of 9 to 14 the earliest place; for 19 see below
     ∷ in_braces "fold::<g,3>(match x{})" (refused_with 9 16)
     ∷ in_braces "match fold::<g,3>(x){}" (refused_with 11 7)
@@ -60,7 +60,7 @@ cases =
     ∷ in_braces "let x:[u8;18446744073709551616]=match x{};" (refused_with 19 17)
     ∷ in_braces "match <[u8;18446744073709551616]>::into(x){}" (refused_with 11 7)
     ∷ in_braces "let x:[u8;18446744073709551616]=1" (refused_with 8 40)
-    ∷ record { entry = single_function; limits = draft_limits; token_space = 99; tree_space = 0; draft = braced "let x:[u8;18446744073709551616]=1;"; result = refused_with 19 17 }
+    ∷ record { entry = single_function; limits = small_limits; token_space = 99; tree_space = 0; draft = braced "let x:[u8;18446744073709551616]=1;"; result = refused_with 19 17 }
     -- accepted
     ∷ in_braces "let x:List<u8,2>=1;" (records 8)
     ∷ in_braces "let x:[u8;0]=1;" (records 8)

@@ -8,7 +8,7 @@ use Rattle.text.specs.Widths.{tok_wide, rec_wide}
 use Rattle.text.specs.Ascii.{ascii, ascii_from}
 use Rattle.text.specs.Part.{part_of}
 use Rattle.text.specs.Same.{same}
-use Rattle.text.specs.Lists.{has, count, span}
+use Rattle.text.specs.Lists.{has, some, count, span}
 use Rattle.utf8.specs.Utf8.{utf8_char, fits, sequence, bad_from, bad_at}
 use Rattle.words.specs.Words.{FUNCTION_RESERVED, KEYWORDS, MACROS, MODULE_RESERVED, RULE_NAMES, BOOLEANS, RULE_WORDS, BOOL, UINT_TYPES, BUILTIN_ALIASES, TYPE_NAMES, find, word_of}
 use Rattle.num.specs.Digits as digits
@@ -17,7 +17,7 @@ use Rattle.num.specs.Bound.{bound_ok, size_ok, length_ok, is_bound}
 use Rattle.lexer.specs.Chars.{among, whitespace, line_ends, binary_digits, decimal_digits, hex_digits, underscore, name_starts, name_bytes, run, begins}
 use Rattle.lexer.specs.Lexemes as lexeme
 use Rattle.lexer.specs.Class as class
-use Rattle.lexer.specs.Limits.{Limits, draft_tokens, draft_limits, token_words, depth_after, row_after, first_too_deep, room, lexed_of}
+use Rattle.lexer.specs.Limits.{Limits, small_tokens, small_limits, token_words, depth_after, row_after, first_too_deep, room, lexed_of}
 use Rattle.theory.specs.Grammar.{look, row, alt, pick}
 use Rattle.theory.specs.Machine.{choose}
 use Rattle.theory.specs.Ebnf.{kinds_of, sort_of, yield}
@@ -39,7 +39,7 @@ use Rattle.own.specs.Tree.{partner, canonical, turned, Rec, classes_of}
 use Rattle.grammar.specs.Answers.Answer.{toks_of, start_of, reading, answer, token_buffer, records_read, tree_buffer}
 use Rattle.lines.specs.Hex.{upper_hex, hex}
 use Rattle.lines.specs.Form.{line_of}
-use Rattle.lines.specs.Lines.{lines_of}
+use Rattle.lines.specs.Lines.{lines_of, needs_more, is_long, listed_rows}
 use Rattle.grammar.specs.Answers.Lines.{refusal_rec, listing}
 
 -- What is said of a draft: refused with this number at this place; so many records; B is a record of this kind, of so many in all; a
@@ -81,7 +81,7 @@ unfolding ascii ascii_from part_of same FUNCTION_RESERVED KEYWORDS MACROS MODULE
     count span counted class_of shapes table means shape_of low_half high_half sees opening name_count part_count lone unended place_in
     type_name_head pattern_name_head literal_head function_head call_head wrapper_head called_head alone_head name_head arm_head head_of
     form_of role_of placed arranged text_of first_tok first_of decimal head_for recorded record_items record_trees unless arm_lows mates arms_fault
-    faults_at faults earlier earliest fault_of classes_of toks_of start_of reading answer records_read upper_hex hex line_of refusal_rec lines_of listing
+    faults_at faults earlier earliest fault_of classes_of toks_of start_of reading answer records_read upper_hex hex line_of refusal_rec lines_of some needs_more is_long listed_rows listing
     token_words token_buffer tree_buffer
 defined k =
     let en = k.entry in
@@ -91,14 +91,14 @@ defined k =
     let d = k.draft in
     told (answer en l d tw rw) k.result (records_read en l d tw) (listing en l d tw rw) (token_buffer en l d tw rw) (tree_buffer en l d tw rw)
 
--- With the limits of a draft and words enough for every draft: three for each of 2,048 tokens, seven for each record, of which there are
+-- With the small limits, and words enough for every draft within them: three for each of 2,048 tokens, seven for each record, of which there are
 -- no more than tokens.
 abbrev pub roomy : List ℕ → Result → Case
-roomy draft r = record { entry = single_function; limits = draft_limits; token_space = tok_wide * draft_tokens; tree_space = rec_wide * draft_tokens; draft = draft; result = r }
+roomy draft r = record { entry = single_function; limits = small_limits; token_space = tok_wide * small_tokens; tree_space = rec_wide * small_tokens; draft = draft; result = r }
 
 -- A file, with room for one record more.
 abbrev pub roomy_file : List ℕ → Result → Case
-roomy_file draft r = record { entry = whole_file; limits = draft_limits; token_space = tok_wide * draft_tokens; tree_space = rec_wide * suc draft_tokens; draft = draft; result = r }
+roomy_file draft r = record { entry = whole_file; limits = small_limits; token_space = tok_wide * small_tokens; tree_space = rec_wide * suc small_tokens; draft = draft; result = r }
 
 abbrev pub as_file : String → Result → Case
 as_file s r = roomy_file (ascii s) r

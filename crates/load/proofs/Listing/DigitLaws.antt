@@ -1,18 +1,18 @@
 -- Digits read back: a byte that is a digit is that of its value, and digits are those of the number that they are.
 -- Assumes nothing.
-use Rattle.std.specs.Prelude.{Bool, true, false, ◌&&◌, cond, List, [], ◌∷◌, ◌++◌, ◌≡◌, refl, ℕ, zero, suc, ◌+◌, ◌*◌, ◌/◌, ◌%◌, ◌<◌, ◌≤◌, T, eqb, ltb, leb, length, get_or, take}
+use Rattle.std.specs.Prelude.{Bool, true, false, ◌&&◌, cond, List, [], ◌∷◌, ◌++◌, ◌≡◌, refl, ℕ, zero, suc, ◌+◌, ◌*◌, ◌/◌, ◌%◌, ◌<◌, ◌≤◌, T, eqb, ltb, length, get_or, take}
 use Rattle.std.proofs.Common.{sym, ap, ap₂, ◌∙◌, subst, arith, eqb-true, eqb→eq, ltb→lt, lt→ltb, take-suc}
 use Rattle.std.proofs.Math.ListN.{get_or-append}
+use Rattle.std.proofs.Math.Decide.{dec_lt}
 use Rattle.std.proofs.lemmas.List.{get_or_at}
 use Rattle.text.specs.Ascii.{ascii, ascii_from}
-use Rattle.text.proofs.Exactly.{no_more}
-use Rattle.text.specs.Lists.{all}
 use Rattle.text.specs.Table.{every}
 use Rattle.text.proofs.Table.{first-of, second-of, pair, at, table_at}
-use Rattle.own.proofs.Lists.{all-exactly}
+use Rattle.own.specs.Lists.{nil, ◌&◌}
 use Rattle.lines.specs.Hex.{upper_hex, hex, power}
 use Rattle.lines.proofs.Hex.{hex-length}
-use Rattle.lines.specs.Lines.{half_digits, six_widths, widths}
+use Rattle.lines.specs.Form.{after}
+use Rattle.lines.specs.Lines.{half_digits, with_way}
 use Rattle.load.specs.declared.digits.TheConstants.{DIGITS}
 use Rattle.load.specs.Listing.Read.{place_in, digit_of, are_digits, number_of}
 use Rattle.load.specs.Listing.DigitLaws.{DigitTable, Short}
@@ -31,16 +31,9 @@ table-rule t e h = record { gives = table_at digit_of t 256 e h }
 pub digit-found : (b : ℕ) → b < 256 → get_or DIGITS b 0 ≡ digit_of b
 digit-found = (table-rule DIGITS digits-long digits-right).gives
 
-short-by : (ws : List ℕ) → T (all (λ n. leb n half_digits) ws) → Short ws
-short-by ws t = (all-exactly (λ n. leb n half_digits) (λ n. no_more n half_digits) ws).0 t
-
-pub six-short : Short six_widths
-unfolding all
-six-short = short-by six_widths tt
-
-pub widths-short : Short widths
-unfolding all
-widths-short = short-by widths tt
+-- Widths are such that a word holds their numbers, where those of places are.
+pub way-short : (n : ℕ) → n ≤ half_digits → Short (with_way n)
+way-short n h = omega arith & (h & (h & (omega arith & (omega arith & (h & (h & nil))))))
 
 -- A byte is found where it stands, if each of the list is: that is computed, and says that none stands there twice.
 place-back : (l : List ℕ) → T (every (λ v b. eqb (place_in l b) v) 0 l) → (v : ℕ) → v < length l → place_in l (get_or l v 0) ≡ v
@@ -87,6 +80,25 @@ digit-back v h = place-back upper_hex none-twice v (omega (arith, sixteen))
 pub digit-again : (b : ℕ) → digit_of b < 16 → get_or upper_hex (digit_of b) 0 ≡ b
 unfolding digit_of
 digit-again b h = place-again upper_hex b (omega (arith, sixteen))
+
+-- Each of some digits is one,
+pub digit-at : (m n : ℕ) (bs : List ℕ) → n < m → T (are_digits m bs) → digit_of (get_or bs n 0) < 16
+unfolding are_digits
+digit-at zero n bs h t = absurd (omega arith)
+digit-at (suc m) n bs h t =
+    let a = are_digits m bs in
+    let b = ltb (digit_of (get_or bs m 0)) 16 in
+    go (dec_lt n m) (λ l. digit-at m n bs l (first-of a b t)) (ltb→lt (digit_of (get_or bs m 0)) 16 (second-of a b t))
+  where
+    go : Dec (n < m) → (n < m → digit_of (get_or bs n 0) < 16) → digit_of (get_or bs m 0) < 16 → digit_of (get_or bs n 0) < 16
+    go (yes l) r d = r l
+    go (no l) r d = let e : m ≡ n = omega arith in subst (λ (k : ℕ). digit_of (get_or bs k 0) < 16) e d
+
+-- and the byte after a field is none.
+pub no-digit : (k : ℕ) → digit_of (after k) ≡ 16
+unfolding digit_of place_in upper_hex ascii ascii_from
+no-digit zero = refl
+no-digit (suc k) = refl
 
 -- Digits are those of the number that they are,
 pub digits_are : (n : ℕ) (bs : List ℕ) → n ≤ length bs → T (are_digits n bs) → take n bs ≡ hex n (number_of n bs)

@@ -11,8 +11,8 @@ use Rattle.lines.specs.Hex.{hex}
 use Rattle.lines.proofs.Hex.{hex-length}
 use Rattle.lines.specs.Form.{after, line_of, wide}
 use Rattle.load.specs.Listing.InForm.{Fit}
-use Rattle.load.specs.Listing.Read.{are_digits, number_of, in_form, values_of}
-use Rattle.load.proofs.Listing.DigitLaws.{digits_are, number-below, hex-digits, hex-back}
+use Rattle.load.specs.Listing.Read.{digit_of, are_digits, number_of, in_form, values_of}
+use Rattle.load.proofs.Listing.DigitLaws.{digit-at, no-digit, digits_are, number-below, hex-digits, hex-back}
 
 -- a byte that is not 0 is there
 is-there : (bs : List ℕ) (n : ℕ) → 0 < get_or bs n 0 → n < length bs
@@ -136,3 +136,11 @@ pub not-both : (ws : List ℕ) (n : ℕ) (ns bs : List ℕ) → 0 < length ws �
 not-both [] n ns bs h t u = absurd (omega arith)
 not-both (w ∷ []) n ns bs h t u = let a = its-after w [] bs t in let b = its-after w (n ∷ ns) bs u in absurd (omega arith)
 not-both (w ∷ v ∷ ws) n ns bs h t u = not-both (v ∷ ws) n ns (drop (w + 1) bs) (omega arith) (its-others w (v ∷ ws) bs t) (its-others w (v ∷ (ws ++ (n ∷ ns))) bs u)
+
+-- Nor with two forms that share a field and then have fields of two widths: behind the digits of the narrower stands no digit.
+pub not-wider : (k n m : ℕ) (ns ms bs : List ℕ) → n < m → T (in_form (k ∷ n ∷ ns) bs) → T (in_form (k ∷ m ∷ ms) bs) → ⊥
+not-wider k n m ns ms bs h t u =
+    let t = its-others k (n ∷ ns) bs t in
+    let u = its-others k (m ∷ ms) bs u in
+    let rest = drop (k + 1) bs in
+    omega (arith, digit-at m n rest h (its-digits m ms rest u), ap digit_of (its-after n ns rest t), no-digit (length ns))

@@ -8,10 +8,10 @@ use Rattle.own.specs.Flat.{blank}
 use Rattle.lines.specs.Form.{wide}
 use Rattle.load.specs.Listing.InForm.{Begins}
 use Rattle.load.specs.Listing.Read.{in_form, values_of, rows_from, lines_read, rec_of, records_in}
-use Rattle.load.specs.Listing.LineForm.{six_fields}
+use Rattle.load.specs.Listing.LineForm.{six_fields, first_six}
 use Rattle.load.proofs.Listing.LineLaws.{line-then, values-fit, values-long, values-front, line-in}
 use Rattle.load.specs.Checks.Listed.{its_lines, its_records}
-use Rattle.load.specs.declared.record.Listing.{Listing}
+use Rattle.load.specs.declared.form.Listing.{Listing}
 
 rows-long : (ws : List ℕ) (n : ℕ) (bs : List ℕ) → length (rows_from ws n bs) ≡ n
 unfolding rows_from
@@ -35,11 +35,11 @@ lines-long ws text = rows-long ws (length text / wide ws) text
 pub records-long : (ws text : List ℕ) → length (records_in ws text) ≡ length text / wide ws
 records-long ws text = length-map (lines_read ws text) rec_of ∙ lines-long ws text
 
-pub records-many : (l : Listing) → length (its_records l) ≡ length (its_lines l)
+pub records-many : {n : ℕ} (l : Listing n) → length (its_records l) ≡ length (its_lines l)
 records-many l = length-map (its_lines l) rec_of
 
 -- so the number of lines is that of the records too,
-pub records-counted : (l : Listing) {n : ℕ} → n ≡ length (its_lines l) → n ≡ length (its_records l)
+pub records-counted : {n : ℕ} (l : Listing n) {m : ℕ} → m ≡ length (its_lines l) → m ≡ length (its_records l)
 records-counted l e = e ∙ sym (records-many l)
 
 -- each of its line.
@@ -60,12 +60,12 @@ record-front (a ∷ b ∷ c ∷ d ∷ []) rest h = absurd (omega arith)
 record-front (a ∷ b ∷ c ∷ d ∷ e ∷ []) rest h = absurd (omega arith)
 record-front (a ∷ b ∷ c ∷ d ∷ e ∷ f ∷ vs) rest h = refl
 
-pub record-by-six : (ws bs rest : List ℕ) → six_fields ≤ length ws → rec_of (values_of (take six_fields ws) bs ++ rest) ≡ rec_of (values_of ws bs)
+pub record-by-six : (ws bs rest : List ℕ) → six_fields ≤ length ws → rec_of (values_of (first_six ws) bs ++ rest) ≡ rec_of (values_of ws bs)
 record-by-six ws bs rest h =
     ap (λ (l : List ℕ). rec_of (l ++ rest)) (values-front six_fields ws bs) ∙ record-front (values_of ws bs) rest (omega (arith, h, values-long ws bs))
 
-pub six-long : (ws bs : List ℕ) → six_fields ≤ length ws → length (values_of (take six_fields ws) bs) ≡ six_fields
-six-long ws bs h = values-long (take six_fields ws) bs ∙ length-take-le six_fields ws h
+pub six-long : (ws bs : List ℕ) → six_fields ≤ length ws → length (values_of (first_six ws) bs) ≡ six_fields
+six-long ws bs h = values-long (first_six ws) bs ∙ length-take-le six_fields ws h
 
 -- Bytes are in form exactly where they begin with a line of the form.
 pub begins-exactly : (ws bs : List ℕ) → T (in_form ws bs) ↔ Begins ws bs

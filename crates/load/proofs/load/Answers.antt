@@ -1,22 +1,15 @@
--- `load` meets its contract.
+-- `load` meets its contract, in either code.
 -- Assumes nothing.
-use Rattle.std.proofs.Common.{◌∙◌, arith}
-use Rattle.load.proofs.LoadLaws.{loaded-fits, lines-held, handed, words-handed}
+use Rattle.std.proofs.Common.{ap}
+use Rattle.text.specs.Answers.{values}
+use Rattle.load.proofs.LoadLaws.{handed}
 use Rattle.load.proofs.load.Goals as goal
 
-pub write-requires-clause-n_in_lines : goal.write-requires-clause-n_in_lines
-write-requires-clause-n_in_lines c = omega (arith, lines-held _ _ _ _ c.of.ensures c.answer-loaded.ensures, c.unwrap_or-n.ensures)
+pub returns-in-Longer-clause-laws : goal.returns-in-Longer-clause-laws
+returns-in-Longer-clause-laws c = handed _ _ c.load_lines.ensures.answer c.load_lines.ensures.words
 
-pub write-requires-clause-n_in_words : goal.write-requires-clause-n_in_words
-write-requires-clause-n_in_words c = omega (arith, loaded-fits _ _ _ c.of.ensures c.answer-loaded.ensures, c.unwrap_or-n.ensures)
-
-pub overflow_mul-n : goal.overflow_mul-n
-overflow_mul-n c = omega (arith, loaded-fits _ _ _ c.of.ensures c.answer-loaded.ensures, c.unwrap_or-n.ensures)
-
-pub returns-clause-words : goal.returns-clause-words
-returns-clause-words c =
-    words-handed _ c.args.tree.now _ _ c.of.ensures c.write.auto.tree (c.way_up.auto.tree ∙ c.write.auto.tree) _ c.answer-loaded.ensures c.unwrap_or-n.ensures
-    c.write.ensures c.way_up.ensures c.clear_from.ensures
-
-pub returns-clause-laws : goal.returns-clause-laws
-returns-clause-laws c = handed _ _ c.of.ensures c.answer-loaded.ensures (returns-clause-words c)
+pub returns-in_default : goal.returns-in_default
+returns-in_default c =
+    let a = c.load_lines-in_default.ensures.answer in
+    let w = c.load_lines-in_default.ensures.words in
+    record { answer = a; values = ap values a; words = w; laws = handed _ _ a w }

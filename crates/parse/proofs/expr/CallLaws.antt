@@ -10,7 +10,6 @@ use Rattle.theory.specs.Machine.{expand}
 use Rattle.theory.specs.Ebnf as shape
 use Rattle.theory.specs.Ebnf.{sort_of}
 use Rattle.theory.specs.Same.{ex}
-use Rattle.own.specs.Tree as own
 use Rattle.own.specs.Tree.{Tok, Items, marks, concat}
 use Rattle.text.specs.Widths.{rec_wide}
 use Rattle.text.specs.Lists.{has}

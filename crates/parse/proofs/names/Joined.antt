@@ -10,7 +10,6 @@ use Rattle.theory.specs.Grammar.{Sym, tok, nt, alt}
 use Rattle.theory.specs.Machine.{choose, expand}
 use Rattle.theory.specs.Ebnf as shape
 use Rattle.theory.specs.Walk.{n-flat, n-sub}
-use Rattle.own.specs.Tree as own
 use Rattle.own.specs.Tree.{Tok, Items}
 use Rattle.own.specs.Law.{Sort, word, child, sorts}
 use Rattle.own.specs.Kinds as kind

@@ -2,11 +2,11 @@
 
 use super::label::{label, token};
 use crate::place::{places, Place};
-use crate::refused::words;
+use crate::refused::Refused;
 use std::borrow::Cow;
 use std::ffi::OsStr;
 use std::io::{self, Write};
-use togmelic::{Kind, Record, Refusal};
+use togmelic::{Kind, Record};
 
 pub(crate) fn tree(
     out: &mut dyn Write,
@@ -30,17 +30,11 @@ pub(crate) fn tree(
     writeln!(out, "]}}")
 }
 
-pub(crate) fn refusal(
-    out: &mut dyn Write,
-    file: &OsStr,
-    draft: &[u8],
-    refusal: &Refusal,
-) -> io::Result<()> {
-    let Place { line, column } = places(draft)[refusal.place];
-    let (number, place) = (refusal.number, refusal.place);
-    let (reason, help) = words(draft, refusal);
-    let (reason, help) = (string(reason), string(help));
-    begin(out, file, draft)?;
+pub(crate) fn refusal(out: &mut dyn Write, file: &OsStr, refused: &Refused) -> io::Result<()> {
+    let Place { line, column } = refused.place();
+    let (number, place) = (refused.refusal.number, refused.refusal.place);
+    let (reason, help) = (string(refused.reason()), string(&refused.help()));
+    begin(out, file, refused.draft)?;
     write!(
         out,
         r#""refused":{{"number":{number},"place":{place},"line":{line},"column":{column},"#

@@ -2,7 +2,7 @@
 
 use super::load;
 use crate::kinds::{arm, call, record};
-use crate::{listing, read_with_room, write_lines, write_short_lines, Entry, Record};
+use crate::{listing, read_with_room, write_in, write_lines, Entry, Form, Limits, Record};
 
 /// A record over its children; all places are alike, so each is inside the others.
 fn over(kind: u32, (low, high): (u32, u32), children: &[Vec<Record>]) -> Vec<Record> {
@@ -40,10 +40,10 @@ fn value() -> Vec<Record> {
     leaf(record::DECIMAL)
 }
 
-/// Whether the records load, from lines of either form.
+/// Whether the records load, from lines with and without the way up.
 fn loads(records: &[Record]) -> bool {
     let loaded = load(&write_lines(records), usize::MAX);
-    assert_eq!(load(&write_short_lines(records), usize::MAX), loaded);
+    assert_eq!(load(&write_in(Form::Older, records), usize::MAX), loaded);
     match loaded {
         Ok(loaded) => loaded == records,
         Err(refusal) => {
@@ -91,11 +91,11 @@ fn drafts_come_back() {
     ];
     for draft in drafts {
         let records = |entry| {
-            let reading = read_with_room(draft.as_bytes(), entry);
+            let reading = read_with_room(draft.as_bytes(), entry, Limits::SMALL);
             reading.expect("an accepted draft").1
         };
         assert!(loads(&records(Entry::Function)));
-        let loaded = load(&listing(draft.as_bytes()), usize::MAX);
+        let loaded = load(&listing(draft.as_bytes(), Limits::SMALL), usize::MAX);
         assert_eq!(loaded, Ok(records(Entry::File)));
     }
 }
@@ -301,12 +301,68 @@ fn calls() {
     assert!(loads_call(call::ARRAY_FOLD, &[name(), number(u64::MAX)]));
 }
 
-/// Nothing calls itself, so the longest chain that sizes can count loads on any stack.
+/// A type inside so many others.
+fn chain(depth: u32) -> Vec<Record> {
+    let above = (0..depth).map(|above| [record::OPTION, 0, 1, 0, 0, depth + 1 - above, 1]);
+    let mut chain: Vec<Record> = above.chain(alias()).collect();
+    chain[depth as usize][6] = 1;
+    chain
+}
+
+/// Nothing calls itself, so the longest chain that sizes of four digits can count loads on any stack.
 #[test]
 fn deepest() {
-    let depth = 0xFFFF - 4;
-    let chain = (0..depth).map(|above| [record::OPTION, 0, 1, 0, 0, depth + 1 - above, 1]);
-    let mut result: Vec<Record> = chain.chain(alias()).collect();
-    result[depth as usize][6] = 1;
-    assert!(loads_type(result));
+    assert!(loads_type(chain(0xFFFF - 4)));
+}
+
+/// One record more is written in six digits, and a longer chain too; in four the sizes are others.
+#[test]
+fn deeper() {
+    for depth in [0x10000 - 4, 300_000] {
+        let children = [name(), chain(depth), leaf(record::BLOCK)];
+        let records = over(record::FUNCTION, (2, 0), &children);
+        let lines = write_lines(&records);
+        assert_eq!(lines.len(), 49 * records.len());
+        assert_eq!(load(&lines, usize::MAX), Ok(records.clone()));
+        for form in [Form::Older, Form::Newer] {
+            let cut = write_in(form, &records);
+            assert_eq!(load(&cut, usize::MAX), Err((17, 0)));
+        }
+    }
+}
+
+/// The forms of lines by the papers' numbers.
+#[test]
+fn forms() {
+    assert_eq!(Form::ALL.map(Form::line), [36, 41, 49]);
+}
+
+/// In 49 bytes a line only where one of the four words is 65,536 or more; written back as it came.
+#[test]
+fn longer_lines() {
+    let file = |end: u32, more: u32| {
+        let function = node(record::FUNCTION, &[name(), leaf(record::BLOCK)]);
+        let mut file = node(record::PROGRAM, &vec![function; more as usize]);
+        file[0][2] = end;
+        file
+    };
+    for (end, more, longer) in [
+        (0xFFFF, 0, false),
+        (0x10000, 0, true),
+        (0xFF_FFFF, 1, true),
+        // One record and 21,844 times three; then three more.
+        (1, 21_844, false),
+        (1, 21_845, true),
+    ] {
+        let records = file(end, more);
+        let lines = write_in(Form::Longer, &records);
+        let loaded = load(&lines, usize::MAX);
+        let same = write_lines(&records) == lines;
+        if longer {
+            assert_eq!((loaded, same), (Ok(records), true));
+        } else {
+            assert_eq!((loaded, same), (Err((16, 1)), false));
+            assert_eq!(load(&write_lines(&records), usize::MAX), Ok(records));
+        }
+    }
 }

@@ -1,14 +1,14 @@
 -- Assumes nothing.
 use Rattle.std.proofs.Common.{◌∙◌, arith}
 use Rattle.lines.specs.Form.{line_of}
-use Rattle.lines.specs.Lines.{widths}
+use Rattle.lines.specs.Lines.{with_way}
 use Rattle.lines.proofs.Fields.{field-then}
 use Rattle.lines.proofs.write.line.Goals as goal
 
 pub returns-clause-bytes : goal.returns-clause-bytes
 unfolding line_of
-returns-clause-bytes c =
-    let next = field-then widths c.args.words.now in
+returns-clause-bytes g c =
+    let next = field-then (with_way g.row.N) c.args.words.now in
     next 6 _ _ _ _ (omega arith) c.field.ensures.bytes c.field.ensures.end
     ∙ next 5 _ _ _ _ (omega arith) c.field-way.ensures.bytes c.field-way.ensures.end
     ∙ next 4 _ _ _ _ (omega arith) c.field-size.ensures.bytes c.field-size.ensures.end

@@ -8,7 +8,7 @@ use Rattle.load.proofs.check.stands.Goals.{then-r-ne0, else-r-ne0, then-r-left, 
 use Rattle.load.proofs.check.stands.Goals as goal
 
 pub returns-then-placed : goal.returns-then-placed
-returns-then-placed c =
+returns-then-placed g c =
     elim c.if-r-left.branch [
       | then-r-left w ↦ elim c.if-r-ne0.branch [
         | then-r-ne0 v ↦ stands-is _ _ _ c.record-r.ensures (omega arith) (omega arith) (omega (arith, v.if-r-ne0.true))
@@ -20,7 +20,7 @@ returns-then-placed c =
     ]
 
 pub returns-else-placed : goal.returns-else-placed
-returns-else-placed c =
+returns-else-placed g c =
     elim c.if-r-left.branch [
       | then-r-left w ↦ c.if-placed.false ∙ stands-place _ _ _ c.record-r.ensures w.placed.ensures (sym w.value-is ∙ c.if-placed.false)
       | else-r-left w ↦ elim c.if-r-ne0.branch [

@@ -13,5 +13,5 @@ returns c =
     let text = c.args.text.now in
     let chunks = chunks_of c.args.step (length text) text in
     let given = chunks-listed c.args.step text c.chunks.result c.requires.step_nonzero c.chunks.ensures.size c.chunks.ensures.rest in
-    let found = position_from_yields_List (is_bad ws c.args.step) _ _ c.position.result c.position.ensures.ran given (λ x b q k. search (rules, tests)) in
-    from-place (position_or_len (is_bad ws c.args.step) chunks) (length chunks) found c.map.ensures.cases (λ x y k. search (rules, tests)) ∙ first-bad ws c.args.step c.requires.step_value text
+    let found = position_from_yields_List (is_bad ws) _ _ c.position.result c.position.ensures.ran given (λ x b q k. search (rules, tests)) in
+    from-place (position_or_len (is_bad ws) chunks) (length chunks) found c.map.ensures.cases (λ x y k. search (rules, tests)) ∙ first-bad ws c.args.step c.requires.step_value text

@@ -1,19 +1,26 @@
--- The records of an accepted draft are its listing, and the line of a refusal is.
+-- What was read is the draft's listing; a word holds the place of a refusal, and four digits the places of a small draft.
 -- Assumes nothing.
 use Rattle.std.specs.Prelude.{length}
-use Rattle.std.proofs.Common.{refl, sym}
-use Rattle.lexer.specs.Limits.{draft_limits}
+use Rattle.lexer.specs.Limits.{limits_for}
 use Rattle.grammar.specs.Entry.{whole_file}
+use Rattle.reader.proofs.BothLimits.{early}
 use Rattle.reader.proofs.LineLaws.{same_is}
-use Rattle.reader.proofs.EntryLaws as law
+use Rattle.reader.proofs.EntryLaws.{written-is, short-is}
 use Rattle.reader.proofs.entry.list_by.Goals as goal
 
-pub returns-in-Ok : goal.returns-in-Ok
-returns-in-Ok c =
+pub list_read-requires-clause-early : goal.list_read-requires-clause-early
+list_read-requires-clause-early c =
     let l = c.args.lexed.now in
-    same_is (length c.args.out.now) (law.accepted-is whole_file l.draft.now c.args.tree.now (length l.words.now) _ _ (sym c.in-Ok.ensures.answer) (c.in-Ok.ensures.tree.holds _ _ refl)) (c.list.ensures.used, c.list.ensures.bytes)
+    early whole_file l.limits l.draft.now (length l.words.now) (length c.args.tree.now) c.parsed-reading.result c.parsed-reading.ensures.answer
 
-pub returns-in-Err : goal.returns-in-Err
-returns-in-Err c =
+pub list_read-requires-clause-short : goal.list_read-requires-clause-short
+list_read-requires-clause-short c =
     let l = c.args.lexed.now in
-    same_is (length c.args.out.now) (law.refused-listing whole_file draft_limits l.draft.now (length l.words.now) (length c.args.tree.now) _ _ (sym c.in-Err.ensures.answer)) c.refusal.ensures
+    let r = c.parsed-reading in
+    short-is whole_file l.limits l.draft.now c.args.tree.now (length l.words.now) r.result r.ensures.answer r.ensures.tree
+
+pub returns : goal.returns
+returns c =
+    let l = c.args.lexed.now in
+    let r = c.parsed-reading in
+    same_is (length c.args.out.now) (written-is whole_file (limits_for l.limits) l.draft.now c.args.tree.now (length l.words.now) r.result r.ensures.answer r.ensures.tree) c.list_read.ensures

@@ -1,17 +1,14 @@
--- The form is told by the test of the first line, said by a law, so that where the code answers with another form the check names this fact; a text that is too
--- short for a line of the older form begins with none.
+-- The form is told by the tests of the first line, said by a law, so that where the code answers with another form the check names this fact.
 -- Assumes nothing.
-use Rattle.std.proofs.Common.{refl, sym, arith}
-use Rattle.lines.specs.Lines.{six_widths}
-use Rattle.load.proofs.FormLaws.{form-newer, form-told}
-use Rattle.load.proofs.Listing.LineLaws.{form-long}
+use Rattle.std.proofs.Common.{refl}
+use Rattle.load.proofs.FormLaws.{form-told}
 use Rattle.load.proofs.form.Form.of.Goals as goal
 
-pub returns-then-text-lt-SIX_BYTES : goal.returns-then-text-lt-SIX_BYTES
-returns-then-text-lt-SIX_BYTES c = sym (form-newer _ (λ t. omega (arith, form-long six_widths _ t, c.if-text-lt-SIX_BYTES.true)))
+pub returns-then-begins : goal.returns-then-begins
+returns-then-begins c = form-told _ c.begins.ensures c.if-begins.true refl refl
 
-pub returns-then-in_form : goal.returns-then-in_form
-returns-then-in_form c = form-told _ refl c.in_form.ensures c.if-in_form.true
+pub returns-then-begins-2 : goal.returns-then-begins-2
+returns-then-begins-2 c = form-told _ c.begins.ensures c.if-begins.false c.begins-2.ensures c.if-begins-2.true
 
 pub returns : goal.returns
-returns c = form-told _ refl c.in_form.ensures c.if-in_form.false
+returns c = form-told _ c.begins.ensures c.if-begins.false c.begins-2.ensures c.if-begins-2.false

@@ -1,0 +1,311 @@
+/* Calls togmelic_list_large. Every expected line, token and record is written out from documents 01 and 02. */
+#include "check.h"
+
+/* The buffers that are lent, and what stands behind each, which no call may touch. */
+static uint32_t tokens[TOGMELIC_LARGE_TOKEN_WORDS + GUARD], tree[TOGMELIC_LARGE_TREE_WORDS + GUARD];
+static unsigned char out[TOGMELIC_LARGE_BYTES + GUARD];
+
+/* The lengths of the three. */
+struct room {
+    size_t tokens, tree, out;
+};
+static const struct room MOST = {TOGMELIC_LARGE_TOKEN_WORDS, TOGMELIC_LARGE_TREE_WORDS, TOGMELIC_LARGE_BYTES};
+
+/* What stands in a buffer: these words, and zeros behind. */
+struct words {
+    const uint32_t *words;
+    size_t count;
+};
+static const struct words NONE = {NULL, 0};
+
+/* The example's tokens: kind, in the order of the Rust's `Token`, start and end. */
+enum { TOKENS = 18, TOKEN_WORDS = TOKENS * TOGMELIC_TOKEN_WORDS };
+static const uint32_t EXAMPLE_TOKENS[TOKEN_WORDS] = {
+    4, 0, 2, 32, 3, 4, 20, 4, 5, 21, 5, 6, 24, 6, 7, /* fn f ( ) { */
+    9, 7, 12, 32, 13, 14, 24, 14, 15, /* match b { */
+    31, 15, 19, 19, 19, 21, 28, 21, 22, 17, 22, 23, /* true => 1 , */
+    31, 23, 28, 19, 28, 30, 28, 30, 31, 17, 31, 32, /* false => 2 , */
+    25, 32, 33, 25, 33, 34, /* } } */
+};
+static const struct words THE_TOKENS = {EXAMPLE_TOKENS, TOKEN_WORDS}, THE_RECORDS = {EXAMPLE_RECORDS, EXAMPLE_WORDS};
+
+/* The smallest room for a draft of so many bytes that is always enough, as c/togmelic.h has it. */
+static struct room enough(size_t bytes)
+{
+    size_t most = bytes < TOGMELIC_LARGE_TOKENS ? bytes : TOGMELIC_LARGE_TOKENS;
+    struct room room;
+    room.tokens = TOGMELIC_TOKEN_WORDS * most;
+    room.tree = TOGMELIC_RECORD_WORDS * (most + 1);
+    room.out = (bytes < 65536 ? TOGMELIC_LINE : TOGMELIC_LONG_LINE) * (most + 1);
+    return room;
+}
+
+/* Whether a buffer of so many words holds these and zeros, and was not written behind its end. */
+static int holds(const uint32_t *buffer, size_t length, struct words wanted)
+{
+    size_t at;
+    for (at = 0; at < length + GUARD; at++) {
+        uint32_t word = at < wanted.count ? wanted.words[at] : at < length ? 0 : 0xAAAAAAAA;
+        if (buffer[at] != word) {
+            return 0;
+        }
+    }
+    return 1;
+}
+
+/* Calls with buffers that are filled before, as far as the call may see and a little further. */
+static size_t called(const char *draft, size_t draft_length, struct room room)
+{
+    memset(tokens, FILL, (room.tokens + GUARD) * sizeof *tokens);
+    memset(tree, FILL, (room.tree + GUARD) * sizeof *tree);
+    memset(out, FILL, room.out + GUARD);
+    return togmelic_list_large((const unsigned char *)draft, draft_length, tokens, room.tokens, tree, room.tree, out, room.out);
+}
+
+/* Whether out holds these lines and zeros, or zeros alone where they do not fit, and so many bytes are used. */
+static int wrote(size_t used, size_t out_length, const char *lines)
+{
+    size_t length = strlen(lines), at;
+    if (length > out_length) {
+        length = 0;
+    }
+    if (used != length || memcmp(out, lines, length) != 0) {
+        return 0;
+    }
+    for (at = length; at < out_length + GUARD && out[at] == (at < out_length ? 0 : FILL); at++) {
+    }
+    return at == out_length + GUARD;
+}
+
+/* Whether a draft is accepted with these lines, where they fit, tokens and records. */
+static int lists(const char *draft, size_t draft_length, struct room room, const char *lines, struct words its_tokens, struct words its_tree)
+{
+    return wrote(called(draft, draft_length, room), room.out, lines)
+        && holds(tokens, room.tokens, its_tokens)
+        && holds(tree, room.tree, its_tree);
+}
+
+/* Whether it is refused with this line, where it fits, and zeros everywhere else. */
+static int refuses(const char *draft, size_t draft_length, struct room room, const char *line)
+{
+    return lists(draft, draft_length, room, line, NONE, NONE);
+}
+
+/* The line of a refusal at a place that four digits hold. */
+static const char *refusal(unsigned number, unsigned place)
+{
+    static char line[TOGMELIC_LINE + 1];
+    sprintf(line, "00 %04X %04X %08X 00000000 0001 0000\n", place, place, number);
+    return line;
+}
+
+static void test_constants(void)
+{
+    CHECK(TOGMELIC_LONG_LINE == 49 && TOGMELIC_TOKEN_WORDS == 3);
+    CHECK(TOGMELIC_LARGE_DRAFT == 1048576 && TOGMELIC_LARGE_TOKENS == 131072 && TOGMELIC_LARGE_LINES == 131073);
+    CHECK(TOGMELIC_LARGE_TOKEN_WORDS == 393216 && TOGMELIC_LARGE_TREE_WORDS == 917511 && TOGMELIC_LARGE_BYTES == 6422577);
+    CHECK(strlen(EXAMPLE) == 34);
+}
+
+static void test_answers(void)
+{
+    struct room just = {TOKEN_WORDS, EXAMPLE_WORDS, EXAMPLE_BYTES};
+    CHECK(lists(EXAMPLE, 34, MOST, EXAMPLE_LINES, THE_TOKENS, THE_RECORDS));
+    CHECK(lists(EXAMPLE, 34, enough(34), EXAMPLE_LINES, THE_TOKENS, THE_RECORDS));
+    CHECK(lists(EXAMPLE, 34, just, EXAMPLE_LINES, THE_TOKENS, THE_RECORDS));
+    CHECK(tree[5] == EXAMPLE_COUNT && tree[0] == TOGMELIC_PROGRAM);
+    CHECK(refuses(REFUSED, strlen(REFUSED), MOST, REFUSED_LINE));
+    CHECK(refuses(REFUSED, strlen(REFUSED), enough(strlen(REFUSED)), REFUSED_LINE));
+    /* Nothing is kept from one call to the next. */
+    CHECK(lists(EXAMPLE, 34, just, EXAMPLE_LINES, THE_TOKENS, THE_RECORDS));
+    /* Only the bytes that are lent are read, and a draft may hold a zero byte. */
+    CHECK(refuses(EXAMPLE, 6, MOST, refusal(8, 6)));
+    CHECK(refuses("fn\0f(){}", 8, MOST, refusal(3, 2)));
+}
+
+static void test_empty(void)
+{
+    static const uint32_t program[TOGMELIC_RECORD_WORDS] = {TOGMELIC_PROGRAM, 0, 0, 0, 0, 1, 0};
+    struct words one = {program, TOGMELIC_RECORD_WORDS};
+    struct room short_tree = {0, TOGMELIC_RECORD_WORDS - 1, TOGMELIC_LINE};
+    CHECK(lists("", 0, MOST, EMPTY_LINE, NONE, one));
+    CHECK(lists(NULL, 0, enough(0), EMPTY_LINE, NONE, one));
+    CHECK(refuses(NULL, 0, short_tree, refusal(15, 0)));
+    memset(tree, FILL, sizeof tree);
+    memset(out, FILL, sizeof out);
+    CHECK(togmelic_list_large(NULL, 0, NULL, 0, tree, TOGMELIC_RECORD_WORDS, NULL, 0) == 0);
+    CHECK(holds(tree, TOGMELIC_RECORD_WORDS, one));
+    CHECK(wrote(togmelic_list_large(NULL, 0, NULL, 0, NULL, 0, out, TOGMELIC_LINE), TOGMELIC_LINE, refusal(15, 0)));
+    CHECK(togmelic_list_large(NULL, 0, NULL, 0, NULL, 0, NULL, 0) == 0);
+}
+
+/* Buffers of every length: 6 at the first token that has no three words, before 15 where a record has no seven, before lines that do not fit. */
+static void test_lengths(void)
+{
+    struct room room;
+    size_t at;
+    for (at = 0; at < TOKEN_WORDS + 7; at++) {
+        unsigned place = at < TOKEN_WORDS ? EXAMPLE_TOKENS[at / TOGMELIC_TOKEN_WORDS * TOGMELIC_TOKEN_WORDS + 1] : 0;
+        for (room.tree = EXAMPLE_WORDS - 8; room.tree < EXAMPLE_WORDS + 8; room.tree++) {
+            room.tokens = at;
+            room.out = EXAMPLE_BYTES;
+            if (at < TOKEN_WORDS) {
+                CHECK(refuses(EXAMPLE, 34, room, refusal(6, place)));
+            } else if (room.tree < EXAMPLE_WORDS) {
+                CHECK(refuses(EXAMPLE, 34, room, refusal(15, 0)));
+            } else {
+                CHECK(lists(EXAMPLE, 34, room, EXAMPLE_LINES, THE_TOKENS, THE_RECORDS));
+            }
+        }
+    }
+    for (at = 0; at < 2 * EXAMPLE_BYTES; at++) {
+        struct room few_tokens = {TOKEN_WORDS - 1, EXAMPLE_WORDS, at}, small_tree = {TOKEN_WORDS, EXAMPLE_WORDS - 1, at};
+        struct room just = {TOKEN_WORDS, EXAMPLE_WORDS, at};
+        CHECK(refuses(EXAMPLE, 34, few_tokens, refusal(6, 33)));
+        CHECK(refuses(EXAMPLE, 34, small_tree, refusal(15, 0)));
+        CHECK(refuses(REFUSED, strlen(REFUSED), just, REFUSED_LINE));
+        /* Tokens and records are there also where the lines do not fit. */
+        CHECK(lists(EXAMPLE, 34, just, EXAMPLE_LINES, THE_TOKENS, THE_RECORDS));
+    }
+    for (at = 0; at < EXAMPLE_WORDS; at++) {
+        struct room small_tree = {TOKEN_WORDS, at, TOGMELIC_LINE};
+        CHECK(refuses(EXAMPLE, 34, small_tree, refusal(15, 0)));
+    }
+}
+
+/* Document 02, order 9: drafts of up to 1,048,576 bytes, here one comment, with the place of refusal 1 behind them. */
+static void test_bytes(void)
+{
+    static const char too_long[] = "00 100000 100000 00000001 00000000 000001 000000\n";
+    static const char longest[] = "29 000000 100000 00000000 00000000 000001 000000\n";
+    static const uint32_t program[TOGMELIC_RECORD_WORDS] = {TOGMELIC_PROGRAM, 0, 1048576, 0, 0, 1, 0};
+    static char draft[TOGMELIC_LARGE_DRAFT + 2];
+    struct words one = {program, TOGMELIC_RECORD_WORDS};
+    struct room room = {0, TOGMELIC_RECORD_WORDS, TOGMELIC_LONG_LINE};
+    memset(draft, 'a', sizeof draft);
+    memcpy(draft, "//", 2);
+    CHECK(lists(draft, TOGMELIC_LARGE_DRAFT, room, longest, NONE, one));
+    CHECK(lists(draft, TOGMELIC_LARGE_DRAFT, MOST, longest, NONE, one));
+    CHECK(refuses(draft, TOGMELIC_LARGE_DRAFT + 1, room, too_long));
+    CHECK(refuses(draft, TOGMELIC_LARGE_DRAFT + 2, MOST, too_long));
+    room.out = TOGMELIC_LONG_LINE - 1;
+    CHECK(lists(draft, TOGMELIC_LARGE_DRAFT, room, longest, NONE, one));
+    CHECK(refuses(draft, TOGMELIC_LARGE_DRAFT + 1, room, too_long));
+    /* Refusal 1 goes before all others. */
+    draft[2] = '\x80';
+    CHECK(refuses(draft, TOGMELIC_LARGE_DRAFT, MOST, refusal(21, 2)));
+    CHECK(refuses(draft, TOGMELIC_LARGE_DRAFT + 1, MOST, too_long));
+    /* togmelic_list has its own limits. */
+    CHECK(togmelic_list((const unsigned char *)draft, TOGMELIC_LARGE_DRAFT, out, sizeof out) == TOGMELIC_LINE);
+    CHECK(memcmp(out, refusal(1, 16384), TOGMELIC_LINE) == 0);
+}
+
+/* Where four digits do not hold a number of it, every line of a listing has 49 bytes; the lines are those of the function in front of a comment. */
+static void test_forms(void)
+{
+    static const uint32_t its_tokens[] = {4, 0, 2, 32, 3, 4, 20, 4, 5, 21, 5, 6, 24, 6, 7, 25, 7, 8};
+    static const struct words six = {its_tokens, 6 * TOGMELIC_TOKEN_WORDS};
+    uint32_t records[] = {41, 0, 65535, 0, 0, 4, 0, 1, 0, 8, 0, 0, 3, 1, 2, 3, 4, 0, 0, 1, 1, 18, 6, 8, 0, 0, 1, 2};
+    struct words four = {records, 4 * TOGMELIC_RECORD_WORDS};
+    static char draft[65536];
+    memset(draft, 'a', sizeof draft);
+    memcpy(draft, "fn f(){}//", 10);
+    CHECK(lists(draft, 65535, enough(65535),
+                "29 0000 FFFF 00000000 00000000 0004 0000\n"
+                "01 0000 0008 00000000 00000000 0003 0001\n"
+                "02 0003 0004 00000000 00000000 0001 0001\n"
+                "12 0006 0008 00000000 00000000 0001 0002\n",
+                six, four));
+    CHECK(out[7] == ' ');
+    records[2] = 65536;
+    CHECK(lists(draft, 65536, enough(65536),
+                "29 000000 010000 00000000 00000000 000004 000000\n"
+                "01 000000 000008 00000000 00000000 000003 000001\n"
+                "02 000003 000004 00000000 00000000 000001 000001\n"
+                "12 000006 000008 00000000 00000000 000001 000002\n",
+                six, four));
+    CHECK(out[7] != ' ');
+    /* A refusal's line has them by its place, here that of a last token, and the end of a draft that is not finished. */
+    memset(draft + 8, ' ', sizeof draft - 8);
+    draft[65535] = ';';
+    CHECK(refuses(draft, 65536, MOST, refusal(8, 65535)));
+    draft[65535] = draft[7] = ' ';
+    CHECK(refuses(draft, 65535, MOST, refusal(8, 65535)));
+    CHECK(refuses(draft, 65536, MOST, "00 010000 010000 00000008 00000000 000001 000000\n"));
+}
+
+/* Functions of eight tokens and four records each, as many as 131,072 tokens allow, and what comes of one token more. */
+static void test_tokens(void)
+{
+    static const char each[] = "fn f(){a;}";
+    enum { BYTES = sizeof each - 1, FUNCTIONS = TOGMELIC_LARGE_TOKENS / 8, LINES = 1 + 4 * FUNCTIONS };
+    static char draft[BYTES * FUNCTIONS + 1];
+    static uint32_t words[TOGMELIC_LARGE_TREE_WORDS];
+    struct room room = {TOGMELIC_LARGE_TOKEN_WORDS, LINES * TOGMELIC_RECORD_WORDS, LINES * TOGMELIC_LONG_LINE};
+    struct togmelic_refusal refused;
+    size_t at, used;
+    for (at = 0; at < FUNCTIONS; at++) {
+        memcpy(draft + BYTES * at, each, BYTES);
+    }
+    draft[BYTES * FUNCTIONS] = ';';
+    used = called(draft, BYTES * FUNCTIONS, room);
+    CHECK(used == LINES * TOGMELIC_LONG_LINE && used / TOGMELIC_LONG_LINE == tree[5]);
+    CHECK(memcmp(out, "29 000000 028000 00000000 00000000 010001 000000\n01 000000 00000A 00000000 00000000 000004 000001\n", 2 * TOGMELIC_LONG_LINE) == 0);
+    CHECK(memcmp(out + used - TOGMELIC_LONG_LINE, "1D 027FFD 027FFE 00000000 00000000 000001 000001\n", TOGMELIC_LONG_LINE) == 0);
+    CHECK(tokens[TOGMELIC_LARGE_TOKEN_WORDS - 1] == BYTES * FUNCTIONS && tokens[TOGMELIC_LARGE_TOKEN_WORDS - 3] == 25);
+    CHECK(tree[LINES * TOGMELIC_RECORD_WORDS - 1] == 1 && tree[(LINES - 4) * TOGMELIC_RECORD_WORDS + TOGMELIC_UP] == LINES - 4);
+    /* What stands in tree is what the lines are loaded to. */
+    CHECK(togmelic_load(out, used, words, TOGMELIC_LARGE_TREE_WORDS, &refused) == LINES);
+    CHECK(memcmp(words, tree, LINES * TOGMELIC_RECORD_WORDS * sizeof *words) == 0);
+    /* One byte, one record's words or one token less. */
+    room.out--;
+    CHECK(wrote(called(draft, BYTES * FUNCTIONS, room), room.out, ""));
+    CHECK(memcmp(words, tree, LINES * TOGMELIC_RECORD_WORDS * sizeof *words) == 0);
+    room.tree--;
+    CHECK(refuses(draft, BYTES * FUNCTIONS, room, refusal(15, 0)));
+    room.tokens--;
+    CHECK(refuses(draft, BYTES * FUNCTIONS, room, "00 027FFF 027FFF 00000006 00000000 000001 000000\n"));
+    CHECK(refuses(draft, BYTES * FUNCTIONS + 1, MOST, "00 028000 028000 00000006 00000000 000001 000000\n"));
+}
+
+/* The tokens and the tree in one array, one behind the other, with nothing between. */
+static void test_one_array(void)
+{
+    size_t used;
+    memset(tree, FILL, sizeof tree);
+    memset(out, FILL, sizeof out);
+    used = togmelic_list_large((const unsigned char *)EXAMPLE, 34, tree, TOKEN_WORDS, tree + TOKEN_WORDS, EXAMPLE_WORDS, out, EXAMPLE_BYTES);
+    CHECK(wrote(used, EXAMPLE_BYTES, EXAMPLE_LINES));
+    CHECK(memcmp(tree, EXAMPLE_TOKENS, sizeof EXAMPLE_TOKENS) == 0);
+    CHECK(holds(tree + TOKEN_WORDS, EXAMPLE_WORDS, THE_RECORDS));
+}
+
+/* Drafts within the small limits have the lines that togmelic_list writes. */
+static void test_small_drafts(void)
+{
+    static const char *const drafts[] = {
+        "", "fn f(){}", "fn f(){fold(x)}", "type A=(u8,[A;2]);fn f(){}", "fn f(){match x{}}", "/*\xCE\xB1*/", "//\x80", "/*/**/", "simc", "#",
+        "fn f(){match match a{true=>1,false=>2,}{true=>[1,2,3],false=>match c{Some(d:u1)=>e,None=>f,},}}", "type A=[u8;18446744073709551616];"};
+    static unsigned char small[TOGMELIC_MOST_BYTES];
+    size_t at, used;
+    for (at = 0; at < sizeof drafts / sizeof *drafts; at++) {
+        size_t length = strlen(drafts[at]);
+        used = togmelic_list((const unsigned char *)drafts[at], length, small, sizeof small);
+        CHECK(called(drafts[at], length, enough(length)) == used && memcmp(out, small, used) == 0);
+        CHECK((tree[0] == 0) == (small[0] == '0' && small[1] == '0'));
+    }
+}
+
+int main(void)
+{
+    test_constants();
+    test_answers();
+    test_empty();
+    test_lengths();
+    test_bytes();
+    test_forms();
+    test_tokens();
+    test_one_array();
+    test_small_drafts();
+    return finish("list_large");
+}
