@@ -1,22 +1,7 @@
 /* Calls togmelic_list_large. Every expected line, token and record is written out from documents 01 and 02. */
-#include "check.h"
-
-/* The buffers that are lent, and what stands behind each, which no call may touch. */
-static uint32_t tokens[TOGMELIC_LARGE_TOKEN_WORDS + GUARD], tree[TOGMELIC_LARGE_TREE_WORDS + GUARD];
-static unsigned char out[TOGMELIC_LARGE_BYTES + GUARD];
-
-/* The lengths of the three. */
-struct room {
-    size_t tokens, tree, out;
-};
-static const struct room MOST = {TOGMELIC_LARGE_TOKEN_WORDS, TOGMELIC_LARGE_TREE_WORDS, TOGMELIC_LARGE_BYTES};
-
-/* What stands in a buffer: these words, and zeros behind. */
-struct words {
-    const uint32_t *words;
-    size_t count;
-};
-static const struct words NONE = {NULL, 0};
+#define ENTRY togmelic_list_large
+#define WORDS_OF_A_TOKEN TOGMELIC_TOKEN_WORDS
+#include "lent.h"
 
 /* The example's tokens: kind, in the order of the Rust's `Token`, start and end. */
 enum { TOKENS = 18, TOKEN_WORDS = TOKENS * TOGMELIC_TOKEN_WORDS };
@@ -27,77 +12,7 @@ static const uint32_t EXAMPLE_TOKENS[TOKEN_WORDS] = {
     31, 23, 28, 19, 28, 30, 28, 30, 31, 17, 31, 32, /* false => 2 , */
     25, 32, 33, 25, 33, 34, /* } } */
 };
-static const struct words THE_TOKENS = {EXAMPLE_TOKENS, TOKEN_WORDS}, THE_RECORDS = {EXAMPLE_RECORDS, EXAMPLE_WORDS};
-
-/* The smallest room for a draft of so many bytes that is always enough, as c/togmelic.h has it. */
-static struct room enough(size_t bytes)
-{
-    size_t most = bytes < TOGMELIC_LARGE_TOKENS ? bytes : TOGMELIC_LARGE_TOKENS;
-    struct room room;
-    room.tokens = TOGMELIC_TOKEN_WORDS * most;
-    room.tree = TOGMELIC_RECORD_WORDS * (most + 1);
-    room.out = (bytes < 65536 ? TOGMELIC_LINE : TOGMELIC_LONG_LINE) * (most + 1);
-    return room;
-}
-
-/* Whether a buffer of so many words holds these and zeros, and was not written behind its end. */
-static int holds(const uint32_t *buffer, size_t length, struct words wanted)
-{
-    size_t at;
-    for (at = 0; at < length + GUARD; at++) {
-        uint32_t word = at < wanted.count ? wanted.words[at] : at < length ? 0 : 0xAAAAAAAA;
-        if (buffer[at] != word) {
-            return 0;
-        }
-    }
-    return 1;
-}
-
-/* Calls with buffers that are filled before, as far as the call may see and a little further. */
-static size_t called(const char *draft, size_t draft_length, struct room room)
-{
-    memset(tokens, FILL, (room.tokens + GUARD) * sizeof *tokens);
-    memset(tree, FILL, (room.tree + GUARD) * sizeof *tree);
-    memset(out, FILL, room.out + GUARD);
-    return togmelic_list_large((const unsigned char *)draft, draft_length, tokens, room.tokens, tree, room.tree, out, room.out);
-}
-
-/* Whether out holds these lines and zeros, or zeros alone where they do not fit, and so many bytes are used. */
-static int wrote(size_t used, size_t out_length, const char *lines)
-{
-    size_t length = strlen(lines), at;
-    if (length > out_length) {
-        length = 0;
-    }
-    if (used != length || memcmp(out, lines, length) != 0) {
-        return 0;
-    }
-    for (at = length; at < out_length + GUARD && out[at] == (at < out_length ? 0 : FILL); at++) {
-    }
-    return at == out_length + GUARD;
-}
-
-/* Whether a draft is accepted with these lines, where they fit, tokens and records. */
-static int lists(const char *draft, size_t draft_length, struct room room, const char *lines, struct words its_tokens, struct words its_tree)
-{
-    return wrote(called(draft, draft_length, room), room.out, lines)
-        && holds(tokens, room.tokens, its_tokens)
-        && holds(tree, room.tree, its_tree);
-}
-
-/* Whether it is refused with this line, where it fits, and zeros everywhere else. */
-static int refuses(const char *draft, size_t draft_length, struct room room, const char *line)
-{
-    return lists(draft, draft_length, room, line, NONE, NONE);
-}
-
-/* The line of a refusal at a place that four digits hold. */
-static const char *refusal(unsigned number, unsigned place)
-{
-    static char line[TOGMELIC_LINE + 1];
-    sprintf(line, "00 %04X %04X %08X 00000000 0001 0000\n", place, place, number);
-    return line;
-}
+static const struct words THE_TOKENS = {EXAMPLE_TOKENS, TOKEN_WORDS};
 
 static void test_constants(void)
 {

@@ -14,7 +14,7 @@ extern "C" {
 #define TOGMELIC_LINE 41
 /* Bytes of a line as it was written before records had the way up; togmelic_load takes such lines too. */
 #define TOGMELIC_SHORT_LINE 36
-/* Bytes of a line of togmelic_list_large where four digits do not hold every start, end, size and way up of its listing. */
+/* Bytes of a line of togmelic_list_large and togmelic_list_lean where four digits do not hold every start, end, size and way up of its listing. */
 #define TOGMELIC_LONG_LINE 49
 /* togmelic_list: no draft has more lines, one for each of 2,048 tokens at most, and the program's. */
 #define TOGMELIC_MOST_LINES 2049
@@ -26,13 +26,16 @@ extern "C" {
 #define TOGMELIC_UP 6
 /* Words of a token: kind, start, end. */
 #define TOGMELIC_TOKEN_WORDS 3
+/* Words of a token of which togmelic_list_lean keeps the start alone. */
+#define TOGMELIC_START_WORDS 1
 
-/* The large limits, those of togmelic_list_large: bytes and tokens of a draft, and no draft has more lines. */
+/* The large limits, those of togmelic_list_large and togmelic_list_lean: bytes and tokens of a draft, and no draft has more lines. */
 #define TOGMELIC_LARGE_DRAFT 1048576
 #define TOGMELIC_LARGE_TOKENS 131072
 #define TOGMELIC_LARGE_LINES (TOGMELIC_LARGE_TOKENS + 1)
-/* What is enough there for every draft: words for its tokens, words for its tree, and bytes for its listing. */
+/* What is enough there for every draft: words for its tokens or for their starts, words for its tree, and bytes for its listing. */
 #define TOGMELIC_LARGE_TOKEN_WORDS (TOGMELIC_TOKEN_WORDS * TOGMELIC_LARGE_TOKENS)
+#define TOGMELIC_LARGE_START_WORDS (TOGMELIC_START_WORDS * TOGMELIC_LARGE_TOKENS)
 #define TOGMELIC_LARGE_TREE_WORDS (TOGMELIC_RECORD_WORDS * TOGMELIC_LARGE_LINES)
 #define TOGMELIC_LARGE_BYTES (TOGMELIC_LONG_LINE * TOGMELIC_LARGE_LINES)
 
@@ -240,6 +243,42 @@ size_t togmelic_list(const unsigned char *draft, size_t draft_length, unsigned c
 size_t togmelic_list_large(const unsigned char *draft, size_t draft_length, uint32_t *tokens, size_t tokens_length,
                            uint32_t *tree, size_t tree_length, unsigned char *out, size_t out_length);
 
+/*
+ * Lists a draft as togmelic_list_large does, with a third of the words for its tokens: of each token starts keeps the start
+ * alone, in one word, and not the kind and the end. Take it where many drafts are held at once. What is said above of
+ * togmelic_list_large holds here too, of limits, lines, bytes used, out, tree and refusals, with these differences:
+ *
+ * A draft of n bytes needs no more than
+ *
+ *     starts  min(n, 131072) words
+ *
+ * that is, n words at most. TOGMELIC_LARGE_START_WORDS are enough for every draft.
+ *
+ * Of an accepted draft starts holds where each token begins, one word each and in the order of the draft, with zeros behind.
+ * Each start is greater than the one before, and only the first may be 0; so behind the first word the starts end at the
+ * first 0 or where the buffer ends. Where tree[5] is 1 the draft has no item, and no token. Where the draft is refused, every
+ * word of starts and of tree is zero.
+ *
+ * The place of refusal 6 is the first token too many: over 131,072, or over the words of starts, whichever is less; not over
+ * a third of them. So a starts that is too short is that refusal of a draft that may be fine.
+ *
+ * Wherever starts, here, and tokens, there, are long enough for the draft's tokens, or for 131,072, and tree and out are as
+ * long, the two answer the same: the same bytes used, the same out and the same tree, also where the draft is refused; and
+ * the starts are the second words of the tokens.
+ *
+ * No call reads what stood in starts before. So a server may lend one scratch again and again, and keep of each draft the
+ * tree alone, or keep the starts with it. Kind and end of a token are had again in two ways. A record of one token, such as
+ * a name or a number, has that token's place, and so its end, and the record's kind says what it is. For all tokens, brackets
+ * and other marks too, call togmelic_list_large with the same draft when they are wanted: the token with the same number
+ * has that start.
+ *
+ * No two of the four buffers may overlap, as with togmelic_list_large, and starts must be aligned for uint32_t. Nothing is
+ * allocated, and nothing is kept: calls may be made from several threads at once, each with buffers of its own. A call takes up
+ * to 320,000 bytes of stack, however long the draft is, so give its thread 1 MiB.
+ */
+size_t togmelic_list_lean(const unsigned char *draft, size_t draft_length, uint32_t *starts, size_t starts_length,
+                          uint32_t *tree, size_t tree_length, unsigned char *out, size_t out_length);
+
 /* Why a listing is refused, and at which line, each a size_t; both are 0 where it is not. */
 struct togmelic_refusal {
     /* 16, 17 or 18. */
@@ -266,17 +305,17 @@ struct togmelic_refusal {
  * It ends, and stays in words, for every at that is less than the number of records.
  *
  * The first record is a program or a function, and its kind, words[0], tells which: TOGMELIC_PROGRAM in what
- * togmelic_list and togmelic_list_large write; TOGMELIC_FUNCTION in a listing of one function alone, such as those that
- * were kept before files were read.
+ * the three others write; TOGMELIC_FUNCTION in a listing of one function alone, such as those that were kept before files
+ * were read.
  *
  * All lines of a listing are of one form, and there are three: of 41 bytes, as togmelic_list writes them; of 49, as
- * togmelic_list_large writes those of which a start, an end, a size or a way up is 65,536 or more; and of 36, those that were kept
- * before records had the way up, five bytes shorter than 41, with LF behind the size. The way up is worked out then, and
+ * togmelic_list_large and togmelic_list_lean write those of which a start, an end, a size or a way up is 65,536 or more; and
+ * of 36, those that were kept before records had the way up, five bytes shorter than 41, with LF behind the size. The way up is worked out then, and
  * the words are those of the same records in lines of 41.
  *
  * listing_length / TOGMELIC_SHORT_LINE * TOGMELIC_RECORD_WORDS words are always enough, for every form; for what
- * togmelic_list wrote, TOGMELIC_MOST_LINES * TOGMELIC_RECORD_WORDS are, and for what togmelic_list_large wrote,
- * TOGMELIC_LARGE_TREE_WORDS. Any other listing that is taken has at most 65,535 lines, or 16,777,215 of 49 bytes, which is
+ * togmelic_list wrote, TOGMELIC_MOST_LINES * TOGMELIC_RECORD_WORDS are, and for what togmelic_list_large or
+ * togmelic_list_lean wrote, TOGMELIC_LARGE_TREE_WORDS. Any other listing that is taken has at most 65,535 lines, or 16,777,215 of 49 bytes, which is
  * what the digits of a size can count.
  *
  * Only a listing whose records form one file or one function is taken. Else 0 is returned, and *refusal has the first
@@ -303,7 +342,7 @@ struct togmelic_refusal {
  * tells the answer, and no word of a refused listing can be taken for a record.
  *
  * The listing may be any bytes of any length, such as those of a file, but no more than its lines: with the zeros that
- * the two others put behind them it is refused. listing_length counts bytes, words_length counts words, and each
+ * the three others put behind them it is refused. listing_length counts bytes, words_length counts words, and each
  * pointer must be good for its length; it may be NULL only where that length is 0. words must be aligned for uint32_t.
  * refusal must not be NULL; what it held before the call does not matter. The listing must not change during the call,
  * which reads each byte more than once: copy a file that is mapped into memory first, unless no one can write to it.

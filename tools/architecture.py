@@ -46,20 +46,22 @@ class Crate(NamedTuple):
 
 CRATES = {
     "listing": Crate("entries", "program", 0, 52, "the listing program: reads a draft, writes its lines", "main", "Within"),
-    "togmelic": Crate("entries", "library", 0, 52, "the library for C: togmelic_list, togmelic_list_large and togmelic_load, over those of reader", "lib",
+    "togmelic": Crate("entries", "library", 0, 52,
+                      "the library for C: togmelic_list, togmelic_list_large, togmelic_list_lean and togmelic_load, over those of reader", "lib",
                       "reader:Listed reader:Loading"),
-    "reader": Crate("reader", "reader", 0, 60, "read and read_file: a draft to its tokens and records; list_draft, list_large: to its listing;\n"
+    "reader": Crate("reader", "reader", 0, 60, "read, read_lean: a draft to tokens and records; list_draft, list_large, list_lean: to its listing;\n"
                     "load_listing: a listing to its records; all are put together from the steps", "lib entry loading",
-                    "Read Listed Loading grammar:Answers/Promised", "Laws Fits BothLimits Restored"),
+                    "Read Listed Loading grammar:Answers/Promised grammar:Answers/Lean", "Laws LeanLaws Fits BothLimits Restored"),
     "utf8": Crate("lexer", "below", 0, 52, "the length of the UTF-8 sequence at a place", "lib", "Utf8 Octets", "Laws"),
     "words": Crate("lexer", "below", 60, 52, "which word of a table a part of a draft is", "lib", "Words", "Right"),
     "lexer": Crate("lexer", "data", 0, 126, "bytes to tokens within the limits, or refusal 1 to 7 or 21; which class each token has for the rules",
-                   "lib scan", "Lexemes Limits Step Rows Class ClassLaw", "RowLaws"),
+                   "lib scan found", "Lexemes Limits Starts Step Rows Class ClassLaw", "RowLaws FoundAgain"),
     "parse": Crate("parse", "data", 0, 108,
                    "tokens to records, or refusal 6, 8 to 15 or 19; by recursive descent: the next token decides, and nothing is tried twice",
                    "lib", "Entry Contract Infos"),
     "grammar": Crate("parse", "below", 28, 80, "what reading means: the shapes of drafts, their records and refusals, and the laws of the answer", "",
-                     "Entry Shapes/Shapes Records/Records Records/Faults Answers/Outcome Answers/Promised Answers/Answer Answers/Lines", "Answers/Laws"),
+                     "Entry Shapes/Shapes Records/Records Records/Faults Answers/Outcome Answers/Promised Answers/Answer Answers/Lean Answers/Lines",
+                     "Answers/Laws Answers/LeanLaws"),
     "theory": Crate("parse", "right", 56, 52, "any grammar: one tree for a list of tokens", "", "Theorems"),
     "turn": Crate("parse", "right", 0, 40, "exchanges two parts", "lib"),
     "own": Crate("up", "below", 7, 58, "record trees: their kinds, and who owns a token", "", "Law File Tree Kinds", "Rules FileLaws"),

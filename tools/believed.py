@@ -1,5 +1,5 @@
 #!/usr/bin/env python3
-"""Writes the tables of docs/BELIEF.md: which definitions say what `read` and `load` promise, file by file in an order of reading, with line counts.
+"""Writes the tables of docs/BELIEF.md: which definitions say what `read`, `read_lean` and `load` promise, file by file in an order of reading, with line counts.
 
     tools/believed.py          writes them
     tools/believed.py --check  writes nothing; exits with 1 where a table is another, or where the lines are more than the promise may have
@@ -18,12 +18,18 @@ PAGE = os.path.join(ROOT, "docs", "BELIEF.md")
 BEGIN, END = "<!-- %s: made by tools/believed.py -->\n", "<!-- end -->\n"
 PAPER = ["crates/" + part for part in ("text", "utf8", "words", "lexer", "theory", "grammar/specs/Shapes", "num", "own", "up", "grammar/specs/Records", "kinds", "grammar",
                                        "reader", "lines", "load")]
-# Each function with the most lines that it may ask to believe, and the definitions that its contract cites.
+ANSWERS = "crates/grammar/specs/Answers/Answer.antt"
+# Each function with the most lines that it may ask to believe, and the definitions that its contract cites; then those that are not followed, since a promise
+# before it leaves no choice of what they say.
 PROMISES = [
     ("read", 1950, [("crates/grammar/specs/Answers/Promised.antt", "Promised"), ("crates/reader/specs/Read.antt", "meant"),
                     ("crates/reader/specs/Read.antt", "returned"), ("crates/grammar/specs/Entry.antt", "single_function"),
-                    ("crates/grammar/specs/Entry.antt", "whole_file"), ("crates/lexer/specs/Limits.antt", "large_limits")]),
-    ("load", 930, [("crates/load/specs/Promised.antt", "Loads"), ("crates/load/specs/Meant.antt", "meant"), ("crates/load/specs/Meant.antt", "returned")]),
+                    ("crates/grammar/specs/Entry.antt", "whole_file"), ("crates/lexer/specs/Limits.antt", "large_limits")], ()),
+    ("read_lean", 2010, [("crates/grammar/specs/Answers/Lean.antt", "PromisedLean"), ("crates/reader/specs/Read.antt", "meant"),
+                         ("crates/reader/specs/Read.antt", "returned"), ("crates/grammar/specs/Entry.antt", "single_function"),
+                         ("crates/grammar/specs/Entry.antt", "whole_file"), ("crates/lexer/specs/Limits.antt", "large_limits")],
+     ((ANSWERS, "answer"), (ANSWERS, "tree_buffer"))),
+    ("load", 930, [("crates/load/specs/Promised.antt", "Loads"), ("crates/load/specs/Meant.antt", "meant"), ("crates/load/specs/Meant.antt", "returned")], ()),
 ]
 DEFINITION = re.compile(r"\s*(?:infix[lr]? .*|(?:abbrev|unfoldable) .*|(?:pub )?(?:data|record) .*)$")
 DECLARED = re.compile(r"\s*(?:abbrev |unfoldable )?(?:pub )?(?:data |record )?(«?[^\s:({=]+»?)\s*(?:[({].*)?:")
@@ -63,8 +69,8 @@ class File:
 
 
 class Believed:
-    def __init__(self, roots):
-        self.files, self.seen, self.below = {}, {}, {}  # below: the files that a file's definitions use
+    def __init__(self, roots, known):
+        self.files, self.seen, self.below, self.known = {}, {}, {}, known  # below: the files that a file's definitions use
         for name, definition in roots:
             self.visit(name, definition)
             if not self.seen.get(name):
@@ -89,7 +95,7 @@ class Believed:
 
     def visit(self, name, definition):
         file = self.file(name)
-        if not file or definition not in file.names:
+        if not file or definition not in file.names or (name, definition) in self.known:
             return
         seen = self.seen.setdefault(name, set())
         if file.names[definition] in seen:
@@ -131,12 +137,14 @@ class Believed:
         print(self.total(), "lines in", len(self.order), "files")
 
     def table(self, read):
-        """The files in their order; where something was read before, with how many of their lines are new."""
+        """The files in their order; where something was read before, with how many of their lines are new. What builds on a promise before shows these alone."""
         says = f"{self.total():,} lines in {len(self.order)} files"
         if read:
             says += f", of which {self.total(read):,} in {sum(self.lines(name, read) > 0 for name in self.order)} files are new"
         rows = [says + ".\n", f"| | File | Lines |{' New |' if read else ''} What it says |", "|---|---|---|---|" + "---|" * bool(read)]
         for number, name in enumerate(self.order, 1):
+            if self.known and not self.lines(name, read):
+                continue
             head, new = self.files[name].head, f" {self.lines(name, read)} |" if read else ""
             file = name.removeprefix("crates/").replace("/specs", "")
             rows.append(f"| {number} | {file} | {self.lines(name)} |{new} {head[0].upper() + head[1:]} |")
@@ -155,8 +163,8 @@ def put(page, name, table):
 def main():
     page = written = open(PAGE).read()
     read, over = [], []
-    for name, most, roots in PROMISES:
-        believed = Believed(roots)
+    for name, most, roots, known in PROMISES:
+        believed = Believed(roots, known)
         if "--names" in sys.argv:
             believed.names()
         written = put(written, name, believed.table(read))

@@ -1,7 +1,7 @@
 #!/usr/bin/env bash
-# What stands around the proved code: the entries for C, called from C by c/test.c, c/test_large.c and c/test_load.c; the drafts and listings of
-# docs/REFUSALS.md, docs/LANGUAGE.md and README.md through the listing program and c/load.c, streams that fail, and where the wrapper for Rust takes the
-# library from.
+# What stands around the proved code: the entries for C, called from C by c/test.c, c/test_large.c, c/test_lean.c and c/test_load.c; the drafts and listings
+# of docs/REFUSALS.md, docs/LANGUAGE.md and README.md through the listing program and c/load.c, streams that fail, and where the wrapper for Rust takes
+# the library from.
 # Needs crates/togmelic/out/libtogmelic.a (rt lib there), crates/listing/out/listing (rt run or rt ci), and cargo.
 set -euo pipefail
 cd "$(dirname "$0")/.."
@@ -11,13 +11,13 @@ trap 'rm -rf "$work"' EXIT
 for needed in crates/togmelic/out/libtogmelic.a crates/listing/out/listing; do
     [ -f "$needed" ] || { echo "bindings: failed: $needed is missing"; exit 1; }
 done
-for program in test test_large test_load load stack; do
+for program in test test_large test_lean test_load load stack; do
     gcc -std=c99 -pedantic -Wall -Wextra -Werror -O2 -pthread -Ic -o "$work/$program" "c/$program.c" crates/togmelic/out/libtogmelic.a ||
         { echo "bindings: failed: c/$program.c does not compile"; exit 1; }
 done
-"$work/test" || { echo "bindings: failed: c/test.c"; exit 1; }
-"$work/test_large" || { echo "bindings: failed: c/test_large.c"; exit 1; }
-"$work/test_load" || { echo "bindings: failed: c/test_load.c"; exit 1; }
+for program in test test_large test_lean test_load; do
+    "$work/$program" || { echo "bindings: failed: c/$program.c"; exit 1; }
+done
 python3 tools/refusals.py crates/listing/out/listing "$work/load" || { echo "bindings: failed: tools/refusals.py"; exit 1; }
 python3 tools/language.py crates/listing/out/listing || { echo "bindings: failed: tools/language.py"; exit 1; }
 python3 tools/readme.py crates/listing/out/listing "$work/load" || { echo "bindings: failed: tools/readme.py"; exit 1; }

@@ -16,11 +16,11 @@ look() {
 }
 
 cargo_step build --package togmelic-command --package partner
-cargo_step build --package togmelic --example kinds
+cargo_step build --package togmelic --examples
 cargo_tests togmelic-command
 look command_cases.py --check "$built/partner"
 look terminal.py "$built/togmelic" "$built/partner"
 look command_drafts.py 1 60 "$built/togmelic" "$built/partner"
-look readme.py --command "$built/togmelic" "$built/examples/kinds"
+look readme.py --command "$built/togmelic" "$built/examples/kinds" "$built/examples/starts"
 cases=(rust/command/tests/golden/*/)
 echo "command: ${#cases[@]} cases"

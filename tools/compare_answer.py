@@ -1,7 +1,7 @@
 #!/usr/bin/env python3
 """Compares the definition of the answer (crates/grammar) with the partner (rust/partner) on random drafts, on array lengths around the largest 64-bit
 number, on small files, on UTF-8 in comments, good and bad, at the small limits and around places of four digits, each read as a file and as one function within
-the small limits, and some as a file within the large ones, every byte of the listing.
+the small limits, and some as a file within the large ones, with whole tokens and with their starts alone, every byte of the listing.
 
 antt computes the definition: the drafts with the partner's listings become one more file of specs/ in a copy of the repository, and the
 check there refuses it if one of them differs.
@@ -82,10 +82,10 @@ def borders():
     return [0xFFFF * b" ", 0x10000 * b" ", 0x10000 * b" " + b"#"]
 
 
-def answers(drafts, partner):
-    """What the partner says of each draft, with words enough within the small limits: its answer as one function and as a file, and its listing as a file
-    within the small limits and within the large ones."""
-    stream = b"".join(b"%d %d %d %d\n%s\n" % (TOKEN_SPACE, TREE_SPACE, LINE * LINES, len(d), d) for d in drafts)
+def answers(drafts, partner, token_space=lambda draft: TOKEN_SPACE):
+    """What the partner says of each draft, with words enough within the small limits, or with so many for tokens: its answer as one function and as a file, the
+    latter with the starts of tokens alone too, and its listing as a file within the small limits and within the large ones."""
+    stream = b"".join(b"%d %d %d %d\n%s\n" % (token_space(d), TREE_SPACE, LINE * LINES, len(d), d) for d in drafts)
     out = subprocess.run([partner, "--cases"], input=stream, capture_output=True, check=True).stdout
     place = 0
 
@@ -109,9 +109,22 @@ def answers(drafts, partner):
     found = []
     for _ in drafts:
         function, file = words(b"function"), words(b"file")
+        lean = {b"function": function, b"file": file}
+        while out.startswith(b"lean ", place):
+            entry, *answer = words(b"lean")
+            lean[entry] = answer
         small = listing(b"listed")
-        found.append((function, file, small, listing(b"large", small)))
+        found.append((function, file, lean[b"file"], small, listing(b"large", small)))
     return found
+
+
+def lean_rows(drafts, said, partner):
+    """Each accepted file with as many words as it has tokens, for their starts alone, which is listed as with whole tokens; and with a word less."""
+    files = {draft: (int(file[1]), large) for draft, (_, file, _, _, large) in zip(drafts, said) if file[0] == b"accepted" and file[1] != b"0"}
+    refused = answers(list(files), partner, lambda draft: files[draft][0] - 1)
+    for (draft, (count, large)), (_, _, lean, _, _) in zip(files.items(), refused):
+        yield f"lean {count} ({numbers(draft)}) ({result(large)})"
+        yield f"lean {count - 1} ({numbers(draft)}) (refused_with {int(lean[1])} {int(lean[2])})"
 
 
 def result(listing):
@@ -127,7 +140,7 @@ def alone(listing):
     return listing[LINE:2 * LINE - len("0001\n")] + b"0000\n" + listing[2 * LINE:]
 
 
-def rows(draft, function, file, small, large, within_large):
+def rows(draft, function, file, _, small, large, within_large):
     """The draft as a file, and as one function. The lines of a function are those of its file behind the first, where the words are the same."""
     if function[0] == b"accepted" and file[-1] != b"same":
         sys.exit(f"the partner's two trees differ: {draft!r}")
@@ -155,18 +168,24 @@ use Rattle.text.specs.Widths.{tok_wide, rec_wide}
 use Rattle.lexer.specs.Limits.{small_tokens, large_limits}
 use Rattle.grammar.specs.Entry.{whole_file}
 use Rattle.grammar.specs.Cases.Cases.{Result, refused_with, lists, Case, defined, roomy, roomy_file}
+use Rattle.grammar.specs.Cases.Starts.{lean_defined}
 
 abbrev large_file : List ℕ → Result → Case
 large_file draft r =
     record { entry = whole_file; limits = large_limits; token_space = tok_wide * small_tokens; tree_space = rec_wide * suc small_tokens; draft = draft; result = r }
+
+abbrev lean : ℕ → List ℕ → Result → Case
+lean words draft r = record { entry = whole_file; limits = large_limits; token_space = words; tree_space = rec_wide * suc small_tokens; draft = draft; result = r }
 """
 
 
-def spec(all_rows):
-    text = HEAD
+def agreeing(all_rows, defined):
+    """The declarations that the definitions say of each draft what its row does."""
+    text = ""
     for k in range(0, len(all_rows), 20):
-        text += f"\nunfoldable cases{k} : List Case\ncases{k} =\n    " + " ∷\n    ".join(all_rows[k:k + 20]) + " ∷ []\n"
-        text += f"\nagree{k} : map defined cases{k} ≡ map (λ (c : Case). c.result) cases{k}\nunfolding cases{k} defined\nagree{k} = refl\n"
+        cases = f"{defined}-cases{k}"
+        text += f"\nunfoldable {cases} : List Case\n{cases} =\n    " + " ∷\n    ".join(all_rows[k:k + 20]) + " ∷ []\n"
+        text += f"\n{cases}-agree : map {defined} {cases} ≡ map (λ (c : Case). c.result) {cases}\nunfolding {cases} {defined}\n{cases}-agree = refl\n"
     return text
 
 
@@ -186,7 +205,9 @@ def main():
         lines = (root / "crates.txt").read_text().splitlines(keepends=True)
         (copy / "crates.txt").write_text("".join(l for l in lines if l.split(":")[0] in CRATES))
         specs = copy / "crates/grammar/specs"
-        (specs / "Partner.antt").write_text(spec([r for at, (d, a) in enumerate(zip(drafts, said)) for r in rows(d, *a, is_large(at, always))]))
+        whole = [r for at, (d, a) in enumerate(zip(drafts, said)) for r in rows(d, *a, is_large(at, always))]
+        starts = list(lean_rows(drafts[always::FEW], said[always::FEW], partner))
+        (specs / "Partner.antt").write_text(HEAD + agreeing(whole, "defined") + agreeing(starts, "lean_defined"))
         with (specs / "Lib.antt").open("a") as lib:
             lib.write("pub mod Partner\n")
         done = subprocess.run(["rt", "check"], cwd=copy / "crates/grammar", capture_output=True, text=True)
@@ -194,6 +215,7 @@ def main():
         tally = collections.Counter("accepted" if a[entry][0] == b"accepted" else a[entry][1].decode() for a in said)
         print(f"{len(drafts)} drafts as a {name}, by the partner's answer:", ", ".join(f"{k} {v}" for k, v in sorted(tally.items())))
     print("and as a file within both sets of limits:", sum(is_large(at, always) for at in range(len(drafts))))
+    print("and as a file with the starts of tokens alone, in just enough words and in a word less:", len(starts) // 2)
     if done.returncode:
         print(*[l[:300] for l in (done.stdout + done.stderr).splitlines() if "error" in l][:5], sep="\n")
         sys.exit("the definition differs")

@@ -1,6 +1,10 @@
 """Cases of drafts, each with the lengths of the buffers that are lent for it and what the papers say of it: for tools/reader_cases.py."""
 
+import pathlib, subprocess, sys
+
 from record_trees import LINE, WORDS
+
+PARTNER = pathlib.Path(__file__).resolve().parent.parent / "rust/partner"
 
 # Enough for every draft within the small limits: three words for each of 2,048 tokens, seven words for each of 2,049 records, one more than tokens in a file,
 # and 41 bytes for each of them.
@@ -53,3 +57,15 @@ class Cases:
     def add_bodies(self, *texts, **buffers):
         for text in texts:
             self.add(body(text), **buffers)
+
+
+def random_drafts(seed, count, kind, longest):
+    """So many random drafts of a kind, without the long ones."""
+    asked = [sys.executable, PARTNER / "drafts.py", str(seed), str(2 * count), kind]
+    stream = subprocess.run(asked, check=True, capture_output=True).stdout
+    while stream and count > 0:
+        length, _, stream = stream.partition(b"\n")
+        draft, stream = stream[:int(length)], stream[int(length):]
+        if len(draft) <= longest:
+            yield draft
+            count -= 1

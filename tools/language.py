@@ -111,7 +111,8 @@ def limit_faults():
     shown = [f"| {given['small_bytes']:,} | {given['large_bytes']:,} | 1 |", f"| {few:,} | {many:,}, and a third of", f"| {given['most_open']} | {given['most_open']} | 7 |",
              f"| {given['most_in_row']} | {given['most_in_row']} | 7 |", f"{given['TOGMELIC_LINE'] * (few + 1):,} bytes for a listing are enough",
              f"{given['tok_wide'] * many:,} words for tokens, {given['rec_wide'] * (many + 1):,} words for the tree and "
-             f"{given['TOGMELIC_LONG_LINE'] * (many + 1):,} bytes for a listing are enough", f"of {given['TOGMELIC_LINE']} bytes, or all of {given['TOGMELIC_LONG_LINE']} where",
+             f"{given['TOGMELIC_LONG_LINE'] * (many + 1):,} bytes for a listing are enough", f"{given['TOGMELIC_START_WORDS'] * many:,} words for starts",
+             f"of {given['TOGMELIC_LINE']} bytes, or all of {given['TOGMELIC_LONG_LINE']} where",
              f"| 0 to {given['largest']:,}, the largest", f"| 1 to {given['largest']:,} | 10 |", f"from 2 to {(given['largest'] + 1) // 2:,} | 9 |"]
     page = " ".join(PAGE.split())
     return [f"the page does not show {text}" for text in shown if text not in page]

@@ -6,18 +6,18 @@ draft; then the draft and a line end.
 Answered are the draft read as one function and as a file, both within the large limits, its listing within the small ones, and its listing within the
 large ones by the entry that is lent all three buffers, whose lines stand only where they are others. Where both readings accept, `same` says that the records
 behind the file's first are the function's, but for the way up of the function itself: 0 where it stands alone, 1 in the file. Behind the large listing's
-line nothing is said where every word of tokens and tree is as the reading as a file leaves it.
+line nothing is said where every word of tokens and tree is as the reading as a file leaves it. The lines that begin with `lean` are those of the entries that
+keep the starts of tokens alone, in a buffer of as many words as the token buffer; they stand only where these entries leave something else.
 --partner PATH: also writes stdout, the answers of the partner's program, and sees that every record kind, call and refusal is there, and that the
 partner says what is written here from the papers, where that is.
 --check: exit 1 if a file differs.
 """
 import argparse, pathlib, random, re, subprocess, sys
 
-import file_cases, large_cases, way_cases
-from draft_cases import HEAD, LINE, OVER, TOKENS, TREE, Cases, body, escaped
+import file_cases, large_cases, lean_cases, way_cases
+from draft_cases import HEAD, LINE, OVER, PARTNER, TOKENS, TREE, Cases, body, escaped, random_drafts
 
 ROOT = pathlib.Path(__file__).resolve().parent.parent
-PARTNER = ROOT / "rust/partner"
 # Small drafts: one that is accepted, one with a refusal 9, one with a refusal 8, one with a refusal 19. And one whose arms are exchanged.
 SMALL, WRONG_BOUND, WRONG_SHAPE, WRONG_LENGTH = body(""), body("fold::<g,3>(x)"), body("1 2"), f"{HEAD}->[b;{OVER}]{{}}"
 EXCHANGED = body("match x{Some(a:u1)~{1},None~{2}}")
@@ -88,8 +88,8 @@ def add_words_lent(cases):
             cases.add(draft, words, tree, 0)
         for words in range(tree + 5):
             cases.add(draft, tokens, words, 0)
-        # Both too short, by a word or wholly.
-        for words in (0, tokens - 1, tokens):
+        # Both too short, by a word or wholly, for whole tokens and for their starts alone.
+        for words in (0, tokens // 3 - 1, tokens // 3, tokens - 1, tokens):
             for records in (0, tree - 1, tree):
                 cases.add(draft, words, records, LINE)
     # Arms that are exchanged in a tree buffer with no room to spare.
@@ -339,18 +339,6 @@ def add_wrong_shapes(cases):
         cases.add_bodies("match x{" + arm + "}")
 
 
-def random_drafts(seed, count, kind, longest):
-    """So many random drafts of a kind, without the long ones."""
-    asked = [sys.executable, PARTNER / "drafts.py", str(seed), str(2 * count), kind]
-    stream = subprocess.run(asked, check=True, capture_output=True).stdout
-    while stream and count > 0:
-        length, _, stream = stream.partition(b"\n")
-        draft, stream = stream[:int(length)], stream[int(length):]
-        if len(draft) <= longest:
-            yield draft
-            count -= 1
-
-
 def add_random(cases):
     """A sample of random drafts of each kind, and some with buffers that may be too short."""
     for kind, count in (("shaped", 150), ("damaged", 80), ("tokens", 80), ("files", 40), ("damaged-files", 40), ("comments", 60)):
@@ -365,7 +353,7 @@ SECTIONS = (
     add_bytes_of_drafts, add_tokens, add_brackets, add_matches, add_words_lent, add_bytes_lent, add_functions, add_types, add_statements,
     add_expressions, add_calls, add_arms, add_enum_arms, add_smallest, add_differences, add_built_in_arms, add_orders, add_comments, add_bad_comments,
     add_lengths, add_faults, add_wrong_shapes, add_random, *file_cases.SECTIONS, *way_cases.SECTIONS,
-    *large_cases.SECTIONS,
+    *large_cases.SECTIONS, *lean_cases.SECTIONS,
 )
 
 

@@ -4,11 +4,12 @@ listing; with the command, that README.md and docs/COMMAND.md show what it write
 
 tools/readme.py [LISTING [LOAD]]; the first program lists the draft on its standard input, by default crates/listing/out/listing, the second, c/load.c, loads a
 listing, by default target/load.
-tools/readme.py --command TOGMELIC KINDS; the command, and the wrapper's example of the name (rust/togmelic/examples/kinds.rs).
+tools/readme.py --command TOGMELIC EXAMPLE..; the command, and the wrapper's examples, each the program of a file of rust/togmelic/examples.
 """
 import re
 import subprocess
 import sys
+from pathlib import Path
 
 from program import ROOT, finish, listing, loaded
 
@@ -29,17 +30,23 @@ def behind(page, words):
     return re.sub(r"^    ", "", block[1], flags=re.M)
 
 
-def command(togmelic, kinds):
-    """What the command and the wrapper's example write, and where that should be shown."""
+def example(readme, program):
+    """An example of the wrapper and what it writes, as the page should show them."""
+    name = Path(program).name
+    text = (ROOT / f"rust/togmelic/examples/{name}.rs").read_text().split("\n\n", 1)[1]
+    return [("README.md", readme, f"the wrapper's example {name}", text), ("README.md", readme, f"what that writes, {name}", said(program))]
+
+
+def command(togmelic, *examples):
+    """What the command and the wrapper's examples write, and where that should be shown."""
     readme, page = ((ROOT / name).read_text(encoding="utf-8") for name in ("README.md", "docs/COMMAND.md"))
     broken, draft = said(togmelic, "check", "examples/broken.simf"), behind(page, "The tree of\n")
     shown = [("README.md", readme, "examples/broken.simf", broken),
              ("README.md", readme, "examples/polish.simf", said(togmelic, "tree", "examples/polish.simf")),
-             ("README.md", readme, "the wrapper's example", (ROOT / "rust/togmelic/examples/kinds.rs").read_text().split("\n\n", 1)[1]),
-             ("README.md", readme, "what the wrapper's example writes", said(kinds)),
              ("README.md", readme, "the front of a large listing", said("bash", "-c", behind(readme, "## A large draft").replace("target/rust/release/togmelic", togmelic))),
              ("docs/COMMAND.md", page, "examples/broken.simf", broken),
              ("docs/COMMAND.md", page, "the tree of its draft", said(togmelic, "tree", "-", stdin=draft.encode()))]
+    shown += [it for program in examples for it in example(readme, program)]
     missing = [f"{name} does not show {what}" for name, text, what, lines in shown if not lines or indented(lines) not in text]
     finish("readme", f"{len(shown) - len(missing)} texts of the command", missing)
 

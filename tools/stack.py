@@ -1,5 +1,5 @@
 #!/usr/bin/env python3
-"""How much stack the listing program, togmelic_list and togmelic_list_large take for the drafts that nest deepest.
+"""How much stack the listing program, togmelic_list, togmelic_list_large and togmelic_list_lean take for the drafts that nest deepest.
 
     tools/stack.py STACK [LISTING]    the programs: c/stack.c over the library, and the listing program, by default crates/listing/out/listing
 
@@ -109,9 +109,9 @@ def of_program(draft, begin):
     return passes
 
 
-def of_entry(draft, begin, *large):
-    """The bytes of stack that togmelic_list takes, or togmelic_list_large; far too many where it does not answer as it should."""
-    used, _, lines = subprocess.run([program(1, "target/stack"), *large], input=draft, check=True, capture_output=True).stdout.partition(b" ")
+def of_entry(draft, begin, *name):
+    """The bytes of stack that togmelic_list takes, or the entry of that name; far too many where it does not answer as it should."""
+    used, _, lines = subprocess.run([program(1, "target/stack"), *name], input=draft, check=True, capture_output=True).stdout.partition(b" ")
     return int(used) if lines.startswith(begin) else sys.maxsize
 
 
@@ -145,18 +145,20 @@ def lent(file):
 def main():
     tried, long = drafts(SMALL), drafts(LARGE)
     entry, least = max(of_entry(*it) for it in tried), max(of_program(*it) for it in tried) * 1024
-    large = max(of_entry(*it, "large") for it in tried + long)
+    large, lean = (max(of_entry(*it, name) for it in tried + long) for name in ("large", "lean"))
     limit = stated(text_of("README.md"), r"`ulimit -s (\d+)`")
-    faults = over("togmelic_list", entry, "c/togmelic.h", "A call takes", "size_t togmelic_list(") + over("togmelic_list", entry, WRAPPER, "the deepest drafts take")
-    faults += over("togmelic_list_large", large, "c/togmelic.h", "A call takes", "size_t togmelic_list_large(")
-    faults += over("togmelic_list_large", large, WRAPPER, "tokens and tree are not on the stack, and it takes")
+    faults = over("togmelic_list", entry, "c/togmelic.h", "A call takes", "size_t togmelic_list(")
+    faults += over("togmelic_list", entry, WRAPPER, "the deepest drafts take")
+    for name, took in (("togmelic_list_large", large), ("togmelic_list_lean", lean)):
+        faults += over(name, took, "c/togmelic.h", "A call takes", f"size_t {name}(")
+        faults += over(name, took, WRAPPER, "tokens and tree are not on the stack, and it takes")
     faults += over("the listing program", least, "README.md", "it needs") + lent("c/togmelic.h") + lent(WRAPPER)
     for it in ((b"", b"00 "), (b"fn f(){1}", b"29 "), tried[0], tried[-1]):
         faults += front(*it)
     failing = [draft for draft, begin in tried if not lines_under(draft, limit).startswith(begin)]
     faults += [f"no answer to {len(failing)} drafts under the limit that README.md states, {limit} KiB"] * bool(failing)
-    took = f"togmelic_list took up to {entry:,} bytes, togmelic_list_large {large:,}, the listing program {least:,}"
-    finish("stack", f"{took}, for {len(tried)} drafts, and the second for {len(long)} more", faults)
+    took = f"togmelic_list took up to {entry:,} bytes, togmelic_list_large {large:,}, togmelic_list_lean {lean:,}, the listing program {least:,}"
+    finish("stack", f"{took}, for {len(tried)} drafts, and the two with the large limits for {len(long)} more", faults)
 
 
 if __name__ == "__main__":

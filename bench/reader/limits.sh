@@ -1,8 +1,9 @@
 #!/usr/bin/env bash
-# Instructions of one reading of each case, here and in the plain Rust reader, as bench/reader/run.sh counts them: no ratio may be over its limit, which is 1, or
-# what docs/BENCHMARKS.md explains, with two percent for another C library. Then of large drafts instructions for a token, through the entry with lent buffers:
-# with 131,072 tokens at most a fifth more than with 2,000, so that the cost is linear. Needs cargo and valgrind; where there is no valgrind it says so and counts
-# nothing.
+# Instructions of one reading of each case, here and in the plain Rust reader, as bench/reader/run.sh counts them: no ratio may be over its limit, which is 1,
+# or what docs/BENCHMARKS.md explains, with two percent for another C library. Then of large drafts instructions for a token, through the entry with lent
+# buffers: with 131,072 tokens at most a fifth more than with 2,000, so that the cost is linear. Last of one reading by the entry that keeps the starts of tokens
+# alone: at most 135 percent of what that with whole tokens takes, on every case. Needs cargo and valgrind; where there is no
+# valgrind it says so and counts nothing.
 set -euo pipefail
 cd "$(dirname "$0")/../.."
 if ! command -v valgrind > /dev/null; then
@@ -42,6 +43,18 @@ for kind in $("$bench" large names | sed -n 's/-131072$//p' | grep -vx moved); d
     echo "limits: a token of $kind, in thousandths: $small of 2,000, $large of 131,072"
     if ((100 * large > 120 * small)); then
         echo "limits: failed: $kind is not linear"
+        over=1
+    fi
+done
+
+for case in $("$bench" lean names); do
+    # Of a short draft one reading is little beside the start.
+    [[ $case == *-20000 || $case == *-131072 ]] && many=2 || many=6
+    whole=$(reading large "$case" here)
+    starts=$(reading lean "$case" here)
+    echo "limits: $case with lent buffers, $whole with whole tokens, $starts with their starts"
+    if ((100 * starts > 135 * whole)); then
+        echo "limits: failed: $case with starts alone is over 135 percent"
         over=1
     fi
 done

@@ -3,3 +3,4 @@ pub mod Answer
 pub mod Lines
 pub mod Outcome
 pub mod Promised
+pub mod Lean

@@ -3,3 +3,4 @@ pub mod Cases
 pub mod Known
 pub mod Files
 pub mod Boundaries
+pub mod Starts

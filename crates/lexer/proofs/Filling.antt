@@ -3,19 +3,19 @@
 use mathlib.Core.List.{List, [], ◌∷◌, ◌++◌, append-nil, append_assoc}
 use mathlib.Core.Option.{Option}
 use mathlib.Core.Path.{◌≡◌, refl, sym, ◌∙◌, ap, ap₂, subst}
-use Prim.Native.Nat.{ℕ, suc, ◌+◌, ◌-◌, ◌*◌, ◌≤◌, ◌<◌}
+use Prim.Native.Nat.{ℕ, ◌+◌, ◌-◌, ◌*◌, ◌≤◌, ◌<◌}
 use native.Mathlib.Omega.{arith}
 use borrow.Author.Tests.{lt-ltb, le-ltb}
-use lib.ListN.{length, get_or, drop, set, length-drop, length-append, length-set}
-use lib.Seq.{sets-eq, take_at, drop_at, drop-drop, get_or_at}
+use Rattle.std.proofs.Math.Nat.{mul-suc, mul-zero, mul-le-mul_left, le_trans}
+use lib.ListN.{length, get_or, drop, length-drop, length-append}
+use lib.Seq.{sets, sets-eq, take_at, drop_at, drop-drop, get_or_at}
 use Rattle.text.specs.Answers.{Answer, refused}
 use Rattle.text.specs.declared.refusal.Refusal.TheVariants as refusal
-use Rattle.text.specs.Widths.{tok_wide}
 use Rattle.text.specs.Front.{front, Held}
 use Rattle.lexer.specs.Lexemes.{Token, Lexemes, tokens, refused_at, with_token, lexemes_from, lexemes}
-use Rattle.lexer.specs.Limits.{no_token, first_too_deep, deep, judged_in, too_many, token_words, tokens_of}
-use Rattle.lexer.specs.Buffer.{put_at}
-use Rattle.lexer.proofs.Fits.{token-words-length}
+use Rattle.lexer.specs.Limits.{no_token, first_too_deep, deep, judged_in, too_many, tokens_of}
+use Rattle.lexer.specs.Buffer.{kept, Keeps, words_kept, put_at}
+use Rattle.lexer.proofs.Kept.{kept-snoc, kept-length, length-put}
 use Rattle.lexer.specs.Nesting.{Nesting, nest_after, nest_of, outermost, passed_at}
 use Rattle.lexer.specs.Step.{step_of}
 use Rattle.lexer.specs.declared.Step.{Step}
@@ -27,30 +27,15 @@ use Rattle.lexer.proofs.Steps.{follow, Leads, rest-follows, step-leads}
 
 -- ---- the words of the buffer
 
-abbrev words_of : Token → List ℕ
-words_of t = t.kind ∷ t.start ∷ t.end ∷ []
-
-words_snoc : (ts : List Token) (t : Token) → token_words (ts ++ t ∷ []) ≡ token_words ts ++ words_of t
-unfolding token_words
-words_snoc [] t = refl
-words_snoc (u ∷ ts) t = ap (λ l. u.kind ∷ u.start ∷ u.end ∷ l) (words_snoc ts t)
-
 -- the words of one token more, behind those that lie before them
-token-more : (p o : List ℕ) (k a e m : ℕ) → length p ≡ m → m + tok_wide ≤ length o
-    → set (set (set (p ++ drop m o) m k) (m + 1) a) (m + 2) e ≡ (p ++ k ∷ a ∷ e ∷ []) ++ drop (m + tok_wide) o
-token-more p o k a e m l h =
+token-more : (p o ws : List ℕ) (m : ℕ) → length p ≡ m → m + length ws ≤ length o → sets (p ++ drop m o) m ws ≡ (p ++ ws) ++ drop (m + length ws) o
+token-more p o ws m l h =
     let q = p ++ drop m o in
-    let b : suc m ≡ m + 1 = omega arith in
-    let d : suc (suc m) ≡ m + 2 = omega arith in
-    let n : m + tok_wide ≤ length q = omega (arith, length-append p (drop m o), length-drop m o) in
-    let f : drop (m + tok_wide) q ≡ drop (m + tok_wide) o =
-    sym (drop-drop tok_wide m q) ∙ ap (λ x. drop tok_wide x) (drop_at p (drop m o) m l) ∙ drop-drop tok_wide m o in
-    sym (ap₂ (λ x y. set (set (set q m k) x a) y e) b d)
-    ∙ sets-eq (k ∷ a ∷ e ∷ []) q m n
-    ∙ ap₂ (λ x y. x ++ (k ∷ a ∷ e ∷ []) ++ y) (take_at p (drop m o) m l) f
-
-length-put : (out : List ℕ) (n k a e : ℕ) → length (put_at out n k a e) ≡ length out
-length-put out n k a e = simp length-set
+    let n : m + length ws ≤ length q = omega (arith, length-append p (drop m o), length-drop m o) in
+    let f : drop (m + length ws) q ≡ drop (m + length ws) o =
+    sym (drop-drop (length ws) m q) ∙ ap (λ x. drop (length ws) x) (drop_at p (drop m o) m l) ∙ drop-drop (length ws) m o in
+    sets-eq ws q m n
+    ∙ ap₂ (λ x y. x ++ ws ++ y) (take_at p (drop m o) m l) f
 
 -- ---- the tokens found so far
 
@@ -67,8 +52,8 @@ before-snoc : (ts : List Token) (t : Token) (x : Lexemes) → before (ts ++ t �
 before-snoc ts t (tokens us) = ap tokens (append_assoc ts (t ∷ []) us)
 before-snoc ts t (refused_at c p) = refl
 
--- at place i of s, with n tokens found, which are within the room: they stand in the buffer, x is what is counted of them all
-pub record Filling (s : List ℕ) (room : ℕ) (o : List ℕ) (i n : ℕ) (x : Nesting) (out : List ℕ) : Type 0 where
+-- at place i of s, with n tokens found, which are within the room: they stand in the buffer, w words each; x is what is counted of them all
+pub record Filling (w : ℕ) (s : List ℕ) (room : ℕ) (o : List ℕ) (i n : ℕ) (x : Nesting) (out : List ℕ) : Type 0 where
   pub done : List Token
   pub number : length done ≡ n
   pub within : i ≤ length s
@@ -76,7 +61,7 @@ pub record Filling (s : List ℕ) (room : ℕ) (o : List ℕ) (i n : ℕ) (x : N
   pub fits : n ≤ room
   pub rest : before done (lexemes_from (drop i s) i 0) ≡ lexemes s
   pub long : length out ≡ length o
-  pub written : out ≡ token_words done ++ drop (tok_wide * n) o
+  pub written : out ≡ words_kept w done ++ drop (w * n) o
   pub nested : nest_of outermost done ≡ x
 
 -- where a step leads
@@ -90,9 +75,13 @@ nearer-token s i k e q = let m = leads-to s i (S.Token k e) q in omega (arith, m
 pub nearer-trivia : (s : List ℕ) (i e : ℕ) → step_of s i ≡ S.Trivia e → length s - e < length s - i
 nearer-trivia s i e q = let m = leads-to s i (S.Trivia e) q in omega (arith, m.0, m.1)
 
-pub fill_start : (s : List ℕ) (room : ℕ) (o : List ℕ) (x : Nesting) → x ≡ outermost → Filling s room o 0 0 x o
-unfolding lexemes token_words
-fill_start s room o x e = record {
+-- where one token more is within the room, its words are within the buffer
+pub room-left : (w n room m : ℕ) → w * room ≤ m → n < room → w * (n + 1) ≤ m
+room-left w n room m g h = le_trans (mul-le-mul_left w (omega arith)) g
+
+pub fill_start : (w : ℕ) (s : List ℕ) (room : ℕ) (o : List ℕ) (x : Nesting) → x ≡ outermost → Filling w s room o 0 0 x o
+unfolding lexemes words_kept
+fill_start w s room o x e = record {
   done = [];
   number = refl;
   within = omega arith;
@@ -100,17 +89,17 @@ fill_start s room o x e = record {
   fits = omega arith;
   rest = before-none _;
   long = refl;
-  written = refl;
+  written = ap (λ (k : ℕ). drop k o) (sym (mul-zero w));
   nested = sym e;
 }
 
-module _ {s : List ℕ} {room : ℕ} {o : List ℕ} {i n : ℕ} {x : Nesting} {out : List ℕ} (v : Filling s room o i n x out) (t : Step) (q : step_of s i ≡ t) where
+module _ {w : ℕ} {s : List ℕ} {room : ℕ} {o : List ℕ} {i n : ℕ} {x : Nesting} {out : List ℕ} (v : Filling w s room o i n x out) (t : Step) (q : step_of s i ≡ t) where
   -- what is left, as the step has it
   left : before v.done (follow t i (λ j. lexemes_from (drop j s) j 0)) ≡ lexemes s
   left = sym (ap (before v.done) (rest-follows s i ∙ ap (λ x. follow x i (λ j. lexemes_from (drop j s) j 0)) q)) ∙ v.rest
 
-module _ {s : List ℕ} {room : ℕ} {o : List ℕ} {i n : ℕ} {x : Nesting} {out : List ℕ} (v : Filling s room o i n x out) where
-  pub fill-trivia : (e : ℕ) → step_of s i ≡ S.Trivia e → Filling s room o e n x out
+module _ {w : ℕ} {s : List ℕ} {room : ℕ} {o : List ℕ} {i n : ℕ} {x : Nesting} {out : List ℕ} (v : Filling w s room o i n x out) where
+  pub fill-trivia : (e : ℕ) → step_of s i ≡ S.Trivia e → Filling w s room o e n x out
   fill-trivia e q =
       let m = leads-to s i (S.Trivia e) q in
       record {
@@ -152,16 +141,16 @@ module _ {s : List ℕ} {room : ℕ} {o : List ℕ} {i n : ℕ} {x : Nesting} {o
             let f : get_or (v.done ++ this ∷ ts) room no_token ≡ this = get_or_at v.done this ts no_token room (omega (arith, v.number)) in
             simp (lt-ltb _ _ l, f)
 
-    put_written : tok_wide * room ≤ length o → n < room → put_at out n k i e ≡ token_words (v.done ++ this ∷ []) ++ drop (tok_wide * (n + 1)) o
+    put_written : Keeps w → w * (n + 1) ≤ length o → put_at w out n k i e ≡ words_kept w (v.done ++ this ∷ []) ++ drop (w * (n + 1)) o
     put_written f h =
-        let l : length (token_words v.done) ≡ tok_wide * n = token-words-length v.done ∙ ap (λ x. tok_wide * x) v.number in
-        let a : tok_wide * n + tok_wide ≡ tok_wide * (n + 1) = omega arith in
-        ap (λ x. set (set (set x (tok_wide * n) k) (tok_wide * n + 1) i) (tok_wide * n + 2) e) v.written
-        ∙ token-more (token_words v.done) o k i e (tok_wide * n) l (omega arith)
-        ∙ ap₂ (λ x y. x ++ drop y o) (sym (words_snoc v.done this)) a
+        let l : length (words_kept w v.done) ≡ w * n = kept-length w f v.done ∙ ap (λ x. w * x) v.number in
+        let a : w * n + length (kept w this) ≡ w * (n + 1) = ap (λ x. w * n + x) (f this) ∙ sym (mul-suc w n) ∙ ap (λ x. w * x) (omega arith) in
+        ap (λ x. sets x (w * n) (kept w this)) v.written
+        ∙ token-more (words_kept w v.done) o (kept w this) (w * n) l (omega (arith, a, h))
+        ∙ ap₂ (λ x y. x ++ drop y o) (sym (kept-snoc w v.done this)) a
 
-    pub fill-token : tok_wide * room ≤ length o → n < room → Filling s room o e (n + 1) (nest_after x k i) (put_at out n k i e)
-    fill-token f h =
+    pub fill-token : Keeps w → w * room ≤ length o → n < room → Filling w s room o e (n + 1) (nest_after x k i) (put_at w out n k i e)
+    fill-token f g h =
         let m = leads-to s i (S.Token k e) q in
         record {
           done = v.done ++ this ∷ [];
@@ -170,8 +159,8 @@ module _ {s : List ℕ} {room : ℕ} {o : List ℕ} {i n : ℕ} {x : Nesting} {o
           few = omega (arith, m.0, v.few);
           fits = omega arith;
           rest = before-snoc v.done this (lexemes_from (drop e s) e 0) ∙ left v (S.Token k e) q;
-          long = length-put out n k i e ∙ v.long;
-          written = put_written f h;
+          long = length-put w out n k i e ∙ v.long;
+          written = put_written f (room-left w n room (length o) g h);
           nested = nest-snoc outermost v.done this ∙ ap (λ (y : Nesting). nest_after y k i) v.nested;
         }
 
@@ -185,11 +174,11 @@ module _ {s : List ℕ} {room : ℕ} {o : List ℕ} {i n : ℕ} {x : Nesting} {o
       ∙ sym (rw (v.number, le-ltb room n v.fits) refl)
       ∙ sym (ap (judged_in room) (fill-end q))
 
-  pub fill-held : (a : Answer) → step_of s i ≡ S.Nothing → Held a (token_words (tokens_of (lexemes s))) o out
-  fill-held a q =
-      let w : length (token_words v.done) ≡ tok_wide * n = token-words-length v.done ∙ ap (λ y. tok_wide * y) v.number in
+  pub fill-held : Keeps w → (a : Answer) → step_of s i ≡ S.Nothing → Held a (words_kept w (tokens_of (lexemes s))) o out
+  fill-held f a q =
+      let l : length (words_kept w v.done) ≡ w * n = kept-length w f v.done ∙ ap (λ y. w * y) v.number in
       record {
-        holds = λ k m h. v.written ∙ ap (λ (k : ℕ). token_words v.done ++ drop k o) (sym w) ∙ ap (λ (y : Lexemes). front (token_words (tokens_of y)) o) (sym (fill-end q));
+        holds = λ k m h. v.written ∙ ap (λ (k : ℕ). words_kept w v.done ++ drop k o) (sym l) ∙ ap (λ (y : Lexemes). front (words_kept w (tokens_of y)) o) (sym (fill-end q));
       }
 
 -- ---- behind the first token too many

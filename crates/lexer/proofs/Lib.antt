@@ -18,7 +18,10 @@ pub mod ClassDrafts
 pub mod ClassLaws
 pub mod Faults
 pub mod Fits
+pub mod FoundAgain
+pub mod FoundSteps
 pub mod Gaps
+pub mod Kept
 pub mod Moves
 pub mod Plain
 pub mod RowLaws

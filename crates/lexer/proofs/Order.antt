@@ -1,37 +1,20 @@
--- What the proofs of the entry cite: refusal 1 before the others, and what the buffer holds at the end.
+-- What the proof of the entry cites: what the buffer holds at the end.
 -- Assumes nothing.
 use mathlib.Core.List.{List, ◌++◌}
 use mathlib.Core.Path.{◌≡◌, refl, sym, ◌∙◌, ap}
-use Prim.Native.Nat.{ℕ, ◌-◌, ◌*◌, ◌≤◌, ◌<◌, ◌/◌, min}
+use Prim.Native.Nat.{ℕ, ◌-◌, ◌*◌, ◌≤◌}
 use native.Mathlib.Omega.{arith}
-use borrow.Author.Tests.{lt-ltb, le-ltb}
 use lib.ListN.{length, replicate, take}
-use Rattle.text.specs.Answers.{Answer, accepted, refused}
-use Rattle.text.specs.Refusals.{refusal_number}
-use Rattle.text.specs.declared.refusal.Refusal.TheVariants as refusal
+use Rattle.text.specs.Answers.{Answer, accepted}
 use Rattle.text.specs.Widths.{tok_wide}
 use Rattle.lexer.specs.Lexemes.{lexemes}
-use Rattle.lexer.specs.Limits.{Limits, room, meant, judged_in, lexed_of, tokens_of, token_words, content, buffer_of}
+use Rattle.lexer.specs.Limits.{Limits, meant, lexed_of, tokens_of, token_words, content, buffer_of}
 use Rattle.text.specs.Front.{Held}
 use Rattle.lexer.proofs.Fits.{words-fit, tokens-cleared}
 use Rattle.std.specs.Prelude.{Result, Ok, Err, MatchResult}
 use Rattle.text.specs.declared.refusal.Refused.{Refused}
 
 module _ (l : Limits) (s : List ℕ) (size : ℕ) where
-  pub too_long : {b : ℕ} → b ≡ l.bytes → b < length s → refused (refusal_number refusal.TooLong) b ≡ lexed_of l s size
-  unfolding lexed_of
-  too_long e h =
-      let over : l.bytes < length s = omega (arith, e, h) in
-      ap (refused (refusal_number refusal.TooLong)) e ∙ simp (lt-ltb _ _ over)
-
-  -- a draft within the bytes, with room for so many tokens
-  pub not-too-long : {b t k : ℕ} → b ≡ l.bytes → t ≡ l.tokens → length s ≤ b → k ≡ min t (size / tok_wide) → judged_in k (lexemes s) ≡ lexed_of l s size
-  unfolding lexed_of room
-  not-too-long {k = k} e f h g =
-      let within : length s ≤ l.bytes = omega (arith, e, h) in
-      let fitting : k ≡ min l.tokens (size / tok_wide) = g ∙ ap (λ (m : ℕ). min m (size / tok_wide)) f in
-      ap (λ (m : ℕ). judged_in m (lexemes s)) fitting ∙ simp (le-ltb _ _ within)
-
   pub buffer-refused : {r : Result ℕ Refused} {x : Refused} → meant r ≡ lexed_of l s size → r ≡ Err x → replicate size 0 ≡ buffer_of l s size
   unfolding buffer_of
   buffer-refused e g = ap (λ (x : Answer). content x (tokens_of (lexemes s)) size) (sym (ap meant g) ∙ e)

@@ -49,6 +49,29 @@ module _ (p : ℕ → Bool) (s : List ℕ) (j : ℕ) where
   unfolding run
   run-over h = let q : run p (drop j s) ≡ 0 = ap (run p) (drop_of_length-le s h) in omega arith
 
+-- where a run that goes on at j ends, by the byte there
+module _ (p : ℕ → Bool) (s : List ℕ) (i j : ℕ) (v : run_end p s j ≡ run_end p s i) (h : j < length s) where
+  run-goes-on : (k : ℕ) → j + 1 ≡ k → p (get_or s j 0) ≡ true → run_end p s k ≡ run_end p s i
+  run-goes-on k q e = ap (run_end p s) (sym q) ∙ run_in p s j h e ∙ v
+
+  pub run-ends : p (get_or s j 0) ≡ false → j ≡ run_end p s i
+  run-ends e = run_out p s j h e ∙ v
+
+-- the same behind one to four bytes that pass
+module _ (p : ℕ → Bool) (s : List ℕ) (i j : ℕ) (v : run_end p s j ≡ run_end p s i) (h : j + 3 < length s) where
+  pub run-behind-one : p (get_or s j 0) ≡ true → run_end p s (j + 1) ≡ run_end p s i
+  run-behind-one = run-goes-on p s i j v (omega (arith, h)) (j + 1) refl
+
+  pub run-behind-two : p (get_or s j 0) ≡ true → p (get_or s (j + 1) 0) ≡ true → run_end p s (j + 2) ≡ run_end p s i
+  run-behind-two a b = run-goes-on p s i (j + 1) (run-behind-one a) (omega (arith, h)) (j + 2) (omega arith) b
+
+  pub run-behind-three : p (get_or s j 0) ≡ true → p (get_or s (j + 1) 0) ≡ true → p (get_or s (j + 2) 0) ≡ true → run_end p s (j + 3) ≡ run_end p s i
+  run-behind-three a b c = run-goes-on p s i (j + 2) (run-behind-two a b) (omega (arith, h)) (j + 3) (omega arith) c
+
+  pub run-behind-four : p (get_or s j 0) ≡ true → p (get_or s (j + 1) 0) ≡ true → p (get_or s (j + 2) 0) ≡ true → p (get_or s (j + 3) 0) ≡ true
+      → run_end p s (j + 4) ≡ run_end p s i
+  run-behind-four a b c d = run-goes-on p s i (j + 3) (run-behind-three a b c) h (j + 4) (omega arith) d
+
 -- a run is as long as what lies before the first byte that fails
 run-position : (p : ℕ → Bool) (r : List ℕ) → run p r ≡ position_or_len (λ b. not (p b)) r
 unfolding run

@@ -7,6 +7,7 @@ pub mod Trivia
 pub mod Places
 pub mod Limits
 pub mod Buffer
+pub mod Starts
 pub mod Nesting
 pub mod Class
 pub mod Samples

@@ -90,9 +90,13 @@ too_many (tokens ts) p = refused (refusal_number refusal.TooMany) p
 abbrev pub judged : Limits → ℕ → Lexemes → Answer
 judged l size = judged_in (room l size)
 
--- the answer for a draft and a token buffer of so many words
+-- the answer for a draft with room for r tokens: refusal 1, then those
+abbrev pub lexed_in : Limits → List ℕ → ℕ → Answer
+lexed_in l draft r = cond (ltb l.bytes (length draft)) (refused (refusal_number refusal.TooLong) l.bytes) (judged_in r (lexemes draft))
+
+-- and with a token buffer of so many words
 unfoldable pub lexed_of : Limits → List ℕ → ℕ → Answer
-lexed_of l draft size = cond (ltb l.bytes (length draft)) (refused (refusal_number refusal.TooLong) l.bytes) (judged l size (lexemes draft))
+lexed_of l draft size = lexed_in l draft (room l size)
 
 -- "A token is three u32 words: kind .., start, end"
 unfoldable pub token_words : List Token → List ℕ

@@ -21,7 +21,15 @@ pub(crate) const MINUS: u8 = 13;
 
 pub(crate) const COLON: u8 = class::COLON as u8;
 
+pub(crate) const SEMI: u8 = class::SEMI as u8;
+
+pub(crate) const COMMA: u8 = class::COMMA as u8;
+
 pub(crate) const EQ: u8 = class::EQ as u8;
+
+pub(crate) const LPAREN: u8 = class::LPAREN as u8;
+
+pub(crate) const RANGLE: u8 = class::RANGLE as u8;
 
 pub(crate) const OTHER: u8 = 28;
 

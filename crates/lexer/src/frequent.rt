@@ -8,22 +8,19 @@ ghost use Rattle.std.specs.Prelude.{true, cond, eqb, None, ◌≡◌, ◌+◌, �
 ghost use Rattle.lexer.specs.Chars.{among, decimal_digits, name_starts};
 ghost use Rattle.lexer.specs.Bytes.{in_classes};
 ghost use Rattle.lexer.specs.Bytes as byte;
-ghost use Rattle.lexer.specs.Places.{IfAny, Rare};
+ghost use Rattle.lexer.specs.Places.{Named, IfAny, Rare};
 
 use crate::scan::{Name, Scanner};
 use crate::{Step, byte, classes as class};
 use text::peek;
 
 impl Scanner<'_> {
-    // A name behind which neither `!` nor `::` stands.
+    // The name up to this end, if neither `!` nor `::` stands behind it.
     #[inline(always)]
-    fn plain_name(self) -> Option<Step>
-        requires { (among name_starts (get_or self.draft.now self.at 0) ≡ true) × (in_classes byte.Underscore byte.Letter (get_or self.draft.now self.at 0) ≡ true) }
+    pub(crate) fn name_to(self, end: usize) -> Option<Step>
+        requires { Named self.draft.now self.at end }
         ensures { IfAny self.entry.draft.now self.entry.at result }
     {
-        let end = self
-            .classes
-            .run_end(self.draft, self.at + 1, byte::UNDERSCORE, byte::LETTER);
         let b = peek(self.draft, end);
         if b == b'!' {
             return None;
@@ -35,6 +32,18 @@ impl Scanner<'_> {
         }
         let name = Name { scanner: self, end };
         Some(name.word())
+    }
+
+    // A name behind which neither `!` nor `::` stands.
+    #[inline(always)]
+    fn plain_name(self) -> Option<Step>
+        requires { (among name_starts (get_or self.draft.now self.at 0) ≡ true) × (in_classes byte.Underscore byte.Letter (get_or self.draft.now self.at 0) ≡ true) }
+        ensures { IfAny self.entry.draft.now self.entry.at result }
+    {
+        let end = self
+            .classes
+            .run_end(self.draft, self.at + 1, byte::UNDERSCORE, byte::LETTER);
+        self.name_to(end)
     }
 
     // A number that does not begin with 0.
@@ -88,6 +97,18 @@ impl Scanner<'_> {
                 kind: u32::from(self.class),
                 end: self.at + 1,
             }),
+        }
+    }
+
+    // A number or a mark of these.
+    #[inline(always)]
+    pub(crate) fn number_or_mark(self) -> Option<Step>
+        ensures { IfAny self.entry.draft.now self.entry.at result }
+    {
+        match self.class {
+            byte::BINARY_DIGIT..=byte::DIGIT => self.plain_number(),
+            byte::SLASH..=byte::OTHER => self.plain_mark(),
+            _ => None,
         }
     }
 

@@ -2,9 +2,9 @@
 ghost use Rattle.std.specs.Prelude.{◌≡◌, ◌*◌, ◌≤◌, ◌<◌, ◌^◌, length, drop};
 ghost use Rattle.text.specs.Front.{Held};
 ghost use Rattle.text.specs.Refusals.{refused_by};
-ghost use Rattle.text.specs.Widths.{tok_wide};
+ghost use Rattle.lexer.specs.Buffer.{Keeps, words_kept};
 ghost use Rattle.lexer.specs.Lexemes.{lexemes, lexemes_from};
-ghost use Rattle.lexer.specs.Limits.{meant, deep, judged_in, too_many, tokens_of, token_words};
+ghost use Rattle.lexer.specs.Limits.{meant, deep, judged_in, too_many, tokens_of};
 ghost use Rattle.lexer.specs.Nesting.{known, passed_at};
 
 use crate::chars::Classes;
@@ -57,10 +57,16 @@ fn too_many(classes: &Classes, draft: &[u8], over: usize) -> Refused
 // Lexes the whole draft, in one pass: the refusals of the bytes, then too many tokens, then too deep. The first token past the room ends the loop: with its
 // place kept as an Option up to the end, names took 4 percent more instructions, digits 4.5.
 #[inline(never)]
-pub(crate) fn fill(draft: &[u8], out: &mut [u32], room: usize) -> Result<usize, Refused>
-    requires { (length draft.now < 2 ^ 32) × (tok_wide * room ≤ length out.old) }
+pub(crate) fn fill<const WORDS: usize>(
+    draft: &[u8],
+    out: &mut [u32],
+    room: usize,
+) -> Result<usize, Refused>
+    requires short { length draft.now < 2 ^ 32 }
+    requires width { Keeps WORDS }
+    requires in_bounds { WORDS * room ≤ length out.old }
     ensures result_value { meant result ≡ judged_in room (lexemes draft.now) }
-    ensures held { Held (meant result) (token_words (tokens_of (lexemes draft.now))) out.old out.new }
+    ensures held { Held (meant result) (words_kept WORDS (tokens_of (lexemes draft.now))) out.old out.new }
 {
     let classes = Classes::new();
     let mut at: usize = 0;
@@ -76,7 +82,7 @@ pub(crate) fn fill(draft: &[u8], out: &mut [u32], room: usize) -> Result<usize, 
                 }
                 nest = nest.after(kind, at);
                 // Both are less than 2 ^ 32, as is required: `u32::try_from` would have an `Err` that never comes.
-                buffer::put(out, n, kind, at as u32, end as u32);
+                buffer::put::<WORDS>(out, n, kind, at as u32, end as u32);
                 n += 1;
                 at = end;
             }

@@ -1,7 +1,7 @@
 // The lexer: from the bytes of a draft to its tokens.
 #![tactic(auto)]
 
-ghost use Rattle.std.specs.Prelude.{◌||◌, ◌≡◌, eqb, length};
+ghost use Rattle.std.specs.Prelude.{◌||◌, ◌≡◌, ◌/◌, eqb, length, min};
 ghost use Rattle.text.specs.Front.{Held};
 ghost use Rattle.text.specs.Part.{part_of};
 ghost use Rattle.lexer.specs.Classes as t;
@@ -9,7 +9,9 @@ ghost use Rattle.lexer.specs.Class.{class_of};
 ghost use Rattle.lexer.specs.ClassLaw.{ClassLaw};
 ghost use Rattle.lexer.specs.Texts.{OneToken};
 ghost use Rattle.lexer.specs.Lexemes.{lexemes};
-ghost use Rattle.lexer.specs.Limits.{limits_for, meant, lexed_of, buffer_of, tokens_of, token_words};
+ghost use Rattle.lexer.specs.Buffer.{Keeps, words_kept};
+ghost use Rattle.lexer.specs.Limits.{limits_for, meant, lexed_in, lexed_of, buffer_of, tokens_of, token_words};
+ghost use Rattle.lexer.specs.Starts.{starts_lexed, start_words};
 
 use text::TOKEN_WORDS;
 use text::refusal::{Refusal, Refused};
@@ -17,9 +19,10 @@ use words::Table;
 
 mod buffer;
 mod byte;
-mod chars;
+pub mod chars;
 pub mod classes;
 mod depth;
+pub mod found;
 mod frequent;
 mod lexing;
 pub mod scan;
@@ -35,6 +38,9 @@ pub const SMALL_TOKENS: usize = 2048;
 pub const LARGE_BYTES: usize = 1048576;
 
 pub const LARGE_TOKENS: usize = 131072;
+
+// How many words a token has where its start alone is kept (document 02, order 10).
+pub const START_WORDS: usize = 1;
 
 // The two sets of limits (document 02, order 9): the listing program and `togmelic_list` keep the small ones, all else of the library has the large ones.
 #[derive(Clone, Copy, PartialEq, Eq, Debug)]
@@ -89,10 +95,15 @@ pub fn lex(draft: &[u8], out: &mut [u32], limits: Limits) -> Result<usize, Refus
     lexed
 }
 
-// As `lex`, for a caller that needs no zeros: the words behind the tokens stay; on a refusal the words may be anything.
-pub fn lex_front(draft: &[u8], out: &mut [u32], limits: Limits) -> Result<usize, Refused>
-    ensures result_value { meant result ≡ lexed_of (limits_for limits) draft.now (length out.old) }
-    ensures held { Held (meant result) (token_words (tokens_of (lexemes draft.now))) out.old out.new }
+// Refusal 1, then what the pass over the draft finds; so many words are written a token.
+fn lex_as<const WORDS: usize>(
+    draft: &[u8],
+    out: &mut [u32],
+    limits: Limits,
+) -> Result<usize, Refused>
+    requires width { Keeps WORDS }
+    ensures result_value { meant result ≡ lexed_in (limits_for limits) draft.now (min (limits_for limits).tokens (length out.old / WORDS)) }
+    ensures held { Held (meant result) (words_kept WORDS (tokens_of (lexemes draft.now))) out.old out.new }
 {
     let bytes = limits.bytes();
     if draft.len() > bytes {
@@ -101,8 +112,24 @@ pub fn lex_front(draft: &[u8], out: &mut [u32], limits: Limits) -> Result<usize,
             place: bytes,
         });
     }
-    let room = limits.tokens().min(out.len() / TOKEN_WORDS);
-    lexing::fill(draft, out, room)
+    let room = limits.tokens().min(out.len() / WORDS);
+    lexing::fill::<WORDS>(draft, out, room)
+}
+
+// As `lex`, for a caller that needs no zeros: the words behind the tokens stay; on a refusal the words may be anything.
+pub fn lex_front(draft: &[u8], out: &mut [u32], limits: Limits) -> Result<usize, Refused>
+    ensures result_value { meant result ≡ lexed_of (limits_for limits) draft.now (length out.old) }
+    ensures held { Held (meant result) (token_words (tokens_of (lexemes draft.now))) out.old out.new }
+{
+    lex_as::<TOKEN_WORDS>(draft, out, limits)
+}
+
+// As `lex_front`, with one word a token, its start.
+pub fn lex_starts(draft: &[u8], out: &mut [u32], limits: Limits) -> Result<usize, Refused>
+    ensures result_value { meant result ≡ starts_lexed (limits_for limits) draft.now (length out.old) }
+    ensures held { Held (meant result) (start_words (tokens_of (lexemes draft.now))) out.old out.new }
+{
+    lex_as::<START_WORDS>(draft, out, limits)
 }
 
 // Whether a token of this kind may be a word that the rules single out.
@@ -112,19 +139,27 @@ fn may_be_word(kind: u32) -> bool
     matches!(kind, classes::BOOL | classes::IDENT | classes::MACRO)
 }
 
-// The class of a token that may be a word. Few tokens of such kinds are, so the kind is looked at behind the look-up. Out of line, so that others pay nothing.
-#[inline(never)]
+// The class of a token of these bytes that may be a word. Few tokens of such kinds are, so the kind is looked at behind the look-up.
+#[inline(always)]
 #[tactic(auto, using(crate::proofs::TokenClass::few_words))]
-fn word_class(draft: &[u8], kind: u32, start: usize, end: usize) -> u32
-    ensures { result ≡ class_of kind (part_of draft.now start end) }
+fn rule_word(kind: u32, text: &[u8]) -> u32
+    ensures { result ≡ class_of kind text.now }
 {
-    let Some(k) = words::word(Table::RuleWords, draft, start, end) else {
+    let Some(k) = words::which(Table::RuleWords, text) else {
         return kind;
     };
     if may_be_word(kind) {
         return classes::WORDS + u32::from(k);
     }
     kind
+}
+
+// The same by start and end, out of line, so that others pay nothing.
+#[inline(never)]
+fn word_class(draft: &[u8], kind: u32, start: usize, end: usize) -> u32
+    ensures { result ≡ class_of kind (part_of draft.now start end) }
+{
+    rule_word(kind, text::part(draft, start, end))
 }
 
 // The class of a token for the rules: its kind, or the class of the name, macro or word that it is. Marks, keywords and numbers have smaller kinds than
@@ -140,4 +175,16 @@ pub fn class(draft: &[u8], kind: u32, start: usize, end: usize) -> u32
         return kind;
     }
     word_class(draft, kind, start, end)
+}
+
+// The same of its bytes, with nothing called, for who has just found the token.
+#[inline(always)]
+#[tactic(auto, using(crate::proofs::TokenClass::small_kind))]
+fn text_class(kind: u32, text: &[u8]) -> u32
+    ensures { result ≡ class_of kind text.now }
+{
+    if kind >= classes::BOOL {
+        return rule_word(kind, text);
+    }
+    kind
 }

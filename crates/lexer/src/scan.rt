@@ -260,7 +260,7 @@ impl Scanner<'_> {
     }
 }
 
-// What stands at a place of the draft. Two loops call it: where the compiler was free to make it a call, names took 61 percent more instructions.
+// What stands at a place of the draft. Two loops and the finder have it: where the compiler was free to make it a call, names took 61 percent more instructions.
 #[inline(always)]
 pub(crate) fn step_with(classes: &Classes, draft: &[u8], at: usize) -> Step
     ensures { result ≡ step_of draft.now at }

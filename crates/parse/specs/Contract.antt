@@ -32,6 +32,7 @@ use Rattle.own.specs.declared.kind.Kind.{Kind}
 use Rattle.lexer.specs.Classes as t
 use Rattle.lexer.specs.Lexemes.{Token}
 use Rattle.lexer.specs.Limits.{large_limits}
+use Rattle.lexer.specs.Starts.{tokens_at}
 use Rattle.grammar.specs.Shapes.Shapes.{shapes}
 use Rattle.grammar.specs.Shapes.Tables.{means, table}
 use Rattle.grammar.specs.Shapes.TablesIndex.{n-arm, n-head, n-identifier, n-function_name, n-alias_name}
@@ -65,15 +66,15 @@ pub record Text : Type 0 where
 
 -- How many tokens a source has,
 abbrev pub count_of : Source → ℕ
-count_of s = length s.tokens.now
+count_of s = s.count
 
 -- the token that three words say,
 abbrev pub row_token : List ℕ → Token
 row_token v = record { kind = get_or v 0 0; start = get_or v 1 0; end = get_or v 2 0 }
 
--- those of a source,
+-- those of a source: of its rows, and then those found again at its starts,
 abbrev pub source_tokens : Source → List Token
-source_tokens s = map row_token s.tokens.now
+source_tokens s = map row_token s.rows.now ++ tokens_at s.draft.now s.starts.now
 
 -- and the draft with those.
 unfoldable pub text : Source → Text

@@ -1,11 +1,12 @@
 -- What `parse` hands over (document 01, "What the reader hands over": row 6 for a count that is too large, and from row 8 on; 19 among 9 to 14): from a
 -- draft and the words of its token buffer to the answer and every word of the tree buffer. What the draft is read as, and how many tokens there may be, are parameters.
 -- Assumes nothing: these are definitions.
-use Rattle.std.specs.Prelude.{◌≡◌, ℕ, ◌*◌, Bool, false, cond, ◌||◌, List, [], ◌∷◌, length, replicate, nat_le, nat_lt}
+use Rattle.std.specs.Prelude.{◌≡◌, ℕ, ◌*◌, Bool, false, cond, ◌||◌, List, [], ◌∷◌, length, take, replicate, nat_le, nat_lt}
 use Rattle.std.specs.Prelude.{Option, Some, None, Result, Ok, Err}
 use Rattle.std.proofs.Math.Option.{none}
 use Rattle.lexer.specs.Lexemes.{Token}
 use Rattle.lexer.specs.Buffer.{tokens_in}
+use Rattle.lexer.specs.Starts.{tokens_at}
 use Rattle.text.specs.Widths.{tok_wide, rec_wide}
 use Rattle.text.specs.Answers.{Answer, accepted, refused}
 use Rattle.text.specs.declared.refusal.Refusal.TheVariants as refusal
@@ -33,6 +34,10 @@ use Rattle.parse.specs.declared.fault.Fault.{Fault}
 unfoldable pub too_many : ℕ → ℕ → ℕ → Bool
 too_many most n tw = nat_lt most n || nat_lt tw (tok_wide * n)
 
+-- The same where the buffer of so many words has their starts alone, "one word a token" (document 02, order 10).
+unfoldable pub too_many_starts : ℕ → ℕ → ℕ → Bool
+too_many_starts most n sw = nat_lt most n || nat_lt sw n
+
 -- The code's name for an entry.
 abbrev pub entry_of : ReadAs → Entry
 entry_of Function = single_function
@@ -57,12 +62,22 @@ abbrev pub meant : ℕ → Result ℕ Refused → Answer
 meant n (Ok m) = accepted n m
 meant n (Err r) = refused_by r
 
--- The answer for a draft, its n tokens in these words, and a tree buffer of rw words. Too many tokens are refusal 6, a file that is too long is refusal 1. The
--- places of both are the lexer's to give: here they are 0, and the reader never comes to them (`not-many` and `not-long` of its laws).
+-- The answer for a draft with these tokens and a tree buffer of rw words. A file that is too long is refusal 1,
+abbrev pub answer_for : Entry → List ℕ → List Token → ℕ → Answer
+answer_for en draft ts rw = cond (too_long en (length draft)) (refused (refusal_number refusal.TooLong) 0) (fitted rw (reading_of en draft ts))
+
+-- and before that too many tokens are refusal 6. The places of both are the lexer's to give: here they are 0, and the reader never comes to them (`not-many`
+-- and `not-long` of its laws).
+abbrev pub answer_by : Bool → Entry → List ℕ → List Token → ℕ → Answer
+answer_by many en draft ts rw = cond many (refused (refusal_number refusal.TooMany) 0) (answer_for en draft ts rw)
+
+-- The answer for a draft, its n tokens in these words, and a tree buffer of rw words,
 unfoldable pub answer_of : Entry → ℕ → List ℕ → List ℕ → ℕ → ℕ → Answer
-answer_of en most draft words n rw =
-    cond (too_many most n (length words)) (refused (refusal_number refusal.TooMany) 0)
-    (cond (too_long en (length draft)) (refused (refusal_number refusal.TooLong) 0) (fitted rw (reading_of en draft (tokens_in n words))))
+answer_of en most draft words n rw = answer_by (too_many most n (length words)) en draft (tokens_in n words) rw
+
+-- and that for the tokens found again at the first n starts in these words.
+unfoldable pub starts_answer : Entry → ℕ → List ℕ → List ℕ → ℕ → ℕ → Answer
+starts_answer en most draft words n rw = answer_by (too_many_starts most n (length words)) en draft (tokens_at draft (take n words)) rw
 
 -- Every word of the tree buffer: six words a record, a seventh that is 0, and zeros behind them; otherwise zeros alone.
 unfoldable pub tree_of : Entry → ℕ → List ℕ → List ℕ → ℕ → ℕ → List ℕ

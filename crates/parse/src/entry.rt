@@ -1,12 +1,17 @@
 // From the first token to the answer: the parser's refusals in their order.
-ghost use Rattle.std.specs.Prelude.{◌≡◌, ◌*◌, ◌≤◌, false, length};
-ghost use Rattle.std.specs.Simd.{first_chunks};
+ghost use Rattle.std.specs.Prelude.{◌≡◌, ◌*◌, ◌≤◌, false, length, take};
+ghost use Rattle.text.specs.Front.{Held};
 ghost use Rattle.text.specs.Widths.{tok_wide};
-ghost use Rattle.parse.specs.Contract.{text, Ready};
-ghost use Rattle.parse.specs.Entry.{entry_of, too_many, too_long, WholeRead, Starts, place_in, ended, judged};
+ghost use Rattle.lexer.specs.Buffer.{tokens_in};
+ghost use Rattle.lexer.specs.Starts.{tokens_at};
+ghost use Rattle.own.specs.Words.{rec_words};
+ghost use Rattle.grammar.specs.Answers.Answer.{records_in};
+ghost use Rattle.parse.specs.Contract.{text, countable, count_of, source_tokens, Ready};
+ghost use Rattle.parse.specs.Entry.{entry_of, too_many, too_many_starts, too_long, WholeRead, Starts, meant, reading_of, answer_for, place_in, ended, judged};
 
 use crate::token::Source;
 use crate::{ReadAs, State, Step, file, program};
+use lexer::chars::Classes;
 use text::refusal::{Refusal, Refused};
 use text::{RECORD_WORDS, TOKEN_WORDS};
 
@@ -18,16 +23,49 @@ pub(crate) fn too_many(most: usize, count: usize, words: usize) -> bool
     most < count || words / TOKEN_WORDS < count
 }
 
+// Whether there are more than there may be, or than so many words for their starts.
+#[tactic(auto, unfolding(crate::specs::Entry::too_many_starts))]
+pub(crate) fn too_many_starts(most: usize, count: usize, words: usize) -> bool
+    ensures { result ≡ too_many_starts most count words }
+{
+    most < count || words < count
+}
+
 // The draft with so many tokens: their rows are made here once, since a look at a token that made them would divide each time.
 pub(crate) fn source<'a>(draft: &'a [u8], tokens: &'a [u32], count: usize) -> Source<'a>
     requires { tok_wide * count ≤ length tokens.now }
     ensures draft { result.draft.now ≡ draft.now }
-    ensures tokens { result.tokens.now ≡ first_chunks tok_wide count tokens.now }
+    ensures tokens { source_tokens result ≡ tokens_in count tokens.now }
+    ensures count { count_of result ≡ count }
 {
     let (rows, _) = tokens.as_chunks::<TOKEN_WORDS>();
     Source {
         draft,
-        tokens: &rows[..count],
+        rows: &rows[..count],
+        starts: &[],
+        classes: None,
+        count,
+    }
+}
+
+// The draft with so many tokens that are found again at their starts.
+pub(crate) fn lean_source<'a>(
+    draft: &'a [u8],
+    classes: &'a Classes,
+    starts: &'a [u32],
+    count: usize,
+) -> Source<'a>
+    requires { count ≤ length starts.now }
+    ensures draft { result.draft.now ≡ draft.now }
+    ensures tokens { source_tokens result ≡ tokens_at draft.now (take count starts.now) }
+    ensures count { count_of result ≡ count }
+{
+    Source {
+        draft,
+        rows: &[],
+        starts: &starts[..count],
+        classes: Some(classes),
+        count,
     }
 }
 
@@ -114,4 +152,21 @@ pub(crate) fn whole(source: &Source, tree: &mut [u32], st: State, what: ReadAs) 
         ReadAs::File => file::file(source, tree, st),
         ReadAs::Function => program::function(source, tree, st),
     }
+}
+
+// Writes the records of a draft with these tokens and says how many they are; the words behind them stay, and on a refusal the words may be anything.
+pub(crate) fn records(source: &Source, tree: &mut [u32], what: ReadAs) -> Result<usize, Refused>
+    requires { count_of source.now ≤ countable }
+    ensures answer { meant (count_of source.now) result ≡ answer_for (entry_of what) source.now.draft.now (source_tokens source.now) (length tree.old) }
+    ensures held { Held (meant (count_of source.now) result) (rec_words (records_in (reading_of (entry_of what) source.now.draft.now (source_tokens source.now)))) tree.old tree.new }
+{
+    if too_long(what, source.draft.len()) {
+        return Err(Refused {
+            refusal: Refusal::TooLong,
+            place: 0,
+        });
+    }
+    let st = start(source);
+    let step = whole(source, tree, st, what);
+    judge(source, tree.len(), step)
 }

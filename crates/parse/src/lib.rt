@@ -1,13 +1,14 @@
 // The parser of a draft: from its tokens to its records, by recursive descent. One token of look-ahead decides; nothing is tried twice.
 #![tactic(auto)]
 
-ghost use Rattle.std.specs.Prelude.{◌≡◌, length};
+ghost use Rattle.std.specs.Prelude.{◌≡◌, length, take};
 ghost use Rattle.text.specs.Front.{Held};
 ghost use Rattle.lexer.specs.Limits.{large_limits};
 ghost use Rattle.lexer.specs.Buffer.{tokens_in};
+ghost use Rattle.lexer.specs.Starts.{tokens_at};
 ghost use Rattle.own.specs.Words.{rec_words};
 ghost use Rattle.grammar.specs.Answers.Answer.{records_in};
-ghost use Rattle.parse.specs.Entry.{entry_of, meant, reading_of, answer_of, tree_of};
+ghost use Rattle.parse.specs.Entry.{entry_of, meant, reading_of, answer_of, starts_answer, tree_of};
 
 mod arms;
 mod choice;
@@ -24,6 +25,7 @@ mod tree;
 mod types;
 
 use fault::Fault;
+use lexer::chars::Classes;
 use text::RECORD_WORDS;
 use text::refusal::{Refusal, Refused};
 
@@ -89,21 +91,36 @@ pub fn parse_front(
     ensures answer { meant count result ≡ answer_of (entry_of what) large_limits.tokens draft.now tokens.now count (length tree.old) }
     ensures held { Held (meant count result) (rec_words (records_in (reading_of (entry_of what) draft.now (tokens_in count tokens.now)))) tree.old tree.new }
 {
-    // Both places are 0: the first token too many may not be in the buffer, and the reader comes to neither refusal (docs/DECISIONS.md, "Parser").
+    // The place is 0, here and of refusal 1: the first token too many may not be in the buffer, and the reader comes to neither (docs/DECISIONS.md, "Parser").
     if entry::too_many(lexer::LARGE_TOKENS, count, tokens.len()) {
         return Err(Refused {
             refusal: Refusal::TooMany,
             place: 0,
         });
     }
-    if entry::too_long(what, draft.len()) {
+    let source = entry::source(draft, tokens, count);
+    entry::records(&source, tree, what)
+}
+
+// As `parse_front`, for tokens of which there are the starts alone, one word a token: kind and end are found again from the draft.
+pub fn parse_starts(
+    draft: &[u8],
+    starts: &[u32],
+    count: usize,
+    tree: &mut [u32],
+    what: ReadAs,
+) -> Result<usize, Refused>
+    ensures answer { meant count result ≡ starts_answer (entry_of what) large_limits.tokens draft.now starts.now count (length tree.old) }
+    ensures held { Held (meant count result) (rec_words (records_in (reading_of (entry_of what) draft.now (tokens_at draft.now (take count starts.now))))) tree.old tree.new }
+{
+    if entry::too_many_starts(lexer::LARGE_TOKENS, count, starts.len()) {
         return Err(Refused {
-            refusal: Refusal::TooLong,
+            refusal: Refusal::TooMany,
             place: 0,
         });
     }
-    let source = entry::source(draft, tokens, count);
-    let st = entry::start(&source);
-    let step = entry::whole(&source, tree, st, what);
-    entry::judge(&source, tree.len(), step)
+    // The table is held once here, and lent to every look at a token.
+    let classes = Classes::new();
+    let found = entry::lean_source(draft, &classes, starts, count);
+    entry::records(&found, tree, what)
 }

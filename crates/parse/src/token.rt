@@ -1,12 +1,13 @@
 // The tokens of a draft, one by one. What every step calls is inlined, so that a state stays in registers.
-ghost use Rattle.std.specs.Prelude.{◌≡◌, ◌||◌, ◌==◌};
+ghost use Rattle.std.specs.Prelude.{◌≡◌, ◌+◌, ◌/◌, ◌%◌, ◌^◌, ◌≤◌, ◌||◌, ◌==◌, None, length};
 ghost use Rattle.lexer.specs.Classes as t;
 ghost use Rattle.text.specs.Part.{part_of};
 ghost use Rattle.num.specs.Value.{number_of};
-ghost use Rattle.parse.specs.Contract.{text, count_of, tok_at, Gives, next, Moved, Eaten, closing_class};
 
 use crate::{State, Step};
+use lexer::chars::Classes;
 use lexer::classes as class;
+use lexer::found::WORD_VALUES;
 use text::TOKEN_WORDS;
 
 // The class past the last token, where none stands; its start and its end are 0 too.
@@ -21,22 +22,31 @@ pub(crate) struct Lexeme {
     pub(crate) stop: u32,
 }
 
-// What is read: a draft and its tokens, three words each. It goes to each function beside the tree and the state. A struct that lends the tree too was tried
-// on `program::parameters`: a method by `&mut self` has to promise besides that the source stays, each answer behind a call to carry that over, and a
-// loop that reads the source by its field is refused as not covered.
+// What is read: a draft with its tokens, as rows of three words or as their starts alone; the other of the two is empty. An enum of them would be asked which
+// it is at each look at a token. It goes to each function beside the tree and the state. A struct that lends the tree too was tried on `program::parameters`:
+// a method by `&mut self` has to promise besides that the source stays, each answer behind a call to carry that over, and a loop that reads the source by its
+// field is refused as not covered.
 #[derive(Clone, Copy)]
 pub(crate) struct Source<'a> {
     pub(crate) draft: &'a [u8],
-    pub(crate) tokens: &'a [[u32; TOKEN_WORDS]],
+    pub(crate) rows: &'a [[u32; TOKEN_WORDS]],
+    pub(crate) starts: &'a [u32],
+    // by which tokens are found again, where there are starts
+    pub(crate) classes: Option<&'a Classes>,
+    pub(crate) count: usize,
+    ghost counted: { count ≡ length rows.now + length starts.now },
+    ghost lent: { classes ≡ None → length starts.now ≡ 0 },
 }
 
 impl Source<'_> {
+    ghost use Rattle.parse.specs.Contract.{text, count_of, tok_at, Gives, next, Moved, Eaten};
+
     // How many tokens there are.
     #[inline(always)]
     pub(crate) fn count(&self) -> usize
         ensures { result ≡ count_of self.now }
     {
-        self.tokens.len()
+        self.count
     }
 
     // The token of this number: its class, start and end; `END` with zeros past the last one.
@@ -45,15 +55,44 @@ impl Source<'_> {
     pub(crate) fn token(&self, at: usize) -> Lexeme
         ensures { Gives result (tok_at (text self.now) at) }
     {
-        let Some(&[kind, start, stop]) = self.tokens.get(at) else {
-            return Lexeme {
-                class: END,
-                start: 0,
-                stop: 0,
-            };
+        let Some(&[kind, start, stop]) = self.rows.get(at) else {
+            return self.found(at);
         };
         let class = lexer::class(self.draft, kind, start as usize, stop as usize);
         Lexeme { class, start, stop }
+    }
+
+    // The same where there is no row of it.
+    #[inline(always)]
+    fn found(&self, at: usize) -> Lexeme
+        requires { length self.now.rows.now ≤ at }
+        ensures { Gives result (tok_at (text self.now) at) }
+    {
+        let (start, found) = self.found_again(at);
+        Lexeme {
+            class: (found / WORD_VALUES) as u32,
+            start,
+            stop: (found % WORD_VALUES) as u32,
+        }
+    }
+
+    // The lexeme that the draft has at the token's start: the start, and its class and its end as one number. These two come back in registers, and out of line a
+    // look at a row pays nothing. In the other order the parser took six thousand bytes of stack more.
+    #[inline(never)]
+    fn found_again(&self, at: usize) -> (u32, u64)
+        requires { length self.now.rows.now ≤ at }
+        ensures { Gives (record { class = result.1 / 2 ^ 32; start = result.0; stop = result.1 % 2 ^ 32 }) (tok_at (text self.now) at) }
+    {
+        let Some(&start) = self.starts.get(at - self.rows.len()) else {
+            return (0, 0);
+        };
+        let Some(classes) = self.classes else {
+            return (0, 0);
+        };
+        (
+            start,
+            lexer::found::class_and_end(classes, self.draft, start),
+        )
     }
 
     // The state at the next token; past the last one its number stays.
@@ -61,7 +100,7 @@ impl Source<'_> {
     pub(crate) fn advance(&self, st: State) -> State
         ensures { Moved (text self.now) st result }
     {
-        let at = after(st.at, self.count());
+        let at = self.after(st.at);
         let t = self.token(at);
         State {
             at,
@@ -71,6 +110,15 @@ impl Source<'_> {
             end: st.stop,
             ..st
         }
+    }
+
+    // The number of the next token; past the last one it stays.
+    #[tactic(auto, unfolding(crate::specs::Contract::next))]
+    #[inline(always)]
+    fn after(&self, at: usize) -> usize
+        ensures { result ≡ next at (count_of self.now) }
+    {
+        if at < self.count { at + 1 } else { at }
     }
 
     // The token of this class, or a refusal at the token that stands there.
@@ -100,15 +148,6 @@ impl Source<'_> {
     }
 }
 
-// The number of the next token; past the last one it stays.
-#[tactic(auto, unfolding(crate::specs::Contract::next))]
-#[inline(always)]
-fn after(at: usize, count: usize) -> usize
-    ensures { result ≡ next at count }
-{
-    if at < count { at + 1 } else { at }
-}
-
 // The brackets of a list: `(..)` of a tuple, `[..]` of an array.
 #[derive(Clone, Copy, PartialEq, Eq, Debug)]
 pub(crate) enum Brackets {
@@ -117,6 +156,8 @@ pub(crate) enum Brackets {
 }
 
 impl Brackets {
+    ghost use Rattle.parse.specs.Contract.{closing_class};
+
     // The class that closes them.
     pub(crate) fn end(self) -> u32
         ensures { result ≡ closing_class self }

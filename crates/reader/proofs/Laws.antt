@@ -3,7 +3,7 @@
 use mathlib.Core.Bool.{Bool, true, false, cond, ◌||◌}
 use mathlib.Core.List.{List, ◌++◌}
 use mathlib.Core.Path.{◌≡◌, refl, sym, ap, ap₂, ◌∙◌}
-use Prim.Native.Nat.{ℕ, ◌-◌, ◌*◌, ◌≤◌}
+use Prim.Native.Nat.{ℕ, ◌-◌, ◌*◌, ◌≤◌, ◌<◌}
 use native.Mathlib.Omega.{arith}
 use borrow.Author.Tests.{le-ltb, lt-leb}
 use lib.Dec.{ltb}
@@ -32,7 +32,7 @@ use Rattle.grammar.specs.Answers.Answer.{toks_of, Reading, unread, read, shaped,
 use Rattle.grammar.proofs.Answers.OutcomeLaws.{lexed-within}
 use Rattle.grammar.proofs.Answers.Laws.{law-1, token-buffer-lexed, law-4-refused}
 use Rattle.parse.specs.Contract.{u32_count}
-use Rattle.parse.specs.Entry.{too_many, too_long, reading_of, answer_of}
+use Rattle.parse.specs.Entry.{too_many, too_long, reading_of, answer_by, answer_of}
 use Rattle.reader.specs.declared.Counts.{Counts}
 use Rattle.reader.specs.declared.lexed.Lexed.{Lexed}
 use Rattle.reader.specs.Read.{meant}
@@ -62,7 +62,43 @@ tokens-held l draft words old n e w =
     let ts = tokens_of (lexemes draft) in
     ap₂ (λ (k : ℕ) (u : List ℕ). tokens_in k u) (sym (lexed-fits l draft (length old) n e).0) w ∙ read-back ts (drop (length (token_words ts)) old)
 
--- The parser over the tokens that were lexed.
+-- No draft within a limit that a word holds is too long for the parser.
+pub not-long : (en : Entry) (draft : List ℕ) → length draft < u32_count → too_long en (length draft) ≡ false
+unfolding too_long
+not-long single_function draft h = refl
+not-long whole_file draft h = lt-leb u32_count (length draft) h
+
+-- The parser over the tokens ts that were lexed.
+module _ (en : Entry) (l : Limits) (draft : List ℕ) (tw rw : ℕ) {n : ℕ} (counted : lexed_of l draft tw ≡ accepted n 0) (ts : List Token) (held : ts ≡ tokens_of (lexemes draft)) where
+  its-reading : reading en l draft tw ≡ reading_of en draft ts
+  unfolding reading reading_of lexed_of
+  its-reading =
+      ap (λ (a : Answer). lexed en a draft (tokens_of (lexemes draft))) counted
+      ∙ ap (λ (ts : List Token). shaped en draft ts (shape_of en (classes_of (toks_of draft ts)))) (sym held)
+
+  its-fitted : fitted rw (reading en l draft tw) ≡ answer en l draft tw rw
+  unfolding answer
+  its-fitted = refl
+
+  -- The parser's answer is the definition's,
+  pub parsed-by : {b : Bool} → b ≡ false → too_long en (length draft) ≡ false → answer_by b en draft ts rw ≡ answer en l draft tw rw
+  parsed-by many long =
+      ap₂ (λ (b c : Bool). cond b (refused (refusal_number refusal.TooMany) 0) (cond c (refused (refusal_number refusal.TooLong) 0) (fitted rw (reading_of en draft ts)))) many long
+      ∙ ap (fitted rw) (sym its-reading) ∙ its-fitted
+
+  -- and where the draft is accepted its records, given their ways up, are at the front of the buffer.
+  pub raised-by : (old : List ℕ) {out : List ℕ} {k m : ℕ} → answer en l draft tw rw ≡ accepted k m
+      → out ≡ front (rec_words (records_in (reading_of en draft ts))) old → upward m out ≡ front (up_words (records_read en l draft tw)) old
+  unfolding records_read
+  raised-by old {out} {k} {m} a h =
+      let rs = records_in (reading en l draft tw) in
+      let many : m ≡ length rs = as-many rw (reading en l draft tw) (its-fitted ∙ a) in
+      let long : length (rec_words rs) ≡ length (up_words rs) = record-words-length rs ∙ sym (up-words-long rs) in
+      ap₂ upward many (h ∙ ap (λ (r : Reading). front (rec_words (records_in r)) old) (sym its-reading))
+      ∙ raised-words rs (drop (length (rec_words rs)) old)
+      ∙ ap (λ (j : ℕ). up_words rs ++ drop j old) long
+
+-- The same where the tokens stand in a buffer.
 module _ (en : Entry) (x : Lexed) (rw : ℕ) where
   -- within the limits that they were lexed within
   abbrev l : Limits
@@ -76,45 +112,16 @@ module _ (en : Entry) (x : Lexed) (rw : ℕ) where
       let b = h.1 in
       ap₂ (λ (u v : Bool). u || v) (le-ltb large_limits.tokens x.count (omega (arith, most-tokens x.limits))) (le-ltb (length x.words.now) (tok_wide * x.count) (omega arith))
 
-  not-long : too_long en (length x.draft.now) ≡ false
-  unfolding too_long
-  not-long = go en
-    where
-      go : (en : Entry) → too_long en (length x.draft.now) ≡ false
-      go single_function = refl
-      go whole_file = lt-leb u32_count (length x.draft.now) (omega (arith, most-bytes x.limits, lexed-short l x.draft.now (length x.words.now) x.count x.counted))
+  short : length x.draft.now < u32_count
+  short = omega (arith, most-bytes x.limits, lexed-short l x.draft.now (length x.words.now) x.count x.counted)
 
-  its-reading : reading en l x.draft.now (length x.words.now) ≡ reading_of en x.draft.now (tokens_in x.count x.words.now)
-  unfolding reading reading_of
-  its-reading =
-      ap (λ (a : Answer). lexed en a x.draft.now (tokens_of (lexemes x.draft.now))) x.counted
-      ∙ ap (λ (ts : List Token). shaped en x.draft.now ts (shape_of en (classes_of (toks_of x.draft.now ts)))) (sym x.held)
-
-  its-fitted : fitted rw (reading en l x.draft.now (length x.words.now)) ≡ answer en l x.draft.now (length x.words.now) rw
-  unfolding answer
-  its-fitted = refl
-
-  its-answer : answer en l x.draft.now (length x.words.now) rw ≡ fitted rw (reading_of en x.draft.now (tokens_in x.count x.words.now))
-  unfolding answer
-  its-answer = ap (fitted rw) its-reading
-
-  -- The parser's answer is the definition's,
   pub parsed-answer : answer_of en large_limits.tokens x.draft.now x.words.now x.count rw ≡ answer en l x.draft.now (length x.words.now) rw
   unfolding answer_of
-  parsed-answer =
-      ap₂ (λ (b c : Bool). cond b (refused (refusal_number refusal.TooMany) 0) (cond c (refused (refusal_number refusal.TooLong) 0) (fitted rw (reading_of en x.draft.now (tokens_in x.count x.words.now))))) not-many not-long ∙ sym its-answer
+  parsed-answer = parsed-by en l x.draft.now (length x.words.now) rw x.counted (tokens_in x.count x.words.now) x.held not-many (not-long en x.draft.now short)
 
-  -- and where the draft is accepted its records, given their ways up, are at the front of the buffer.
   pub parsed-raised : (old : List ℕ) {out : List ℕ} {k m : ℕ} → answer en l x.draft.now (length x.words.now) rw ≡ accepted k m
       → out ≡ front (rec_words (records_in (reading_of en x.draft.now (tokens_in x.count x.words.now)))) old → upward m out ≡ front (up_words (records_read en l x.draft.now (length x.words.now))) old
-  unfolding records_read
-  parsed-raised old {out} {k} {m} a h =
-      let rs = records_in (reading en l x.draft.now (length x.words.now)) in
-      let many : m ≡ length rs = as-many rw (reading en l x.draft.now (length x.words.now)) (its-fitted ∙ a) in
-      let long : length (rec_words rs) ≡ length (up_words rs) = record-words-length rs ∙ sym (up-words-long rs) in
-      ap₂ upward many (h ∙ ap (λ (r : Reading). front (rec_words (records_in r)) old) (sym its-reading))
-      ∙ raised-words rs (drop (length (rec_words rs)) old)
-      ∙ ap (λ (j : ℕ). up_words rs ++ drop j old) long
+  parsed-raised = raised-by en l x.draft.now (length x.words.now) rw x.counted (tokens_in x.count x.words.now) x.held
 
 module _ (en : Entry) where
   -- Of an accepted draft the tokens fit, and cleared behind them the buffer is the one that is handed over;
@@ -203,5 +210,5 @@ module _ (en : Entry) where
 
   -- What the lexer refuses is refused.
   pub lexer-refused : (l : Limits) (draft : List ℕ) (tw rw : ℕ) {c p : ℕ} → lexed_of l draft tw ≡ refused c p → answer en l draft tw rw ≡ refused c p
-  unfolding answer reading
+  unfolding answer reading lexed_of
   lexer-refused l draft tw rw e = ap (λ (x : Answer). fitted rw (lexed en x draft (tokens_of (lexemes draft)))) e

@@ -1,4 +1,5 @@
 pub mod Laws
+pub mod LeanLaws
 pub mod LineLaws
 pub mod EntryLaws
 pub mod BothLimits

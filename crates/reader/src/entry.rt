@@ -9,6 +9,7 @@ ghost use Rattle.lines.specs.Written.{used, padded};
 ghost use Rattle.grammar.specs.Entry.{whole_file};
 ghost use Rattle.grammar.specs.Answers.Answer.{answer, token_buffer, tree_buffer};
 ghost use Rattle.grammar.specs.Answers.Promised.{Promised};
+ghost use Rattle.grammar.specs.Answers.Lean.{lean_answer, start_buffer, lean_tree, lean_listing, PromisedLean, ListedAsOther};
 ghost use Rattle.grammar.specs.Answers.Lines as spec;
 ghost use Rattle.reader.specs.Listed.{HandsOver, Early, Short, written, rows_listed, listing_by, listing_of, used_of, bytes_of};
 
@@ -118,5 +119,19 @@ pub fn list_large(draft: &[u8], tokens: &mut [u32], tree: &mut [u32], out: &mut 
     ensures nothing { (result ≡ 0) ↔ (length out.old < length (spec.listing whole_file large_limits draft.now (length tokens.old) (length tree.old))) }
 {
     let reading = crate::read_file(draft, tokens, tree);
+    list_read(reading, Limits::Large, tree, out)
+}
+
+// The same with one word a token, its start: what `read_lean_file` leaves there. The listing is that of `list_large` whenever both buffers suffice.
+pub fn list_lean(draft: &[u8], starts: &mut [u32], tree: &mut [u32], out: &mut [u8]) -> usize
+    ensures used { result ≡ used (lean_listing whole_file large_limits draft.now (length starts.old) (length tree.old)) (length out.old) }
+    ensures bytes { out.new ≡ padded (lean_listing whole_file large_limits draft.now (length starts.old) (length tree.old)) (length out.old) }
+    ensures starts { starts.new ≡ start_buffer whole_file large_limits draft.now (length starts.old) (length tree.old) }
+    ensures tree { tree.new ≡ lean_tree whole_file large_limits draft.now (length starts.old) (length tree.old) }
+    ensures laws { PromisedLean whole_file large_limits draft.now (length starts.old) (length tree.old) (lean_answer whole_file large_limits draft.now (length starts.old) (length tree.old)) starts.new tree.new }
+    ensures as_other { ListedAsOther whole_file large_limits draft.now (length starts.old) (length tree.old) (length out.old) result out.new }
+    ensures nothing { (result ≡ 0) ↔ (length out.old < length (lean_listing whole_file large_limits draft.now (length starts.old) (length tree.old))) }
+{
+    let reading = crate::read_lean_file(draft, starts, tree);
     list_read(reading, Limits::Large, tree, out)
 }

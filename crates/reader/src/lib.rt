@@ -12,6 +12,7 @@ ghost use Rattle.text.specs.Answers.{values};
 ghost use Rattle.text.specs.Front.{Held};
 ghost use Rattle.grammar.specs.Answers.Answer.{answer, token_buffer, tree_buffer, records_read};
 ghost use Rattle.grammar.specs.Answers.Promised.{Promised};
+ghost use Rattle.grammar.specs.Answers.Lean.{lean_answer, start_buffer, lean_tree, PromisedLean};
 ghost use Rattle.reader.specs.Read.{meant, returned};
 
 use crate::lexed::Lexed;
@@ -22,6 +23,7 @@ use text::{RECORD_WORDS, TOKEN_WORDS};
 
 mod arrays;
 pub mod entry;
+mod lean;
 mod lexed;
 pub mod loading;
 
@@ -53,6 +55,29 @@ pub fn read_file(draft: &[u8], tokens: &mut [u32], tree: &mut [u32]) -> Result<C
     ensures laws { Promised whole_file large_limits draft.now (length tokens.old) (length tree.old) (meant result) tokens.new tree.new }
 {
     read_as(draft, tokens, tree, ReadAs::File)
+}
+
+// Reads one function and keeps one word a token, its start (document 02, order 10): the same answer, and the starts in order in the buffer for them, zeros behind
+// them. The parser finds kind and end of each token again in the draft. As many words as the draft has bytes are enough.
+pub fn read_lean(draft: &[u8], starts: &mut [u32], tree: &mut [u32]) -> Result<Counts, Refused>
+    ensures answer { meant result ≡ lean_answer single_function large_limits draft.now (length starts.old) (length tree.old) }
+    ensures values { returned result ≡ values (lean_answer single_function large_limits draft.now (length starts.old) (length tree.old)) }
+    ensures starts { starts.new ≡ start_buffer single_function large_limits draft.now (length starts.old) (length tree.old) }
+    ensures tree { tree.new ≡ lean_tree single_function large_limits draft.now (length starts.old) (length tree.old) }
+    ensures laws { PromisedLean single_function large_limits draft.now (length starts.old) (length tree.old) (meant result) starts.new tree.new }
+{
+    lean::read_as(draft, starts, tree, ReadAs::Function)
+}
+
+// Reads a file, likewise.
+pub fn read_lean_file(draft: &[u8], starts: &mut [u32], tree: &mut [u32]) -> Result<Counts, Refused>
+    ensures answer { meant result ≡ lean_answer whole_file large_limits draft.now (length starts.old) (length tree.old) }
+    ensures values { returned result ≡ values (lean_answer whole_file large_limits draft.now (length starts.old) (length tree.old)) }
+    ensures starts { starts.new ≡ start_buffer whole_file large_limits draft.now (length starts.old) (length tree.old) }
+    ensures tree { tree.new ≡ lean_tree whole_file large_limits draft.now (length starts.old) (length tree.old) }
+    ensures laws { PromisedLean whole_file large_limits draft.now (length starts.old) (length tree.old) (meant result) starts.new tree.new }
+{
+    lean::read_as(draft, starts, tree, ReadAs::File)
 }
 
 // Reads a draft as a file, or as one function; what is behind the words of both buffers is cleared, on a refusal every word. The buffers stay two parameters,

@@ -1,10 +1,12 @@
 // Reads and lists the drafts that its input gives, with buffers of the lengths that each case asks.
 // A case's numbers: the words of the token buffer, the words of the tree buffer, the bytes of the byte buffer and the bytes of the draft. Written are the
-// answers of all four entries, whether an accepted draft's records own its tokens, whether what is behind the results is zero, whether the words of one
-// function are those of the file behind its first record, the lines of the listing, and those within the large limits where they are others.
+// answers of the entries, whether an accepted draft's records own its tokens, whether what is behind the results is zero, whether the words of one function are
+// those of the file behind its first record, what the entries with the starts alone answer where they leave something else, the lines of the listing, and those
+// within the large limits where they are others.
 #![tactic(auto)]
 
 use cases::{Case, Cases, UNWRITTEN, front, is_zero, zeros};
+use lexer::Step;
 use owned::Accepted;
 use parse::ReadAs;
 use reader::Counts;
@@ -30,18 +32,60 @@ fn name(what: ReadAs) -> &'static str {
     }
 }
 
-// The answer of the entry that reads a draft as `what` says. What differs between the entries is asked at three places, here, in `name` and in `is_owned_as`:
-// closures would be three parameters of `write_reading`.
-fn read(
-    what: ReadAs,
-    draft: &[u8],
-    tokens: &mut [u32],
-    tree: &mut [u32],
-) -> Result<Counts, Refused> {
-    match what {
-        ReadAs::Function => reader::read(draft, tokens, tree),
-        ReadAs::File => reader::read_file(draft, tokens, tree),
+// What an entry leaves: its answer, its tokens as whole rows with the words behind them, and its tree.
+#[derive(Drop)]
+struct Left {
+    answer: Result<Counts, Refused>,
+    tokens: Vec<u32>,
+    tree: Vec<u32>,
+}
+
+// The entry that reads a draft as `what` says. What differs between the two is asked at four places, here, in `read_lean`, in `name` and in `is_owned_as`:
+// closures would be four parameters of `write_left`.
+fn read(alloc: Global, what: ReadAs, case: Case<'_, 4>) -> io::Result<Left> {
+    let [token_words, record_words, _, _] = case.numbers;
+    let mut tokens = vec![in alloc; UNWRITTEN.into(); token_words]?;
+    let mut tree = vec![in alloc; UNWRITTEN.into(); record_words]?;
+    let answer = match what {
+        ReadAs::Function => reader::read(case.text, &mut tokens, &mut tree),
+        ReadAs::File => reader::read_file(case.text, &mut tokens, &mut tree),
+    };
+    Ok(Left {
+        answer,
+        tokens,
+        tree,
+    })
+}
+
+// The same with the starts alone, in as many words as the other entry has for its tokens.
+fn read_lean(alloc: Global, what: ReadAs, case: Case<'_, 4>) -> io::Result<Left> {
+    let [start_words, record_words, _, _] = case.numbers;
+    let mut starts = vec![in alloc; UNWRITTEN.into(); start_words]?;
+    let mut tree = vec![in alloc; UNWRITTEN.into(); record_words]?;
+    let answer = match what {
+        ReadAs::Function => reader::read_lean(case.text, &mut starts, &mut tree),
+        ReadAs::File => reader::read_lean_file(case.text, &mut starts, &mut tree),
+    };
+    let count = answer.map_or(0, |counts| counts.tokens);
+    Ok(Left {
+        answer,
+        tokens: found_again(alloc, case.text, &starts, count)?,
+        tree,
+    })
+}
+
+// The tokens that a draft has at so many starts, as whole rows, and the words behind the starts.
+fn found_again(alloc: Global, draft: &[u8], starts: &[u32], count: usize) -> io::Result<Vec<u32>> {
+    let mut tokens = Vec::new(alloc);
+    for (place, start) in starts.iter().enumerate() {
+        if place >= count {
+            tokens.push(*start)?;
+        } else if let Step::Token { kind, end } = lexer::scan::step(draft, *start as usize) {
+            let end = u32::try_from(end).unwrap_or(u32::MAX);
+            tokens.extend_from_slice(&[kind, *start, end])?;
+        }
     }
+    Ok(tokens)
 }
 
 // What is found of an accepted draft; counts that the buffers cannot hold are wrong at once.
@@ -76,29 +120,18 @@ fn write_accepted(
     )
 }
 
-// The answer of an entry, and what is found of it; the words of the tree if the draft is accepted. `out` and `alloc` are those of `main`: a struct of them
-// and a case would be made anew for each case.
-fn write_reading(
-    out: &mut impl Write,
-    alloc: Global,
-    what: ReadAs,
-    case: Case<'_, 4>,
-) -> io::Result<Option<Vec<u32>>> {
-    let [token_words, record_words, _, _] = case.numbers;
-    let mut tokens = vec![in alloc; UNWRITTEN.into(); token_words]?;
-    let mut tree = vec![in alloc; UNWRITTEN.into(); record_words]?;
+// The answer of an entry, and what is found of it.
+fn write_left(out: &mut impl Write, what: ReadAs, draft: &[u8], left: &Left) -> io::Result<()> {
     write!(out, "{}", name(what))?;
-    match read(what, case.text, &mut tokens, &mut tree) {
+    match left.answer {
         Ok(counts) => {
             write!(out, " accepted {} {}", counts.tokens, counts.records)?;
-            write_accepted(out, what, case.text, &tokens, &tree, counts)?;
-            Ok(Some(tree))
+            write_accepted(out, what, draft, &left.tokens, &left.tree, counts)
         }
         Err(Refused { refusal, place }) => {
             // The two numbers alone, where a `Refused` is shown with a word between.
-            let all = zeros(is_zero(&tokens) && is_zero(&tree));
-            write!(out, " refused {refusal} {place} {all}")?;
-            Ok(None)
+            let all = zeros(is_zero(&left.tokens) && is_zero(&left.tree));
+            write!(out, " refused {refusal} {place} {all}")
         }
     }
 }
@@ -112,16 +145,48 @@ fn is_same_below(one: &[u32], whole: &[u32]) -> bool {
         .all(|(place, (one, other))| place == up::UP || one == other)
 }
 
-// The answers of the two entries.
+// Whether two entries leave the same, but for zeros behind the tokens.
+fn is_same(one: &Left, lean: &Left) -> bool {
+    let Some((tokens, behind)) = lean.tokens.split_at_checked(one.tokens.len()) else {
+        return false;
+    };
+    one.answer == lean.answer
+        && one.tokens.as_slice() == tokens
+        && is_zero(behind)
+        && one.tree.as_slice() == lean.tree.as_slice()
+}
+
+// What the entry with the starts alone leaves, where it is not what the other one does.
+fn write_lean(
+    out: &mut impl Write,
+    alloc: Global,
+    what: ReadAs,
+    case: Case<'_, 4>,
+    one: &Left,
+) -> io::Result<()> {
+    let lean = read_lean(alloc, what, case)?;
+    if is_same(one, &lean) {
+        return Ok(());
+    }
+    write!(out, "lean ")?;
+    write_left(out, what, case.text, &lean)?;
+    writeln!(out)
+}
+
+// The answers of the entries that read. `out` and `alloc` are those of `main`: a struct of them and a case would be made anew for each case.
 fn write_readings(out: &mut impl Write, alloc: Global, case: Case<'_, 4>) -> io::Result<()> {
-    let one = write_reading(out, alloc, ReadAs::Function, case)?;
+    let one = read(alloc, ReadAs::Function, case)?;
+    write_left(out, ReadAs::Function, case.text, &one)?;
     writeln!(out)?;
-    let whole = write_reading(out, alloc, ReadAs::File, case)?;
-    if let (Some(one), Some(whole)) = (one, whole) {
-        let same = is_same_below(&one, &whole);
+    let whole = read(alloc, ReadAs::File, case)?;
+    write_left(out, ReadAs::File, case.text, &whole)?;
+    if one.answer.is_ok() && whole.answer.is_ok() {
+        let same = is_same_below(&one.tree, &whole.tree);
         write!(out, " {}", if same { "same" } else { "NOT SAME" })?;
     }
-    writeln!(out)
+    writeln!(out)?;
+    write_lean(out, alloc, ReadAs::Function, case, &one)?;
+    write_lean(out, alloc, ReadAs::File, case, &whole)
 }
 
 // How many bytes a listing used, and whether those behind its lines are 0; its lines. More than the buffer has is wrong at once.

@@ -1,4 +1,5 @@
-// The entries for C: the listing of a draft within the small limits or the large ones, and the records of a listing. c/togmelic.h declares them.
+// The entries for C: the listing of a draft within the small limits or the large ones, there with three words a token or one, and the records of a listing.
+// c/togmelic.h declares them.
 #![tactic(auto)]
 
 ghost use Rattle.std.specs.Prelude.{◌≡◌, [], ◌∷◌, ◌↔◌, ◌<◌, length};
@@ -10,6 +11,7 @@ ghost use Rattle.load.specs.Promised.{Loads};
 ghost use Rattle.grammar.specs.Entry.{whole_file};
 ghost use Rattle.grammar.specs.Answers.Answer.{answer, token_buffer, tree_buffer};
 ghost use Rattle.grammar.specs.Answers.Promised.{Promised};
+ghost use Rattle.grammar.specs.Answers.Lean.{lean_answer, start_buffer, lean_tree, lean_listing, PromisedLean, ListedAsOther};
 ghost use Rattle.grammar.specs.Answers.Lines.{listing};
 ghost use Rattle.reader.specs.Listed.{listing_of, rows_listed, used_of, bytes_of};
 ghost use Rattle.reader.specs.Loading.{records_loaded, refusal_loaded, Refusing};
@@ -43,6 +45,25 @@ pub extern "C" fn togmelic_list_large(
     ensures nothing { (result ≡ 0) ↔ (length out.old < length (listing whole_file large_limits draft.now (length tokens.old) (length tree.old))) }
 {
     reader::entry::list_large(draft, tokens, tree, out)
+}
+
+// The same with one word a token, its start: as many words as the draft has bytes are enough for the starts.
+#[unsafe(no_mangle)]
+pub extern "C" fn togmelic_list_lean(
+    draft: &[u8],
+    starts: &mut [u32],
+    tree: &mut [u32],
+    out: &mut [u8],
+) -> usize
+    ensures used { result ≡ used (lean_listing whole_file large_limits draft.now (length starts.old) (length tree.old)) (length out.old) }
+    ensures bytes { out.new ≡ padded (lean_listing whole_file large_limits draft.now (length starts.old) (length tree.old)) (length out.old) }
+    ensures starts { starts.new ≡ start_buffer whole_file large_limits draft.now (length starts.old) (length tree.old) }
+    ensures tree { tree.new ≡ lean_tree whole_file large_limits draft.now (length starts.old) (length tree.old) }
+    ensures laws { PromisedLean whole_file large_limits draft.now (length starts.old) (length tree.old) (lean_answer whole_file large_limits draft.now (length starts.old) (length tree.old)) starts.new tree.new }
+    ensures as_other { ListedAsOther whole_file large_limits draft.now (length starts.old) (length tree.old) (length out.old) result out.new }
+    ensures nothing { (result ≡ 0) ↔ (length out.old < length (lean_listing whole_file large_limits draft.now (length starts.old) (length tree.old))) }
+{
+    reader::entry::list_lean(draft, starts, tree, out)
 }
 
 // Loads a listing: the number of records, seven words each, zeros behind them, and a refusal of 0 at line 0. Or 0, every word 0, and the refusal: C has no

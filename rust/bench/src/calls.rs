@@ -2,7 +2,6 @@
 //! the partner.
 
 use crate::times::Call;
-use partner::{Entry, Limits};
 
 /// Bytes of the buffer that is lent for a listing, and words of the one for records.
 pub const LIST_ROOM: usize = togmelic::MOST_BYTES;
@@ -44,14 +43,7 @@ pub fn short_lines(draft: &[u8]) -> Vec<u8> {
         .collect()
 }
 
-/// How many tokens the partner's lexer gives, none where it refuses the draft: for so many the buffer is long enough.
+/// How many tokens the partner's lexer gives, none where it refuses the draft.
 pub fn tokens(draft: &[u8]) -> usize {
-    let suffices = |tokens: &usize| {
-        let words = (partner::TOKEN_WORDS * tokens, LOAD_ROOM);
-        let reading = partner::read(draft, Entry::File, Limits::SMALL, words);
-        !matches!(reading, Err((partner::kinds::refusal::TOO_MANY_TOKENS, _)))
-    };
-    (0..=togmelic::MOST_LINES)
-        .find(suffices)
-        .expect("2,048 tokens at most")
+    partner::lex(draft).map_or(0, |tokens| tokens.len())
 }

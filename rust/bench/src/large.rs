@@ -1,8 +1,7 @@
-//! Drafts up to the large limits, and what is lent for them. A case is `KIND-TOKENS`, with buffers that are just long
-//! enough for the draft, or `KIND-TOKENS-full`, with those that are enough for every draft.
+//! Drafts up to the large limits. A case is `KIND-TOKENS`, with buffers that are just long enough for the draft, or
+//! `KIND-TOKENS-full`, with those that are enough for every draft.
 
 use crate::cases::{body, statements};
-use crate::times::{self, Call};
 use crate::turned::turned;
 
 /// A kind of draft, and what makes one of as many tokens as it can have, but no more than are named.
@@ -16,7 +15,7 @@ const KINDS: [Kind; 4] = [
 ];
 const TOKENS: [usize; 3] = [2_000, 20_000, partner::Limits::LARGE.tokens];
 /// The one case that is also read with buffers for every draft.
-const FULL: &str = "statements-2000-full";
+pub const FULL: &str = "statements-2000-full";
 
 /// Tokens of `fn f(){}`; of a match with another in one arm; of one without, and the `;` behind it.
 const FUNCTION: usize = 6;
@@ -74,87 +73,4 @@ fn left(tokens: usize) -> Vec<u8> {
     let nested = |calls| "Left(".repeat(calls) + "1" + &",)".repeat(calls) + ";";
     let last = nested((rest % of).saturating_sub(2) / call);
     body(&(nested(calls).repeat(rest / of) + &last))
-}
-
-/// The three buffers that are lent.
-pub struct Lent {
-    tokens: Vec<u32>,
-    tree: Vec<u32>,
-    out: Vec<u8>,
-}
-
-impl Lent {
-    /// Those of a case.
-    fn of(case: &str, draft: &[u8]) -> Lent {
-        let limits = partner::Limits::LARGE;
-        if case == FULL {
-            return Lent::with(
-                limits.tokens,
-                limits.records(),
-                partner::Form::Longer.line(),
-            );
-        }
-        let (tokens, records) = read(draft);
-        let line = partner::Form::of(&records).line();
-        Lent::with(tokens.len(), records.len(), line)
-    }
-
-    fn with(tokens: usize, records: usize, line: usize) -> Lent {
-        Lent {
-            tokens: vec![0; partner::TOKEN_WORDS * tokens],
-            tree: vec![0; partner::RECORD_WORDS * records],
-            out: vec![0; line * records],
-        }
-    }
-
-    /// A checksum of each buffer.
-    fn checksums(&self) -> [u64; 3] {
-        [
-            times::checksum(&self.tokens),
-            times::checksum(&self.tree),
-            times::checksum(&self.out),
-        ]
-    }
-}
-
-/// The proved reader's call and the partner's.
-pub const LARGE: [Call<Lent>; 2] = [list_here, list_partner];
-
-fn list_here(draft: &[u8], Lent { tokens, tree, out }: &mut Lent) -> usize {
-    togmelic::list_large(draft, tokens, tree, out).map_or(0, <[u8]>::len)
-}
-
-fn list_partner(draft: &[u8], Lent { tokens, tree, out }: &mut Lent) -> usize {
-    partner::list_large_into(draft, tokens, tree, out)
-}
-
-fn read(draft: &[u8]) -> (Vec<partner::Token>, Vec<partner::Record>) {
-    partner::read_with_room(draft, partner::Entry::File, partner::Limits::LARGE)
-        .expect("an accepted draft")
-}
-
-/// How many tokens a case has.
-pub fn size(case: &str) -> Option<String> {
-    let (tokens, _) = read(&draft(case)?);
-    Some(tokens.len().to_string())
-}
-
-/// A line for each case: its name, the time here and the partner's, in microseconds.
-pub fn times() -> Option<String> {
-    let line = |case: String| {
-        let draft = draft(&case)?;
-        let mut lent = Lent::of(&case, &draft);
-        Some(times::table(&[(case, vec![draft])], LARGE, &mut lent))
-    };
-    let lines: Option<Vec<_>> = names().into_iter().map(line).collect();
-    Some(lines?.join("\n"))
-}
-
-/// What repeated calls used of the buffer for lines, and a checksum of each buffer.
-pub fn repeated(case: &str, which: usize, repeats: u32) -> Option<String> {
-    let draft = draft(case)?;
-    let mut lent = Lent::of(case, &draft);
-    let used = times::repeat((LARGE[which], &draft), &mut lent, repeats);
-    let sums = lent.checksums().map(|sum| format!("{sum:016x}"));
-    Some(format!("{used} {}", sums.join(" ")))
 }

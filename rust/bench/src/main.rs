@@ -3,17 +3,20 @@
 //!     bench KIND CASE size                    tokens, or records
 //!     bench KIND CASE here|partner REPEATS    calls one of the two: what it used of the buffer, and a checksum
 //!     bench tokens|depth                      times over tokens and over open brackets
-//!     bench large names                       the cases of `large`, a line each
+//!     bench large|lean names                  the cases of `large`, and those of both `list` and `large`, a line each
 //! KIND is `list`, a draft in and its listing out; `load`, that listing in and its records out; or `short`, the same
 //! listing in lines of 36 bytes, without the way up. `here` is the proved reader through its entries for C, `partner` the
 //! plain Rust reader. Both are called by the same loop with the same buffer, of 84,009 bytes or 14,343 words, lent again
 //! each time. `large`, which has cases of its own (large.rs), is a draft in, and its tokens, its tree and its listing out,
-//! by the entry with the large limits, which is lent the three buffers. The checksum is taken once, after the loop, so that
-//! it cancels where two runs are subtracted.
+//! by the entry with the large limits, which is lent the three buffers. `lean` is the same by the entry that keeps the starts of tokens
+//! alone. `large-read` and `lean-read` are these without lines, so that reading alone is counted; they and `lean` read the drafts
+//! of `list` too, in buffers that are just long enough. The checksum is taken once, after the loop, so that it cancels where
+//! two runs are subtracted.
 
 mod calls;
 mod cases;
 mod large;
+mod lent;
 mod scaling;
 mod times;
 mod turned;
@@ -29,9 +32,9 @@ fn main() -> ExitCode {
         Some(lines) => println!("{lines}"),
         None => {
             eprintln!(
-                "use: bench list|load|short|large times, bench list|load|short|large CASE size, \
-                 bench list|load|short|large CASE here|partner REPEATS, bench tokens|depth, \
-                 bench large names"
+                "use: bench KIND times, bench KIND CASE size, bench KIND CASE here|partner REPEATS, \
+                 bench tokens|depth, bench large|lean names; \
+                 KIND is list, load, short, large, lean, large-read or lean-read"
             );
             return ExitCode::FAILURE;
         }
@@ -43,24 +46,46 @@ fn answer(words: &[&str]) -> Option<String> {
     match *words {
         ["tokens"] => Some(scaling::over_tokens()),
         ["depth"] => Some(scaling::over_depth()),
-        ["large", "names"] => Some(large::names().join("\n")),
-        ["large", "times"] => large::times(),
-        ["large", case, "size"] => large::size(case),
-        ["large", case, which, repeats] => {
-            large::repeated(case, place(which)?, repeats.parse().ok()?)
-        }
-        ["list", "times"] => Some(times::table(
-            &rows("list")?,
+        [kind, ref rest @ ..] => match lent::Way::of(kind) {
+            Some(way) => answer_lent(way, names(kind), rest),
+            None => answer_small(kind, rest),
+        },
+        _ => None,
+    }
+}
+
+/// The names of the cases of a kind with lent buffers.
+fn names(kind: &str) -> Vec<String> {
+    match kind {
+        "large" => large::names(),
+        _ => lent::names(),
+    }
+}
+
+fn answer_lent(way: lent::Way, names: Vec<String>, words: &[&str]) -> Option<String> {
+    match *words {
+        ["names"] => Some(names.join("\n")),
+        ["times"] => way.times(names),
+        [case, "size"] => lent::size(case),
+        [case, which, repeats] => way.repeated(case, place(which)?, repeats.parse().ok()?),
+        _ => None,
+    }
+}
+
+fn answer_small(kind: &str, words: &[&str]) -> Option<String> {
+    match *words {
+        ["times"] if kind == "list" => Some(times::table(
+            &rows(kind)?,
             LIST,
             &mut vec![0; LIST_ROOM][..],
         )),
-        [kind, "times"] => Some(times::table(
+        ["times"] => Some(times::table(
             &rows(kind)?,
             LOAD,
             &mut vec![0; LOAD_ROOM][..],
         )),
-        [kind, case, "size"] => size(kind, &cases::draft(case)?),
-        [kind, case, which, repeats] => {
+        [case, "size"] => size(kind, &cases::draft(case)?),
+        [case, which, repeats] => {
             let input = input(kind, &cases::draft(case)?)?;
             let which = place(which)?;
             let repeats = repeats.parse().ok()?;

@@ -1,21 +1,25 @@
 //! One run of comparisons: how many drafts, and the smallest that differs.
 
-use crate::answers::{Answer, Lent};
+use crate::answers::{Answer, Lengths, Lent};
 use crate::random::Random;
-use partner::{Form, RECORD_WORDS, TOKEN_WORDS};
+use partner::{Form, Limits, RECORD_WORDS, START_WORDS, TOKEN_WORDS};
 use togmelic::{LINE, MOST_BYTES};
 
-/// Of the drafts of a few bytes or lexemes, of which there are millions, one in so many is given to the large entry too.
+/// Of the drafts of a few bytes or lexemes, of which there are millions, one in so many is also given to the two entries with
+/// the large limits with buffers of other lengths than are enough.
 const FEW: usize = 8;
 
 pub struct Comparison {
     pub drafts: u64,
     pub accepted: u64,
-    /// Of the drafts, how many were given to the large entry too, with buffers of several lengths, and how many it took.
+    /// How many drafts were given to the two entries with the large limits, and how many those took.
     pub large: u64,
     pub large_accepted: u64,
+    /// How many answers with starts alone were compared with one with whole tokens, each where both had room for the tokens.
+    pub starts: u64,
     small_answers: Pair,
     large_answers: Pair,
+    lean_answers: Pair,
     random: Random,
     smallest: Option<Difference>,
 }
@@ -27,10 +31,10 @@ struct Pair {
     partner: Answer,
 }
 
+/// Two answers that should be one, each with whose it is and what was lent.
 struct Difference {
     draft: Vec<u8>,
-    lent: Lent,
-    pair: Pair,
+    answers: [(&'static str, Lent, Answer); 2],
 }
 
 impl Pair {
@@ -39,6 +43,13 @@ impl Pair {
         self.here.here(draft, lent);
         self.partner.by_partner(draft, lent);
         self.here == self.partner
+    }
+
+    fn answers(&self, lent: Lent) -> [(&'static str, Lent, Answer); 2] {
+        [
+            ("here", lent, self.here.clone()),
+            ("partner", lent, self.partner.clone()),
+        ]
     }
 }
 
@@ -49,8 +60,10 @@ impl Comparison {
             accepted: 0,
             large: 0,
             large_accepted: 0,
+            starts: 0,
             small_answers: Pair::default(),
             large_answers: Pair::default(),
+            lean_answers: Pair::default(),
             random: Random::from_bytes(b"lengths"),
             smallest: None,
         }
@@ -64,15 +77,17 @@ impl Comparison {
     pub fn check_short(&mut self, draft: &[u8]) {
         // The first line is the program's or a refusal's, and each other needs a token.
         self.check_small(draft, (LINE * (draft.len() + 1) + 40).min(MOST_BYTES));
+        self.check_enough(draft, self.small_answers.partner.used + LINE);
         if self.random.one_in(FEW) {
-            self.check_large(draft);
+            self.check_near(draft);
         }
     }
 
-    /// Compares the answers of the small entry for a byte buffer of `room` bytes, and those of the large one.
+    /// Compares the answers of the small entry for a byte buffer of `room` bytes, and those of the two with the large limits.
     pub fn check(&mut self, draft: &[u8], room: usize) {
         self.check_small(draft, room);
-        self.check_large(draft);
+        self.check_enough(draft, Lengths::enough(draft.len()).room);
+        self.check_near(draft);
     }
 
     fn check_small(&mut self, draft: &[u8], room: usize) {
@@ -81,42 +96,65 @@ impl Comparison {
         self.drafts += 1;
         self.accepted += u64::from(is_accepted(&self.small_answers.partner));
         if !agrees {
-            self.note(draft, lent, self.small_answers.clone());
+            self.note(draft, self.small_answers.answers(lent));
         }
     }
 
-    /// Compares the answers of the large entry, with buffers that are enough for every draft as long, then with others
-    /// around what this one needs.
-    fn check_large(&mut self, draft: &[u8]) {
-        let enough = Lent::enough(draft.len());
-        self.check_lent(draft, enough);
+    /// Compares the answers with the large limits, for a byte buffer of `room` bytes and words that are enough for every draft as
+    /// long.
+    fn check_enough(&mut self, draft: &[u8], room: usize) {
+        let enough = Lengths::enough(draft.len());
+        self.check_both(draft, Lengths { room, ..enough }, true);
         self.large += 1;
         self.large_accepted += u64::from(is_accepted(&self.large_answers.partner));
-        let lent = self.near(draft.len());
-        self.check_lent(draft, lent);
+    }
+
+    /// Compares them with buffers around what the draft needs; its answer with enough was the last.
+    fn check_near(&mut self, draft: &[u8]) {
+        let tokens = tokens(draft);
+        let lengths = self.near(tokens);
+        self.check_both(draft, lengths, lengths.suffice(tokens));
     }
 
     /// Compares the answers for these buffers.
-    pub fn check_lent(&mut self, draft: &[u8], lent: Lent) {
-        if !self.large_answers.ask(draft, lent) {
-            self.note(draft, lent, self.large_answers.clone());
+    pub fn check_lent(&mut self, draft: &[u8], lengths: Lengths) {
+        self.check_both(draft, lengths, lengths.suffice(tokens(draft)));
+    }
+
+    /// Compares the answers of each of the two entries, and those of the library with each other where both have room for the
+    /// tokens.
+    fn check_both(&mut self, draft: &[u8], lengths: Lengths, suffice: bool) {
+        let (large, lean) = (lengths.large(), lengths.lean());
+        if !self.large_answers.ask(draft, large) {
+            self.note(draft, self.large_answers.answers(large));
+        }
+        if !self.lean_answers.ask(draft, lean) {
+            self.note(draft, self.lean_answers.answers(lean));
+        }
+        if suffice {
+            self.starts += 1;
+            let [whole, starts] = [&self.large_answers.here, &self.lean_answers.here];
+            if !starts.has_starts_of(whole) {
+                let whole = whole.with_starts(lengths.starts);
+                let answers = [
+                    ("with starts alone", lean, starts.clone()),
+                    ("starts of whole tokens", large, whole),
+                ];
+                self.note(draft, answers);
+            }
         }
     }
 
-    /// Lengths near those that the last answer took. A refused draft leaves no tokens: any length may be what it needs.
-    fn near(&mut self, bytes: usize) -> Lent {
+    /// Lengths near those that the last answer of the large entry took.
+    fn near(&mut self, tokens: usize) -> Lengths {
         let answer = &self.large_answers.partner;
-        let [tokens, records] = answer.counts();
-        let (used, width) = (answer.used, Form::Longer.line());
-        let tokens = match records {
-            0 => self.random.below(bytes + 2),
-            _ => tokens,
-        };
-        Lent::Large([
-            self.near_length(TOKEN_WORDS * tokens, TOKEN_WORDS),
-            self.near_length(RECORD_WORDS * records.max(1), RECORD_WORDS),
-            self.near_length(used, width),
-        ])
+        let (records, used) = (answer.records().max(1), answer.used);
+        Lengths {
+            tokens: self.near_length(TOKEN_WORDS * tokens, TOKEN_WORDS),
+            starts: self.near_length(START_WORDS * tokens, START_WORDS),
+            tree: self.near_length(RECORD_WORDS * records, RECORD_WORDS),
+            room: self.near_length(used, Form::Longer.line()),
+        }
     }
 
     /// Mostly enough, so that one length that is not hides no other; else too little by a bit, by one element or by more.
@@ -144,31 +182,42 @@ impl Comparison {
     }
 
     /// Keeps a difference if its draft is the smallest so far.
-    fn note(&mut self, draft: &[u8], lent: Lent, pair: Pair) {
+    fn note(&mut self, draft: &[u8], answers: [(&'static str, Lent, Answer); 2]) {
         let smallest = self.smallest.as_ref();
         if smallest.is_none_or(|found| draft.len() < found.draft.len()) {
             self.smallest = Some(Difference {
                 draft: draft.to_vec(),
-                lent,
-                pair,
+                answers,
             });
         }
     }
 
     /// Writes the smallest difference, if there is one, to standard error.
     pub fn show_difference(&self) {
-        let Some(Difference { draft, lent, pair }) = &self.smallest else {
+        let Some(Difference { draft, answers }) = &self.smallest else {
             return;
         };
-        eprintln!("compare: {} bytes of draft, {lent:?}:", draft.len());
+        eprintln!("compare: {} bytes of draft:", draft.len());
         eprintln!("{}", draft.escape_ascii());
-        pair.here.show("here", *lent);
-        pair.partner.show("partner", *lent);
-        pair.here.show_first_differences(&pair.partner);
+        for (whose, lent, answer) in answers {
+            eprintln!("compare: {whose}: {lent:?}");
+            answer.show(whose, *lent);
+        }
+        let [(_, _, one), (_, _, other)] = answers;
+        one.show_first_differences(other);
     }
 }
 
 /// Whether there are lines that are not a refusal's.
 fn is_accepted(answer: &Answer) -> bool {
     answer.used > 0 && !answer.listing().starts_with(b"00")
+}
+
+/// How many tokens a draft has that count against room for them: none where its bytes refuse it, so that there is no such thing as too
+/// little room.
+fn tokens(draft: &[u8]) -> usize {
+    match draft.len() > Limits::LARGE.bytes {
+        true => 0,
+        false => partner::lex(draft).map_or(0, |tokens| tokens.len()),
+    }
 }

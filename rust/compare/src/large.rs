@@ -1,14 +1,16 @@
 //! Drafts at the large limits, and on both sides of numbers of four digits in each field, with the listings of those that
 //! are accepted; and listings of few lines with such numbers.
 
-use crate::answers::Lent;
+use crate::answers::Lengths;
 use crate::comparison::Comparison;
 use crate::damage::LARGEST;
 use crate::limits::{at_limits, body};
 use crate::listings;
 use crate::loading::Loading;
 use crate::random::Random;
-use partner::{write_in, write_lines, Form, Limits, Record, RECORD_WORDS};
+use partner::{
+    write_in, write_lines, Form, Limits, Record, RECORD_WORDS, START_WORDS, TOKEN_WORDS,
+};
 use std::ops::RangeInclusive;
 use togmelic::MOST_BYTES;
 
@@ -42,7 +44,7 @@ pub fn check(draft: &[u8], drafts: &mut Comparison, listings: &mut Loading, rand
 }
 
 /// Ends and starts on both sides: of the file, of an item and of a token, and a refusal's place.
-fn ends() -> Vec<String> {
+pub fn ends() -> Vec<String> {
     let item = "type A=u8;";
     let around = |at: usize| {
         let blanks = " ".repeat(at);
@@ -113,26 +115,30 @@ fn exchanged() -> Vec<String> {
     (0..=8).flat_map(around).collect()
 }
 
-/// The draft with the most records for its tokens and one that is refused, with each length of the three buffers at what
-/// is needed, one less and one more.
+/// The draft with the most records for its tokens and one that is refused, with each length of the buffers at what is
+/// needed, one less and one more; those for tokens and for their starts take turns.
 fn buffers(drafts: &mut Comparison) {
     let most = format!("fn f({}){{}}", "a:b,".repeat(32_766));
-    let needed = [3 * 131_070, 7 * 98_302, 49 * 98_302];
-    for lengths in near(needed) {
-        drafts.check_lent(most.as_bytes(), Lent::Large(lengths));
-    }
+    check_lengths(&most, [131_070, 7 * 98_302, 49 * 98_302], drafts);
     let marks = ";".repeat(131_072);
-    for lengths in near([3 * 131_072, 7, 49]) {
-        drafts.check_lent(marks.as_bytes(), Lent::Large(lengths));
-    }
+    check_lengths(&marks, [131_072, 7, 49], drafts);
 }
 
-fn near([tokens, tree, room]: [usize; 3]) -> Vec<[usize; 3]> {
+fn check_lengths(draft: &str, [count, tree, room]: [usize; 3], drafts: &mut Comparison) {
     let near = |length: usize| length - 1..=length + 1;
-    near(tokens)
-        .flat_map(|tokens| near(tree).map(move |tree| [tokens, tree]))
-        .flat_map(|[tokens, tree]| near(room).map(move |room| [tokens, tree, room]))
-        .collect()
+    for (tokens, starts) in near(TOKEN_WORDS * count).zip(near(START_WORDS * count)) {
+        for tree in near(tree) {
+            for room in near(room) {
+                let lengths = Lengths {
+                    tokens,
+                    starts,
+                    tree,
+                    room,
+                };
+                drafts.check_lent(draft.as_bytes(), lengths);
+            }
+        }
+    }
 }
 
 /// The records of a file of a type and a function with one word, or two, of every telling value, in each form.

@@ -6,6 +6,14 @@ use std::ops::RangeInclusive;
 use togmelic::{LINE, MOST_BYTES};
 
 pub fn all(comparison: &mut Comparison) {
+    for draft in drafts() {
+        comparison.check(draft.as_bytes(), MOST_BYTES);
+    }
+    buffers(comparison);
+}
+
+/// The drafts at each limit, that of bytes and that of tokens being the small ones.
+pub fn drafts() -> Vec<String> {
     let drafts = [
         at_limits(Limits::SMALL).concat(),
         brackets(),
@@ -13,10 +21,7 @@ pub fn all(comparison: &mut Comparison) {
         numbers(),
         nested_files(),
     ];
-    for draft in drafts.iter().flatten() {
-        comparison.check(draft.as_bytes(), MOST_BYTES);
-    }
-    buffers(comparison);
+    drafts.concat()
 }
 
 /// Functions and files with as many bytes and tokens as the limits allow, or one fewer, or one or two more.

@@ -4,6 +4,7 @@
 //!   lexemes   every string of a few lexemes, in telling surroundings
 //!   utf8      every string of a few bytes in comments, every character, and sequences that are nearly UTF-8
 //!   limits    drafts at each limit, and buffers of every length
+//!   rooms     drafts of some size with buffers for tokens and for their starts of every length around what either takes
 //!   faults    array lengths around 64 bits, and several of the refusals 9 to 14 and 19 in one draft
 //!   files     names of types that are reserved or nearly so, and files of 0 to 30 items, whole and damaged
 //!   stream    the drafts on standard input: length, line end, bytes
@@ -12,8 +13,10 @@
 //!   large     drafts at the large limits and around numbers of four digits, and the listings of those that are accepted
 //!   contracts SEED COUNT
 //!             so many random files of up to a megabyte, some over the limits and some damaged, and their listings
-//! Of the drafts that go through the small entry some or all go through the large one too, with buffers of several
-//! lengths. Listings are compared in all three forms, of 36, 41 and 49 bytes a line, and with lines of several.
+//! Every draft that goes through the small entry goes through the two with the large limits too, that which keeps whole tokens
+//! and that which keeps their starts alone, some or all of them with buffers of several lengths. The library's answers by these
+//! two are compared with each other as well, wherever both have room for the tokens. Listings are compared in all three forms,
+//! of 36, 41 and 49 bytes a line, and with lines of several.
 //! Writes one line a run and the total. After a difference, the smallest such draft or listing stands on standard
 //! error.
 
@@ -30,6 +33,7 @@ mod limits;
 mod listings;
 mod loading;
 mod random;
+mod rooms;
 mod shapes;
 mod strings;
 mod trees;
@@ -40,11 +44,13 @@ use loading::Loading;
 use std::io::Read;
 use std::process::ExitCode;
 
-/// Drafts compared at the small entry, drafts compared at the large one and listings, and how many of each were accepted.
+/// Drafts compared at the small entry, drafts compared at those with the large limits and listings, and how many of each were
+/// accepted; and how many answers with starts alone were compared with one with whole tokens.
 #[derive(Default)]
 struct Total {
     drafts: [u64; 2],
     large: [u64; 2],
+    starts: u64,
     listings: [u64; 2],
     differs: bool,
 }
@@ -61,12 +67,13 @@ fn main() -> ExitCode {
     let Total {
         drafts: [drafts, accepted],
         large: [large, large_accepted],
+        starts,
         listings: [listings, loaded],
         differs,
     } = total;
     println!(
         "compare: total: {drafts} drafts, {accepted} accepted, {large} within the large limits, {large_accepted} accepted, \
-         {listings} listings, {loaded} accepted"
+         {starts} with starts alone, {listings} listings, {loaded} accepted"
     );
     // No draft and no listing at all is no comparison.
     ExitCode::from(u8::from(differs || drafts + listings == 0))
@@ -81,6 +88,7 @@ impl Total {
             "lexemes" => lexemes::all(&mut drafts),
             "utf8" => utf8::all(&mut drafts),
             "limits" => limits::all(&mut drafts),
+            "rooms" => rooms::all(&mut drafts),
             "faults" => faults::all(&mut drafts),
             "files" => files::all(&mut drafts),
             "stream" => stream(&mut drafts)?,
@@ -105,15 +113,16 @@ impl Total {
 
     fn add_drafts(&mut self, name: &str, run: &Comparison) {
         let (drafts, accepted) = (run.drafts, run.accepted);
-        let (large, large_accepted) = (run.large, run.large_accepted);
+        let (large, large_accepted, starts) = (run.large, run.large_accepted, run.starts);
         let answer = answer(run.agrees());
         println!(
             "compare: {name}: {drafts} drafts, {accepted} accepted, \
-             {large} within the large limits, {large_accepted} accepted, {answer}"
+             {large} within the large limits, {large_accepted} accepted, {starts} with starts alone, {answer}"
         );
         run.show_difference();
         add(&mut self.drafts, [drafts, accepted]);
         add(&mut self.large, [large, large_accepted]);
+        self.starts += starts;
         self.differs |= !run.agrees();
     }
 

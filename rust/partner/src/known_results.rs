@@ -1,7 +1,10 @@
 //! The drafts of `cases.txt` and `large.txt`, each compared with its stated result.
 
 use crate::lexer::lex;
-use crate::{list_into, list_large_into, listing, read, read_with_room, Entry, Limits, Reading};
+use crate::{
+    list_into, list_large_into, list_lean_into, listing, read, read_lean, read_with_room, Entry,
+    Limits, Reading,
+};
 
 /// Drafts, and within which limits they are read.
 const CASES: [(&str, Limits); 2] = [
@@ -17,8 +20,10 @@ pub fn failures() -> usize {
         .fold((0, 0), |sum, more| (sum.0 + more.0, sum.1 + more.1));
     for (name, holds) in [
         ("words of the buffers", words_hold()),
+        ("words of the buffers with starts alone", start_words_hold()),
         ("the small listing in a buffer", small_holds()),
         ("the large listing in buffers", large_holds()),
+        ("the listing in buffers with starts alone", lean_holds()),
     ] {
         run += 1;
         if !holds {
@@ -167,11 +172,54 @@ fn words_hold() -> bool {
     })
 }
 
+/// Of starts alone a token takes a word: 6 at the first that has none, over the words or the limit, whichever is less.
+fn start_words_hold() -> bool {
+    let too_large = b"fn f()->[b;18446744073709551616]{}";
+    [Limits::SMALL, Limits::LARGE].into_iter().all(|limits| {
+        let read = |draft: &[u8], entry, words| read_lean(draft, entry, limits, words);
+        let starts = [0, 3, 4, 5, 6, 7];
+        let each_start = (0..6).all(|words| {
+            let refused = Err((6, starts[words]));
+            read(b"fn f(){}", Entry::Function, (words, 0)) == refused
+                && read(b"fn f(){}", Entry::File, (words, 28)) == refused
+        });
+        let tokens_first = |entry| {
+            read(too_large, entry, (11, 0)) == Err((6, 33))
+                && read(too_large, entry, (12, 0)) == Err((19, 11))
+        };
+        let just_enough = |entry, draft, starts, tree| {
+            read(draft, entry, (starts, tree)).is_ok()
+                && read(draft, entry, (starts, tree - 1)) == Err((15, 0))
+        };
+        let most = limits.tokens;
+        let marks = b";".repeat(most + 1);
+        each_start
+            && tokens_first(Entry::Function)
+            && tokens_first(Entry::File)
+            && just_enough(Entry::Function, b"fn f(){}", 6, 21)
+            && just_enough(Entry::File, b"fn f(){}", 6, 28)
+            && just_enough(Entry::File, b"type A=u8;", 5, 28)
+            && just_enough(Entry::File, b" ", 0, 7)
+            && read(&marks, Entry::File, (most + 1, 0)) == Err((6, most))
+            && read(&marks[..most], Entry::File, (most, 0)) == Err((8, 0))
+            && read(&marks[..most], Entry::File, (most - 1, 0)) == Err((6, most - 1))
+    })
+}
+
 /// The lines of `fn f(){}`: 164 bytes.
 const LINES: &[u8] = b"29 0000 0008 00000000 00000000 0004 0000\n\
     01 0000 0008 00000000 00000000 0003 0001\n\
     02 0003 0004 00000000 00000000 0001 0001\n\
     12 0006 0008 00000000 00000000 0001 0002\n";
+
+/// Its records: 28 words.
+#[rustfmt::skip]
+const TREE: [u32; 28] = [
+    41, 0, 8, 0, 0, 4, 0,
+    1, 0, 8, 0, 0, 3, 1,
+    2, 3, 4, 0, 0, 1, 1,
+    18, 6, 8, 0, 0, 1, 2,
+];
 
 /// What the small entry leaves in a buffer that fits, that is too short by a byte, and that is longer.
 fn small_holds() -> bool {
@@ -200,13 +248,7 @@ fn large_holds() -> bool {
         [25, 7, 8],
     ]
     .concat();
-    let tree = [
-        [41, 0, 8, 0, 0, 4, 0],
-        [1, 0, 8, 0, 0, 3, 1],
-        [2, 3, 4, 0, 0, 1, 1],
-        [18, 6, 8, 0, 0, 1, 2],
-    ]
-    .concat();
+    let tree = TREE.to_vec();
     let draft = b"fn f(){}";
     let too_many = b"00 0007 0007 00000006 00000000 0001 0000\n".to_vec();
     let too_small = b"00 0000 0000 0000000F 00000000 0001 0000\n".to_vec();
@@ -227,6 +269,38 @@ fn large_holds() -> bool {
         && listed(draft, [18, 27, 41]) == (41, zeros(18), zeros(27), too_small)
         && listed(&over, [0, 0, 49]) == (49, vec![], vec![], too_long)
         && listed(&over, [5, 9, 48]) == (0, zeros(5), zeros(9), vec![0; 48])
+}
+
+/// The same with starts alone, in buffers of no length, too short by one, just enough and longer.
+fn lean_holds() -> bool {
+    let listed = |draft: &[u8], [starts, tree, room]: [usize; 3]| {
+        let (mut starts, mut tree, mut out) = (vec![7; starts], vec![7; tree], vec![b'x'; room]);
+        let used = list_lean_into(draft, &mut starts, &mut tree, &mut out);
+        (used, starts, tree, out)
+    };
+    let starts = vec![0, 3, 4, 5, 6, 7];
+    let tree = TREE.to_vec();
+    let draft = b"fn f(){}";
+    let none_fits = b"00 0000 0000 00000006 00000000 0001 0000\n".to_vec();
+    let last_too_many = b"00 0007 0007 00000006 00000000 0001 0000\n".to_vec();
+    let too_small = b"00 0000 0000 0000000F 00000000 0001 0000\n".to_vec();
+    let not_closed = b"00 0007 0007 00000008 00000000 0001 0000\n".to_vec();
+    let zeros = |count: usize| vec![0; count];
+    listed(draft, [6, 28, 164]) == (164, starts.clone(), tree.clone(), LINES.to_vec())
+        && listed(draft, [8, 29, 165])
+            == (
+                164,
+                [starts.clone(), zeros(2)].concat(),
+                [tree.clone(), zeros(1)].concat(),
+                [LINES, &[0]].concat(),
+            )
+        // Only the lines do not fit.
+        && listed(draft, [6, 28, 163]) == (0, starts, tree, vec![0; 163])
+        && listed(draft, [0, 28, 41]) == (41, vec![], zeros(28), none_fits)
+        && listed(draft, [5, 28, 41]) == (41, zeros(5), zeros(28), last_too_many)
+        && listed(draft, [6, 27, 41]) == (41, zeros(6), zeros(27), too_small)
+        && listed(&draft[..7], [5, 0, 41]) == (41, zeros(5), vec![], not_closed)
+        && listed(b" ", [0, 7, 40]) == (0, vec![], vec![41, 0, 1, 0, 0, 1, 0], vec![0; 40])
 }
 
 #[test]

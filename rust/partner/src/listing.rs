@@ -1,7 +1,7 @@
 //! The listing of a file: one line a record, or one line for a refusal. A line has seven words, in one of two widths for
 //! all lines of a listing, or as it was before the way up the first six.
 
-use crate::{read, read_with_room, Entry, Limits, Reading, Record};
+use crate::{read, read_lean, read_with_room, Entry, Limits, Reading, Record, Token};
 
 /// The form of a line: upper-case hexadecimal digits, one space between words, a line end after.
 #[derive(Clone, Copy, Debug, PartialEq, Eq)]
@@ -94,12 +94,32 @@ pub fn list_large_into(
         Limits::LARGE,
         (tokens.len(), tree.len()),
     );
-    let (read_tokens, records) = match &reading {
-        Ok((read_tokens, records)) => (read_tokens.as_flattened(), records.as_flattened()),
-        Err(_) => Default::default(),
-    };
-    copy_into(tokens, read_tokens);
-    copy_into(tree, records);
+    copy_into(tokens, tokens_of(&reading).as_flattened());
+    write_reading(reading, tree, out)
+}
+
+/// The same where of each token the start alone is kept, in one word.
+pub fn list_lean_into(draft: &[u8], starts: &mut [u32], tree: &mut [u32], out: &mut [u8]) -> usize {
+    let reading = read_lean(
+        draft,
+        Entry::File,
+        Limits::LARGE,
+        (starts.len(), tree.len()),
+    );
+    let kept: Vec<u32> = tokens_of(&reading).iter().map(|token| token[1]).collect();
+    copy_into(starts, &kept);
+    write_reading(reading, tree, out)
+}
+
+/// The tokens of an accepted draft.
+fn tokens_of(reading: &Reading) -> &[Token] {
+    reading.as_ref().map_or(&[], |(tokens, _)| tokens)
+}
+
+/// The records of an accepted draft in the tree buffer, zeros behind them, and the lines where they fit.
+fn write_reading(reading: Reading, tree: &mut [u32], out: &mut [u8]) -> usize {
+    let records: &[Record] = reading.as_ref().map_or(&[], |(_, records)| records);
+    copy_into(tree, records.as_flattened());
     fit_into(out, &lines(reading))
 }
 

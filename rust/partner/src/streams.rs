@@ -1,8 +1,8 @@
 //! Streams of drafts and of listings on standard input, with one answer after the other.
 
 use crate::{
-    list_into, list_large_into, listing, load, read, write_in, write_lines, Entry, Form, Limits,
-    Reading, Record, Words,
+    list_into, list_large_into, listing, load, read, read_lean, write_in, write_lines, Entry, Form,
+    Limits, Reading, Record, Words,
 };
 
 /// The listings of a stream of drafts: length, line end, bytes, both ways.
@@ -26,8 +26,9 @@ pub fn next_draft<'a>(stream: &mut &'a [u8]) -> Option<&'a [u8]> {
 /// The answers to a stream of cases. A case is a line of four numbers, the words of the token
 /// buffer, the words of the tree buffer, the bytes of the byte buffer and the bytes of the draft;
 /// then the draft and a line end. Answered are the draft read as one function and as a file, both
-/// within the large limits, the listing within the small ones, and that within the large ones, whose
-/// lines are left out where they are the same.
+/// within the large limits; the same by the entries that keep the starts alone, in as many words as
+/// the others have for tokens, where they answer something else; the listing within the small limits,
+/// and that within the large ones, whose lines are left out where they are the same.
 pub fn cases(mut stream: &[u8]) -> Option<Vec<u8>> {
     let mut answers = Vec::new();
     while !stream.is_empty() {
@@ -37,6 +38,7 @@ pub fn cases(mut stream: &[u8]) -> Option<Vec<u8>> {
             return None;
         }
         add_readings(&mut answers, draft, (token_words, tree_words));
+        add_lean(&mut answers, draft, (token_words, tree_words));
         add_listings(&mut answers, draft, (token_words, tree_words), room);
     }
     Some(answers)
@@ -50,6 +52,15 @@ fn add_readings(answers: &mut Vec<u8>, draft: &[u8], words: Words) {
         format!("file {}{}\n", answer(&file), sameness(&function, &file)),
     ];
     answers.extend_from_slice(lines.concat().as_bytes());
+}
+
+fn add_lean(answers: &mut Vec<u8>, draft: &[u8], words: Words) {
+    for (name, entry) in [("function", Entry::Function), ("file", Entry::File)] {
+        let lean = read_lean(draft, entry, Limits::LARGE, words);
+        if lean != read(draft, entry, Limits::LARGE, words) {
+            answers.extend_from_slice(format!("lean {name} {}\n", answer(&lean)).as_bytes());
+        }
+    }
 }
 
 fn add_listings(answers: &mut Vec<u8>, draft: &[u8], (tokens, tree): Words, room: usize) {

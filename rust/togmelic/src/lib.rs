@@ -10,10 +10,11 @@
 //!
 //! [`list`], [`listing`] and [`read`] take drafts of up to 16,384 bytes and 2,048 tokens, [`Limits::Small`].
 //! [`list_large`] takes 1,048,576 bytes and 131,072 tokens, [`Limits::Large`], for contracts that a program generates, and
-//! [`listing_within`] and [`read_within`] take either, as they are told.
+//! [`listing_within`] and [`read_within`] take either, as they are told. [`list_lean`] is [`list_large`] with one word a
+//! token in place of three, for a server that holds many drafts.
 //!
-//! [`list`], [`list_large`] and [`load_into`] write into lent buffers and allocate nothing; the others bring their own. Each
-//! of them may be called with any bytes and from any thread, and no answer depends on an earlier call.
+//! [`list`], [`list_large`], [`list_lean`] and [`load_into`] write into lent buffers and allocate nothing; the others bring
+//! their own. Each of them may be called with any bytes and from any thread, and no answer depends on an earlier call.
 //! Within the small limits the reader keeps its tokens and its tree on the stack, and it calls itself for what is nested:
 //! the deepest drafts take less than 400,000 bytes, so lend its thread 1 MiB. Within the large limits tokens and tree are not
 //! on the stack, and it takes up to 320,000 bytes, however long the draft is. Loading takes less than 4,096 bytes, however
@@ -53,6 +54,7 @@
 //! ```
 
 mod kinds;
+mod lent;
 mod limits;
 mod lines;
 mod load;
@@ -62,12 +64,13 @@ mod refusal;
 mod within;
 
 pub use kinds::{Alias, Arm, Call, Kind};
+pub use lent::{list_large, list_lean};
 pub use limits::Limits;
 pub use lines::{records, NoRecord};
 pub use load::{load, load_into, RECORD_WORDS};
 pub use record::{holders, records_in, Record};
 pub use refusal::{LoadRefusal, Refusal};
-pub use within::{list_large, listing_within, read_within};
+pub use within::{listing_within, read_within};
 
 /// Bytes of the longest draft that [`list`], [`listing`] and [`read`] take; one with more is refused with 1.
 pub const MOST_DRAFT: usize = Limits::Small.bytes();
@@ -75,10 +78,12 @@ pub const MOST_DRAFT: usize = Limits::Small.bytes();
 pub const LINE: usize = 41;
 /// Bytes of a line as it was written before records had the way up; [`load`] takes such lines too.
 pub const SHORT_LINE: usize = 36;
-/// Bytes of a line of [`list_large`] where four digits do not hold every start, end, size and way up of its listing.
+/// Bytes of a line of [`list_large`] and [`list_lean`] where four digits do not hold every start, end, size and way up of its listing.
 pub const LONG_LINE: usize = 49;
 /// Words of a token: kind, start, end.
 pub const TOKEN_WORDS: usize = 3;
+/// Words of a token of which [`list_lean`] keeps the start alone.
+pub const START_WORDS: usize = 1;
 /// No listing of [`list`] has more lines: one for each of 2,048 tokens at most, and the program's.
 pub const MOST_LINES: usize = Limits::Small.lines();
 /// A buffer of so many bytes is enough for every listing of [`list`].

@@ -1,6 +1,6 @@
 //! The two sets of limits, and what is enough for a draft within one of them.
 
-use crate::{LINE, LONG_LINE, RECORD_WORDS, TOKEN_WORDS};
+use crate::{LINE, LONG_LINE, RECORD_WORDS, START_WORDS, TOKEN_WORDS};
 
 /// How large a draft may be. There are these two sets and no others: whoever reads drafts of a server that has the small
 /// ones must get its answers, and no number makes them so. The other limits, 48 open brackets and 8 `match` in a row, are
@@ -26,7 +26,7 @@ pub enum Limits {
     /// [`read`](crate::read), and of each server that calls `togmelic_list`.
     Small,
     /// 1,048,576 bytes and 131,072 tokens, for contracts that a program generates: those of
-    /// [`list_large`](crate::list_large).
+    /// [`list_large`](crate::list_large) and [`list_lean`](crate::list_lean).
     Large,
 }
 
@@ -55,6 +55,19 @@ impl Limits {
     /// So many words are enough for the tokens of a draft of so many bytes.
     pub const fn token_words(self, draft_bytes: usize) -> usize {
         TOKEN_WORDS * self.most_tokens(draft_bytes)
+    }
+
+    /// So many words are enough for the starts of the tokens of a draft of so many bytes: one for each byte, or for each of
+    /// the tokens that there may be.
+    ///
+    /// ```
+    /// use togmelic::Limits;
+    ///
+    /// assert_eq!(Limits::Large.start_words(1_000), 1_000);
+    /// assert_eq!(Limits::Large.start_words(usize::MAX), 131_072);
+    /// ```
+    pub const fn start_words(self, draft_bytes: usize) -> usize {
+        START_WORDS * self.most_tokens(draft_bytes)
     }
 
     /// So many words are enough for the tree of a draft of so many bytes.

@@ -8,8 +8,8 @@ use std::fmt;
 pub enum NoRecord {
     /// The line of a refusal, kind 00: the draft was refused, and has no records.
     Refused(Refusal),
-    /// The number, from 1, of a line that is not as [`list`](crate::list) or [`list_large`](crate::list_large) writes one, or
-    /// has a kind that is none.
+    /// The number, from 1, of a line that is not as [`list`](crate::list), [`list_large`](crate::list_large) or
+    /// [`list_lean`](crate::list_lean) writes one, or has a kind that is none.
     BadLine(usize),
 }
 
@@ -24,11 +24,11 @@ impl fmt::Display for NoRecord {
 
 impl std::error::Error for NoRecord {}
 
-/// The records of the lines that [`list`](crate::list) or [`list_large`](crate::list_large) answers, one by one and without
-/// an allocation. They may be any bytes: the first line tells whether all are of [`LINE`] or of [`LONG_LINE`] bytes, each
-/// line is looked at alone, and behind the first that gives no record nothing follows. Whether the records are
-/// a tree is not looked at, nor whether long lines are needed; for a listing from elsewhere, such as a file, use
-/// [`load`](crate::load), which also takes lines of 36 bytes.
+/// The records of the lines that [`list`](crate::list), [`list_large`](crate::list_large) or
+/// [`list_lean`](crate::list_lean) answers, one by one and without an allocation. They may be any bytes: the first line tells
+/// whether all are of [`LINE`] or of [`LONG_LINE`] bytes, each line is looked at alone, and behind the first that gives no
+/// record nothing follows. Whether the records are a tree is not looked at, nor whether long lines are needed; for a listing
+/// from elsewhere, such as a file, use [`load`](crate::load), which also takes lines of 36 bytes.
 ///
 /// ```
 /// use togmelic::{records, Kind, NoRecord};

@@ -21,8 +21,8 @@ extern "C" {
 /// draft's, or no draft's at all: see [`Record::place`].
 ///
 /// All lines are of one form: of [`LINE`](crate::LINE) bytes, as [`list`](crate::list) writes them; of
-/// [`LONG_LINE`](crate::LONG_LINE), as [`list_large`](crate::list_large) writes those that need it, and no others are taken; or of
-/// [`SHORT_LINE`], as they were kept before records had the way up, which is worked out then.
+/// [`LONG_LINE`](crate::LONG_LINE), as [`list_large`](crate::list_large) and [`list_lean`](crate::list_lean) write those that need it,
+/// and no others are taken; or of [`SHORT_LINE`], as they were kept before records had the way up, which is worked out then.
 pub fn load_into(listing: &[u8], words: &mut [u32]) -> Result<usize, LoadRefusal> {
     let mut refusal = LoadRefusal { number: 0, line: 0 };
     // SAFETY: the pointers of the slices are never null and good for the length beside them, in bytes and in words;

@@ -102,8 +102,8 @@ impl Record {
     }
 }
 
-/// The records of a tree's words, as [`list_large`](crate::list_large) and [`load_into`](crate::load_into) leave them in a
-/// lent buffer: seven words each, up to the zeros behind them, one by one and without an allocation.
+/// The records of a tree's words, as [`list_large`](crate::list_large), [`list_lean`](crate::list_lean) and
+/// [`load_into`](crate::load_into) leave them in a lent buffer: seven words each, up to the zeros behind them, one by one and without an allocation.
 ///
 /// ```
 /// use togmelic::{load_into, records_in, Kind};

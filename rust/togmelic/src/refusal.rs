@@ -6,7 +6,8 @@ use std::fmt;
 /// Why a draft is refused, and where. docs/REFUSALS.md says of each number what it means and what to do about it.
 #[derive(Clone, Copy, Debug, PartialEq, Eq, Hash)]
 pub struct Refusal {
-    /// 1 to 14, 19 or 21; also 15, where [`list_large`](crate::list_large) was lent a tree buffer that is too short.
+    /// 1 to 14, 19 or 21; also 15, where [`list_large`](crate::list_large) or [`list_lean`](crate::list_lean) was lent a tree
+    /// buffer that is too short.
     pub number: u32,
     /// Number of a byte of the draft, from 0; the draft's length where something is missing at its end. For refusal 1 it
     /// is the limit, [`Limits::bytes`], which may stand within a character of a comment: cut bytes there, not a `str`.
@@ -15,7 +16,9 @@ pub struct Refusal {
 
 impl Refusal {
     /// What the number says, in words. Of 1 and 6 the place tells within which limits it was read. Where
-    /// [`list_large`](crate::list_large) was lent too few words for tokens, 6 is about these, which no number tells.
+    /// [`list_large`](crate::list_large) was lent too few words for tokens, or [`list_lean`](crate::list_lean) too few for
+    /// their starts, 6 is about these, which no number tells: the words say so where no limit can be passed at the place, and
+    /// else name the limit.
     pub fn reason(&self) -> &'static str {
         match self.number {
             1 if self.is_large() => "the draft is over 1,048,576 bytes",
@@ -24,8 +27,7 @@ impl Refusal {
             3 => "no lexeme starts here",
             4 => "a block comment is never closed",
             5 => "the word simc is reserved",
-            6 if self.is_large() => "there are over 131,072 tokens",
-            6 => "there are over 2,048 tokens",
+            6 => self.too_many_tokens(),
             7 => "over 48 brackets are open, or over 8 match stand in a row",
             8 => "the draft cannot go on with this token",
             9 => "the bound is not a power of two from 2 to 9,223,372,036,854,775,808",
@@ -41,10 +43,22 @@ impl Refusal {
         }
     }
 
-    /// Whether it is one of the large limits that is passed. The small ones are passed at or before the byte that they allow
-    /// last; the large ones far behind it, since each of so many tokens has a byte.
+    /// Whether it is the large limit of bytes that is passed, whose place is that limit.
     fn is_large(&self) -> bool {
         self.place > Limits::Small.bytes()
+    }
+
+    /// Which limit refusal 6 is about. Each token has a byte, so the first over a limit begins no sooner than at that number,
+    /// and over the small one no later than a draft may have bytes there. Anywhere else it is about the lent words.
+    fn too_many_tokens(&self) -> &'static str {
+        let small = Limits::Small.tokens()..Limits::Small.bytes();
+        if self.place >= Limits::Large.tokens() {
+            "there are over 131,072 tokens"
+        } else if small.contains(&self.place) {
+            "there are over 2,048 tokens"
+        } else {
+            "there are more tokens than the lent words hold"
+        }
     }
 }
 

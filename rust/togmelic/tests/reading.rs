@@ -1,7 +1,7 @@
 //! The typed view: records and refusals of drafts whose results the papers give.
 
 use togmelic::{
-    list, read, records, Alias, Arm, Call, Kind, Record, Refusal, MOST_BYTES, MOST_DRAFT,
+    list, read, records, Alias, Arm, Call, Kind, Limits, Record, Refusal, MOST_BYTES, MOST_DRAFT,
 };
 
 const DRAFT: &[u8] = b"fn f(){match b{true=>1,false=>2,}}";
@@ -329,7 +329,9 @@ fn refusals_in_words() {
         refusal.to_string(),
         "refusal 21 at byte 2: the comment is not well-formed UTF-8"
     );
-    let reason = |number| Refusal { number, place: 0 }.reason();
+    // Where the token over a small limit may begin.
+    let place = Limits::Small.tokens();
+    let reason = |number| Refusal { number, place }.reason();
     for (number, said) in [
         (1, "the draft is over 16,384 bytes"),
         (2, "a byte outside comments is over 127"),

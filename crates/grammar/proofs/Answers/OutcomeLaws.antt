@@ -81,7 +81,7 @@ module _ (en : Entry) (l : Limits) (draft : List ℕ) (tw rw : ℕ) where
 
   -- the lexer's answer decides
   read-lexed : (x : Answer) → lexed_of l draft tw ≡ x → reading en l draft tw ≡ lexed en x draft (tokens_of (lexemes draft))
-  unfolding reading
+  unfolding reading lexed_of
   read-lexed x e = ap (λ y. lexed en y draft (tokens_of (lexemes draft))) e
 
   whole : length draft ≤ l.bytes → lexed_of l draft tw ≡ judged l tw (lexemes draft)

@@ -6,7 +6,7 @@ use Rattle.std.proofs.Math.Option.{Option, none, some}
 use Rattle.theory.specs.Ebnf.{Items}
 use Rattle.theory.specs.Parse.{Found, found, stuck}
 use Rattle.lexer.specs.Lexemes.{Token, lexemes}
-use Rattle.lexer.specs.Limits.{Limits, no_token, lexed_of, token_words, tokens_of}
+use Rattle.lexer.specs.Limits.{Limits, no_token, room, lexed_in, token_words, tokens_of}
 use Rattle.own.specs.Tree.{Tok, Node, Rec, classes_of}
 use Rattle.text.specs.Widths.{rec_wide}
 use Rattle.text.specs.Answers.{Answer, accepted, refused}
@@ -59,9 +59,13 @@ abbrev pub lexed : Entry → Answer → List ℕ → List Token → Reading
 lexed en (refused c p) draft ts = unread c p
 lexed en (accepted n m) draft ts = shaped en draft ts (shape_of en (classes_of (toks_of draft ts)))
 
--- The reading of a draft with a token buffer of so many words.
+-- The reading of a draft with room for r tokens,
+abbrev pub reading_in : Entry → Limits → List ℕ → ℕ → Reading
+reading_in en l draft r = lexed en (lexed_in l draft r) draft (tokens_of (lexemes draft))
+
+-- and with a token buffer of so many words.
 unfoldable pub reading : Entry → Limits → List ℕ → ℕ → Reading
-reading en l draft tw = lexed en (lexed_of l draft tw) draft (tokens_of (lexemes draft))
+reading en l draft tw = reading_in en l draft (room l tw)
 
 -- Refusal 15: "tree buffer under six words a record"; "15 and 18 now ask seven words a record" (document 02, order 7).
 abbrev pub fitted : ℕ → Reading → Answer

@@ -9,7 +9,7 @@ use Rattle.grammar.specs.Entry.{single_function}
 use Rattle.grammar.specs.Cases.Cases.{Result, refused_with, records, buffers, Case, defined, roomy, whole, braced, in_braces}
 
 -- `fn f(){}`, eight bytes, six tokens, three records: within so many bytes, tokens, words of the token buffer and of the tree buffer.
-abbrev small : ℕ → ℕ → ℕ → ℕ → Result → Case
+abbrev pub small : ℕ → ℕ → ℕ → ℕ → Result → Case
 small b t tw rw r = record { entry = single_function; limits = limits_of b t; token_space = tw; tree_space = rw; draft = braced ""; result = r }
 
 -- so many times the bytes

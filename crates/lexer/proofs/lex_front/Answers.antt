@@ -1,13 +1,12 @@
--- Refusal 1, then what the pass over the draft finds.
+-- With all of each token.
 -- Assumes nothing.
-use Rattle.std.proofs.Common.{◌∙◌}
-use Rattle.lexer.proofs.Order.{too_long, not-too-long}
+use Rattle.lexer.specs.Limits.{room, lexed_of}
+use Rattle.lexer.proofs.Kept.{whole-kept, held_as}
 use Rattle.lexer.proofs.lex_front.Goals as goal
 
-pub returns-then-draft-bytes-clause-result_value : goal.returns-then-draft-bytes-clause-result_value
-returns-then-draft-bytes-clause-result_value c = too_long _ _ _ c.bytes-bytes.ensures c.if-draft-bytes.true
-
 pub returns-clause-result_value : goal.returns-clause-result_value
-returns-clause-result_value c =
-    c.fill.ensures.result_value
-    ∙ not-too-long _ _ _ c.bytes-bytes.ensures c.tokens.ensures c.if-draft-bytes.false c.min-room.ensures
+unfolding lexed_of room
+returns-clause-result_value c = c.lex_as.ensures.result_value
+
+pub returns-clause-held : goal.returns-clause-held
+returns-clause-held c = held_as (whole-kept _) c.lex_as.ensures.held

@@ -1,6 +1,6 @@
 -- What the entry's small functions say: whether there are too many tokens, the first state, and what the last one says.
 -- Assumes nothing.
-use Rattle.std.proofs.Common.{◌≡◌, ℕ, ◌*◌, ◌<◌, ◌≤◌, Bool, false, ltb, List, [], ◌∷◌, length, sym, refl, ap, ◌∙◌, subst, arith, ltb-false, leb-false}
+use Rattle.std.proofs.Common.{◌≡◌, ℕ, ◌*◌, ◌<◌, ◌≤◌, Bool, false, ◌||◌, ltb, List, [], ◌∷◌, length, sym, refl, ap, ◌∙◌, subst, arith, ltb-false, leb-false}
 use Rattle.std.proofs.lemmas.Bool.{or_parts}
 use Rattle.text.specs.Widths.{tok_wide}
 use Rattle.std.specs.Prelude.{None}
@@ -8,16 +8,23 @@ use Rattle.theory.specs.Grammar.{nt}
 use Rattle.grammar.specs.Shapes.TablesIndex.{n-function}
 use Rattle.parse.specs.Contract.{Text, countable, u32_count, tok_at, fault, Ready, Gives, as_items, Parsed, Node}
 use Rattle.parse.specs.Infos.{FunctionKind, FileRead}
-use Rattle.parse.specs.Entry.{entry_of, too_many, too_long, WholeRead, one_read, all_read, Starts}
+use Rattle.parse.specs.Entry.{entry_of, too_many, too_many_starts, too_long, WholeRead, one_read, all_read, Starts}
 use Rattle.parse.specs.declared.ReadAs.{ReadAs}
 use Rattle.parse.specs.declared.ReadAs.TheVariants.{Function, File}
 use Rattle.parse.specs.declared.State.{State}
 use Rattle.parse.specs.declared.Step.{Step}
 use Rattle.parse.proofs.Rule.Amid.{class-at}
 
+few : {b : Bool} (most n size wanted : ℕ) → b ≡ ltb most n || ltb size wanted → b ≡ false → (n ≤ most) × (wanted ≤ size)
+few most n size wanted e f = let h = or_parts (ltb most n) (ltb size wanted) (sym e ∙ f) in (ltb-false most n h.0, ltb-false size wanted h.1)
+
 pub few-tokens : {b : Bool} (most n tw : ℕ) → b ≡ too_many most n tw → b ≡ false → (n ≤ most) × (tok_wide * n ≤ tw)
 unfolding too_many
-few-tokens most n tw e f = let h = or_parts (ltb most n) (ltb tw (tok_wide * n)) (sym e ∙ f) in (ltb-false most n h.0, ltb-false tw (tok_wide * n) h.1)
+few-tokens most n tw = few most n tw (tok_wide * n)
+
+pub few-starts : {b : Bool} (most n sw : ℕ) → b ≡ too_many_starts most n sw → b ≡ false → (n ≤ most) × (n ≤ sw)
+unfolding too_many_starts
+few-starts most n sw = few most n sw n
 
 -- The first state.
 pub starts-at : (x : Text) {c b s : ℕ} → Gives (record { class = c; start = b; stop = s }) (tok_at x 0)

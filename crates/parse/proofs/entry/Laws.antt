@@ -4,7 +4,7 @@ use Rattle.std.proofs.Common.{◌≡◌, ℕ, zero, suc, ◌+◌, ◌*◌, ◌<�
 use mathlib.Core.Option.{Option, none, some}
 use lib.Seq.{sets, sets-eq}
 use Rattle.std.specs.Simd.{first_chunks}
-use Rattle.std.proofs.lemmas.List.{get_or-take, length-map}
+use Rattle.std.proofs.lemmas.List.{get_or-take}
 use Rattle.own.proofs.WordLaws.{record-words-length}
 use Rattle.lexer.specs.Lexemes.{Token}
 use Rattle.lexer.specs.Buffer.{tokens_in}
@@ -40,13 +40,13 @@ use Rattle.grammar.specs.Answers.Answer.{toks_of, start_of, trees_of, Reading, u
 use Rattle.parse.specs.Contract as contract
 use Rattle.parse.specs.Contract.{Text, count_of, row_token, source_tokens, text, countable, classes, tok_at, Read, Stuck, raw, fault_in, sooner, kept, fault, Holds, Info, as_items, Went}
 use Rattle.parse.specs.Infos.{file_read, file_stuck}
-use Rattle.parse.specs.Entry.{too_many, too_long, WholeRead, one_read, all_read, reading_of, meant, refuses, unless_kept, answer_of, Starts, ended, judged}
+use Rattle.parse.specs.Entry.{too_long, WholeRead, one_read, all_read, reading_of, meant, refuses, unless_kept, answer_for, answer_by, Starts, ended, judged}
 use Rattle.parse.specs.declared.State.{State}
 use Rattle.parse.specs.declared.Step.{Step}
 use Rattle.parse.specs.declared.token.Source.{Source}
 use Rattle.parse.specs.declared.fault.Fault as code
 use Rattle.parse.proofs.Rule.Lists.{length-words}
-use Rattle.parse.proofs.token.Tokens.{length-text}
+use Rattle.parse.proofs.token.Tokens.{length-source, length-text}
 use Rattle.parse.proofs.entry.Holds.{spelled_holds}
 use Rattle.parse.proofs.entry.Closed.{Closed, closed-function, closed-file}
 
@@ -74,7 +74,7 @@ module _ (src : Source) where
   text-is = refl
 
   length-is : length ts ≡ n
-  length-is = length-map src.tokens.now row_token
+  length-is = length-source src
 
   -- Where a token starts, or the length at the end.
   pub starts_in : (at : ℕ) → at < n → (tok_at x at).start ≡ start_of draft ts at
@@ -230,18 +230,20 @@ module _ (src : Source) where
         (closed-file (length draft) l l₁ l' z (omega (arith, w.lays.few, s.out_is, s.at_is, w.lays.stands.within, length-text src)) w.lays.long p)
     says (all_read (file_stuck (contract.stuck h g))) = stuck_at whole_file (g [])
 
-    module _ (en : Entry) {l' : List ℕ} {p : Step} (v : WholeRead x (length draft) st l l' p en) {a : Result ℕ Refused} (e : a ≡ judged src (length l) p) where
-      said-answer : meant n a ≡ fitted (length l) (R en)
-      said-answer = ap (meant n) e ∙ (says v).0
+    module _ (en : Entry) {l' : List ℕ} {p : Step} (v : WholeRead x (length draft) st l l' p en) {k : ℕ} {a : Result ℕ Refused} (room : k ≡ length l)
+        (e : a ≡ judged src k p) where
+      judged_is : a ≡ judged src (length l) p
+      judged_is = e ∙ ap (λ (i : ℕ). judged src i p) room
 
-      said-held : Held (meant n a) (rec_words (records_in (R en))) l l'
-      said-held = subst (λ (a : Result ℕ Refused). Held (meant n a) (rec_words (records_in (R en))) l l') (sym e) (says v).1
+      pub read-answer : too_long en (length draft) ≡ false → meant n a ≡ answer_for en draft ts (length l)
+      read-answer short =
+          ap (meant n) judged_is ∙ (says v).0
+          ∙ sym (ap (λ (c : Bool). cond c (paper.refused (refusal_number refusal.TooLong) 0) (fitted (length l) (R en))) short)
 
--- The rows of so many tokens are so many, and say the same ones.
-pub rows-count : (n : ℕ) (w : List ℕ) → length (first_chunks tok_wide n w) ≡ n
-rows-count zero w = refl
-rows-count (suc n) w = ap suc (rows-count n (drop tok_wide w))
+      pub read-held : Held (meant n a) (rec_words (records_in (R en))) l l'
+      read-held = subst (λ (a : Result ℕ Refused). Held (meant n a) (rec_words (records_in (R en))) l l') (sym judged_is) (says v).1
 
+-- The rows of so many tokens say the same ones.
 pub rows-tokens : (n : ℕ) (w : List ℕ) → map row_token (first_chunks tok_wide n w) ≡ tokens_in n w
 unfolding tokens_in
 rows-tokens zero w = refl
@@ -252,53 +254,26 @@ rows-tokens (suc n) w =
     word : (k : ℕ) → k < tok_wide → get_or (take tok_wide w) k 0 ≡ get_or w k 0
     word k l = get_or-take tok_wide w k 0 l
 
--- What is read of the source is what is read of the words that it was made of.
-module _ (src : Source) (draft words' : List ℕ) (n : ℕ) (d : src.draft.now ≡ draft) (w : src.tokens.now ≡ first_chunks tok_wide n words') where
-  pub count-is : count_of src ≡ n
-  count-is = ap (λ (vs : List (List ℕ)). length vs) w ∙ rows-count n words'
+-- What is read of a source is what is read of the draft and the tokens that it was made of.
+module _ (en : Entry) (src : Source) {draft : List ℕ} {ts : List Token} {n : ℕ} (d : src.draft.now ≡ draft) (t : source_tokens src ≡ ts) (c : count_of src ≡ n)
+    (a : Result ℕ Refused) where
+  pub front-answer : {many : Bool} (room : ℕ) → many ≡ false → meant (count_of src) a ≡ answer_for en src.draft.now (source_tokens src) room
+      → meant n a ≡ answer_by many en draft ts room
+  front-answer room fewer e =
+      ap (λ (i : ℕ). meant i a) (sym c) ∙ e ∙ ap₂ (λ (d : List ℕ) (ts : List Token). answer_for en d ts room) d t
+      ∙ ap (λ (b : Bool). answer_by b en draft ts room) (sym fewer)
 
-  tokens-are : source_tokens src ≡ tokens_in n words'
-  tokens-are = ap (λ (vs : List (List ℕ)). map row_token vs) w ∙ rows-tokens n words'
-
-  reading-are : (en : Entry) → R src en ≡ reading_of en draft (tokens_in n words')
-  reading-are en = ap₂ (reading_of en) d tokens-are
-
-  -- Neither too many tokens nor too long a file: what is read is the answer.
-  read-answer : (en : Entry) (most room : ℕ) (a : Result ℕ Refused) → too_many most n (length words') ≡ false → too_long en (length draft) ≡ false
-      → meant (count_of src) a ≡ fitted room (R src en) → meant n a ≡ answer_of en most draft words' n room
-  unfolding answer_of
-  read-answer en most room a fewer short e =
-      ap (λ (i : ℕ). meant i a) (sym count-is) ∙ e ∙ ap (fitted room) (reading-are en)
-      ∙ sym (ap₂ (λ (b c : Bool). cond b (paper.refused (refusal_number refusal.TooMany) 0) (cond c (paper.refused (refusal_number refusal.TooLong) 0) (fitted room (reading_of en draft (tokens_in n words'))))) fewer short)
-
-  read-held : (en : Entry) (a : Result ℕ Refused) {l l' : List ℕ} → Held (meant (count_of src) a) (rec_words (records_in (R src en))) l l'
-      → Held (meant n a) (rec_words (records_in (reading_of en draft (tokens_in n words')))) l l'
-  read-held en a {l} {l'} e =
-      subst (λ (r : Reading). Held (meant n a) (rec_words (records_in r)) l l') (reading-are en) (subst (λ (i : ℕ). Held (meant i a) (rec_words (records_in (R src en))) l l') count-is e)
-
-  -- So the answer and the buffer of a draft that was read from its first state on are those of the words.
-  module _ (en : Entry) {st : State} (s : Starts (text src) st) (l : List ℕ) (few : n ≤ countable) {l' : List ℕ} {p : Step} (v : WholeRead (text src) (length src.draft.now) st l l' p en)
-      {k : ℕ} {a : Result ℕ Refused} (room : k ≡ length l) (e : a ≡ judged src k p) where
-    counted : count_of src ≤ countable
-    counted = omega (arith, count-is)
-
-    judged_is : a ≡ judged src (length l) p
-    judged_is = e ∙ ap (λ (i : ℕ). judged src i p) room
-
-    pub front-answer : (most : ℕ) → too_many most n (length words') ≡ false → too_long en (length draft) ≡ false → meant n a ≡ answer_of en most draft words' n (length l)
-    front-answer most fewer short = read-answer en most (length l) a fewer short (said-answer src s l counted en v judged_is)
-
-    pub front-held : Held (meant n a) (rec_words (records_in (reading_of en draft (tokens_in n words')))) l l'
-    front-held = read-held en a (said-held src s l counted en v judged_is)
+  pub front-held : {l l' : List ℕ} → Held (meant (count_of src) a) (rec_words (records_in (reading_of en src.draft.now (source_tokens src)))) l l'
+      → Held (meant n a) (rec_words (records_in (reading_of en draft ts))) l l'
+  front-held {l} {l'} h =
+      subst (λ (r : Reading). Held (meant n a) (rec_words (records_in r)) l l') (ap₂ (reading_of en) d t)
+      (subst (λ (i : ℕ). Held (meant i a) (rec_words (records_in (reading_of en src.draft.now (source_tokens src)))) l l') c h)
 
 -- Too many tokens, or a file that is too long.
-pub too-many-answer : (en : Entry) (most : ℕ) (draft words' : List ℕ) (n k : ℕ) → too_many most n (length words') ≡ true → paper.refused (refusal_number refusal.TooMany) 0 ≡ answer_of en most draft words' n k
-unfolding answer_of
-too-many-answer en most draft words' n k e =
-    sym (ap (λ (b : Bool). cond b (paper.refused (refusal_number refusal.TooMany) 0) (cond (too_long en (length draft)) (paper.refused (refusal_number refusal.TooLong) 0) (fitted k (reading_of en draft (tokens_in n words'))))) e)
+pub too-many-answer : {many : Bool} (en : Entry) (draft : List ℕ) (ts : List Token) (k : ℕ) → many ≡ true
+    → paper.refused (refusal_number refusal.TooMany) 0 ≡ answer_by many en draft ts k
+too-many-answer en draft ts k e = sym (ap (λ (b : Bool). answer_by b en draft ts k) e)
 
-pub too-long-answer : (en : Entry) (most : ℕ) (draft words' : List ℕ) (n k : ℕ) → too_many most n (length words') ≡ false → too_long en (length draft) ≡ true
-    → paper.refused (refusal_number refusal.TooLong) 0 ≡ answer_of en most draft words' n k
-unfolding answer_of
-too-long-answer en most draft words' n k fewer e =
-    sym (ap₂ (λ (b c : Bool). cond b (paper.refused (refusal_number refusal.TooMany) 0) (cond c (paper.refused (refusal_number refusal.TooLong) 0) (fitted k (reading_of en draft (tokens_in n words'))))) fewer e)
+pub too-long-answer : (en : Entry) (draft : List ℕ) (ts : List Token) (k : ℕ) → too_long en (length draft) ≡ true
+    → paper.refused (refusal_number refusal.TooLong) 0 ≡ answer_for en draft ts k
+too-long-answer en draft ts k e = sym (ap (λ (b : Bool). cond b (paper.refused (refusal_number refusal.TooLong) 0) (fitted k (reading_of en draft ts))) e)

@@ -6,7 +6,7 @@ use Rattle.lexer.proofs.Filling.{Filling}
 use Rattle.lexer.proofs.lexing.fill.Given as goal
 
 abbrev pub invariant-loop-kind : goal.invariant-loop-kind
-invariant-loop-kind l = Filling l.draft l.room l.fn.out l.at l.n (known l.nest) l.out
+invariant-loop-kind g l = Filling g.row.WORDS l.draft l.room l.fn.out l.at l.n (known l.nest) l.out
 
 abbrev pub decreases-loop-kind : goal.decreases-loop-kind
-decreases-loop-kind l = length l.draft - l.at
+decreases-loop-kind g l = length l.draft - l.at

@@ -1,7 +1,7 @@
 -- The state moves one token on and keeps its records and its refusal.
 -- Assumes nothing.
-use Rattle.std.proofs.Common.{sym, refl, ap, ◌∙◌}
-use Rattle.parse.specs.Contract.{text, next}
+use Rattle.std.proofs.Common.{sym, refl, ◌∙◌}
+use Rattle.parse.specs.Contract.{text}
 use Rattle.parse.proofs.Rule.Amid.{class-at}
 use Rattle.parse.proofs.token.Tokens.{next-in}
 use Rattle.parse.proofs.token.Source.advance.Goals as goal
@@ -13,7 +13,7 @@ returns c =
     let i = c.after-at.result in
     let g = c.token-t.ensures in
     record {
-      ahead = λ h. next-in a.self.now a.st.at i (c.after-at.ensures ∙ ap (next a.st.at) c.count.ensures) h;
+      ahead = λ h. next-in a.self.now a.st.at i c.after-at.ensures h;
       class_is = g.class_is ∙ sym (class-at x.ts i);
       start_is = g.start_is;
       stop_is = g.stop_is;
