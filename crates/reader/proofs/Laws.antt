@@ -43,6 +43,14 @@ pub no-counts : (r : Result Counts Refused) {k : Counts} → ResultUnwrapsOrElse
 no-counts (Ok c) h = h
 no-counts (Err e) h = ap₂ (λ (t n : ℕ). record { tokens = t; records = n }) h.0 h.1
 
+-- A buffer that is cleared behind so many words for the counts, of a refusal behind none, is this one, if it is so of each answer.
+pub cleared-is : (size : Counts → ℕ) (out old : List ℕ) {buffer : List ℕ} (r : Result Counts Refused) {k : Counts} (none : Counts) → k ≡ result_unwrap_or r none → size none ≡ 0 → length out ≡ length old
+    → ((c : Counts) → r ≡ Ok c → take (size c) out ++ replicate (length out - size c) 0 ≡ buffer) → ((x : Refused) → r ≡ Err x → replicate (length old) 0 ≡ buffer)
+    → take (size k) out ++ replicate (length out - size k) 0 ≡ buffer
+cleared-is size out old (Ok c) none q z long f g = ap (λ (c : Counts). take (size c) out ++ replicate (length out - size c) 0) q ∙ f c refl
+cleared-is size out old (Err x) none q z long f g =
+    ap (λ (n : ℕ). take n out ++ replicate (length out - n) 0) (ap size q ∙ z) ∙ ap (λ (n : ℕ). replicate n 0) (omega (arith, long)) ∙ g x refl
+
 -- An accepted draft has as many records as were read.
 abbrev records_of : Answer → ℕ
 records_of (accepted n m) = m
@@ -177,14 +185,10 @@ module _ (en : Entry) where
 
     pub its-tokens : {out : List ℕ} → length out ≡ length old → Held (meant r) (token_words (tokens_of (lexemes draft))) old out
         → take (tok_wide * k.tokens) out ++ replicate (length out - tok_wide * k.tokens) 0 ≡ token_buffer en large_limits draft (length old) rw
-    its-tokens {out} long h = go r refl k_is
-      where
-        cleared : ℕ → List ℕ
-        cleared n = take (tok_wide * n) out ++ replicate (length out - tok_wide * n) 0
-
-        go : (u : Result Counts Refused) → r ≡ u → k ≡ result_unwrap_or u none → cleared k.tokens ≡ token_buffer en large_limits draft (length old) rw
-        go (Ok c) q f = ap (λ c. cleared c.tokens) f ∙ accepted-tokens draft old rw (tokens-told q) (h.holds _ _ (ap meant q))
-        go (Err x) q f = ap (λ c. cleared c.tokens) f ∙ ap cleared zero_is ∙ ap (λ n. replicate n 0) (omega (arith, long)) ∙ refused-tokens draft (length old) rw (tokens-told q)
+    its-tokens {out} long h =
+        cleared-is (λ c. tok_wide * c.tokens) out old r none k_is (omega (arith, zero_is)) long
+        (λ c q. accepted-tokens draft old rw (tokens-told q) (h.holds _ _ (ap meant q)))
+        (λ x q. refused-tokens draft (length old) rw (tokens-told q))
 
   module _ (draft old : List ℕ) (tw : ℕ) (r : Result Counts Refused) (e : meant r ≡ answer en large_limits draft tw (length old)) {k : Counts} (none : Counts) (k_is : k ≡ result_unwrap_or r none) (zero_is : none.records ≡ 0) where
     records-told : {u : Result Counts Refused} → r ≡ u → answer en large_limits draft tw (length old) ≡ meant u
@@ -199,14 +203,10 @@ module _ (en : Entry) where
 
     pub its-tree : {out : List ℕ} → length out ≡ length old → Held (meant r) (up_words (records_read en large_limits draft tw)) old out
         → take (rec_wide * k.records) out ++ replicate (length out - rec_wide * k.records) 0 ≡ tree_buffer en large_limits draft tw (length old)
-    its-tree {out} long h = go r refl k_is
-      where
-        cleared : ℕ → List ℕ
-        cleared n = take (rec_wide * n) out ++ replicate (length out - rec_wide * n) 0
-
-        go : (u : Result Counts Refused) → r ≡ u → k ≡ result_unwrap_or u none → cleared k.records ≡ tree_buffer en large_limits draft tw (length old)
-        go (Ok c) q f = ap (λ c. cleared c.records) f ∙ accepted-tree draft old tw (records-told q) (h.holds _ _ (ap meant q))
-        go (Err x) q f = ap (λ c. cleared c.records) f ∙ ap cleared zero_is ∙ ap (λ n. replicate n 0) (omega (arith, long)) ∙ refused-tree draft tw (length old) (records-told q)
+    its-tree {out} long h =
+        cleared-is (λ c. rec_wide * c.records) out old r none k_is (omega (arith, zero_is)) long
+        (λ c q. accepted-tree draft old tw (records-told q) (h.holds _ _ (ap meant q)))
+        (λ x q. refused-tree draft tw (length old) (records-told q))
 
   -- What the lexer refuses is refused.
   pub lexer-refused : (l : Limits) (draft : List ℕ) (tw rw : ℕ) {c p : ℕ} → lexed_of l draft tw ≡ refused c p → answer en l draft tw rw ≡ refused c p

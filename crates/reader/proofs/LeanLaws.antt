@@ -8,7 +8,7 @@ use native.Mathlib.Omega.{arith}
 use borrow.Author.Tests.{le-ltb}
 use lib.ListN.{length, replicate, take, drop, length-append}
 use lib.Seq.{take_at}
-use Rattle.std.specs.Prelude.{◌↔◌, Result, Ok, Err}
+use Rattle.std.specs.Prelude.{◌↔◌, Result}
 use Rattle.std.specs.Result.{result_unwrap_or}
 use Rattle.std.proofs.lemmas.List.{length-map}
 use Rattle.text.specs.Front.{front, Held}
@@ -31,7 +31,7 @@ use Rattle.parse.specs.Contract.{u32_count}
 use Rattle.parse.specs.Entry.{too_many_starts, reading_of, starts_answer}
 use Rattle.reader.specs.declared.Counts.{Counts}
 use Rattle.reader.specs.Read.{meant}
-use Rattle.reader.proofs.Laws.{not-long, parsed-by, raised-by, lexer-refused, its-records-fit, its-tree}
+use Rattle.reader.proofs.Laws.{cleared-is, not-long, parsed-by, raised-by, lexer-refused, its-records-fit, its-tree}
 use Rattle.grammar.specs.Entry.{whole_file}
 use Rattle.grammar.specs.Answers.Lean.{lean_listing}
 use Rattle.lines.specs.Written.{used}
@@ -102,12 +102,10 @@ module _ (en : Entry) (draft old words : List ℕ) (rw n : ℕ) (e : starts_lexe
 
 -- Whatever is answered, of a refusal no word: the starts fit, and cleared behind them the buffer is the one that is handed over.
 module _ (en : Entry) (draft old : List ℕ) (rw : ℕ) (r : Result Counts Refused) (e : meant r ≡ lean_answer en large_limits draft (length old) rw) {k : Counts} (none : Counts) (k_is : k ≡ result_unwrap_or r none) (zero_is : none.tokens ≡ 0) where
-  abbrev cleared : List ℕ → ℕ → List ℕ
-  cleared out n = take n out ++ replicate (length out - n) 0
-
   pub its-starts : {out : List ℕ} → length out ≡ length old → Held (meant r) (start_words (tokens_of (lexemes draft))) old out
       → take k.tokens out ++ replicate (length out - k.tokens) 0 ≡ start_buffer en large_limits draft (length old) rw
-  its-starts {out} long h = go r refl k_is
+  its-starts {out} long h =
+      cleared-is (λ c. c.tokens) out old r none k_is zero_is long (λ c q. written c (sym e ∙ ap meant q) (h.holds _ _ (ap meant q))) (λ x q. zeros (sym e ∙ ap meant q))
     where
       zeros : {c p : ℕ} → lean_answer en large_limits draft (length old) rw ≡ refused c p → replicate (length old) 0 ≡ start_buffer en large_limits draft (length old) rw
       zeros {c} {p} f = sym ((promised refl refl refl).zeros c p f).0
@@ -126,10 +124,6 @@ module _ (en : Entry) (draft old : List ℕ) (rw : ℕ) (r : Result Counts Refus
           ∙ front-cleared ws old c.tokens k fits
           ∙ ap₂ (λ us j. start_words us ++ replicate (length old - j) 0) t m
           ∙ sym (p.written c.tokens c.records d).starts_are
-
-      go : (u : Result Counts Refused) → r ≡ u → k ≡ result_unwrap_or u none → cleared out k.tokens ≡ start_buffer en large_limits draft (length old) rw
-      go (Ok c) q f = ap (λ c. cleared out c.tokens) f ∙ written c (sym e ∙ ap meant q) (h.holds _ _ (ap meant q))
-      go (Err x) q f = ap (λ c. cleared out c.tokens) f ∙ ap (cleared out) zero_is ∙ ap (λ n. replicate n 0) (omega (arith, long)) ∙ zeros (sym e ∙ ap meant q)
 
 -- And so do the records.
 module _ (en : Entry) (draft old : List ℕ) (sw : ℕ) (r : Result Counts Refused) (e : meant r ≡ lean_answer en large_limits draft sw (length old)) {k : Counts} (none : Counts) (k_is : k ≡ result_unwrap_or r none) (zero_is : none.records ≡ 0) where
