@@ -94,4 +94,24 @@ static const char *refusal(unsigned number, unsigned place)
     return line;
 }
 
+/* Drafts within the small limits, accepted and refused. */
+static const char *const DRAFTS[] = {
+    "", "fn f(){}", "fn f(){fold(x)}", "type A=(u8,[A;2]);fn f(){}", "fn f(){match x{}}", "/*\xCE\xB1*/", "//\x80", "/*/**/", "simc", "#",
+    "fn f(){match match a{true=>1,false=>2,}{true=>[1,2,3],false=>match c{Some(d:u1)=>e,None=>f,},}}", "type A=[u8;18446744073709551616];"};
+
+/* Functions of eight tokens, four records and so many bytes each, as many as 131,072 tokens allow; with the file's they have so many lines. */
+enum { BYTES = 10, FUNCTIONS = TOGMELIC_LARGE_TOKENS / 8, LINES = 1 + 4 * FUNCTIONS };
+
+/* All of them, and one token more behind. */
+static const char *functions(void)
+{
+    static char draft[BYTES * FUNCTIONS + 1];
+    size_t at;
+    for (at = 0; at < FUNCTIONS; at++) {
+        memcpy(draft + BYTES * at, "fn f(){a;}", BYTES);
+    }
+    draft[BYTES * FUNCTIONS] = ';';
+    return draft;
+}
+
 #endif

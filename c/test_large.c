@@ -152,17 +152,11 @@ static void test_forms(void)
 /* Functions of eight tokens and four records each, as many as 131,072 tokens allow, and what comes of one token more. */
 static void test_tokens(void)
 {
-    static const char each[] = "fn f(){a;}";
-    enum { BYTES = sizeof each - 1, FUNCTIONS = TOGMELIC_LARGE_TOKENS / 8, LINES = 1 + 4 * FUNCTIONS };
-    static char draft[BYTES * FUNCTIONS + 1];
+    const char *draft = functions();
     static uint32_t words[TOGMELIC_LARGE_TREE_WORDS];
     struct room room = {TOGMELIC_LARGE_TOKEN_WORDS, LINES * TOGMELIC_RECORD_WORDS, LINES * TOGMELIC_LONG_LINE};
     struct togmelic_refusal refused;
-    size_t at, used;
-    for (at = 0; at < FUNCTIONS; at++) {
-        memcpy(draft + BYTES * at, each, BYTES);
-    }
-    draft[BYTES * FUNCTIONS] = ';';
+    size_t used;
     used = called(draft, BYTES * FUNCTIONS, room);
     CHECK(used == LINES * TOGMELIC_LONG_LINE && used / TOGMELIC_LONG_LINE == tree[5]);
     CHECK(memcmp(out, "29 000000 028000 00000000 00000000 010001 000000\n01 000000 00000A 00000000 00000000 000004 000001\n", 2 * TOGMELIC_LONG_LINE) == 0);
@@ -198,15 +192,12 @@ static void test_one_array(void)
 /* Drafts within the small limits have the lines that togmelic_list writes. */
 static void test_small_drafts(void)
 {
-    static const char *const drafts[] = {
-        "", "fn f(){}", "fn f(){fold(x)}", "type A=(u8,[A;2]);fn f(){}", "fn f(){match x{}}", "/*\xCE\xB1*/", "//\x80", "/*/**/", "simc", "#",
-        "fn f(){match match a{true=>1,false=>2,}{true=>[1,2,3],false=>match c{Some(d:u1)=>e,None=>f,},}}", "type A=[u8;18446744073709551616];"};
     static unsigned char small[TOGMELIC_MOST_BYTES];
     size_t at, used;
-    for (at = 0; at < sizeof drafts / sizeof *drafts; at++) {
-        size_t length = strlen(drafts[at]);
-        used = togmelic_list((const unsigned char *)drafts[at], length, small, sizeof small);
-        CHECK(called(drafts[at], length, enough(length)) == used && memcmp(out, small, used) == 0);
+    for (at = 0; at < sizeof DRAFTS / sizeof *DRAFTS; at++) {
+        size_t length = strlen(DRAFTS[at]);
+        used = togmelic_list((const unsigned char *)DRAFTS[at], length, small, sizeof small);
+        CHECK(called(DRAFTS[at], length, enough(length)) == used && memcmp(out, small, used) == 0);
         CHECK((tree[0] == 0) == (small[0] == '0' && small[1] == '0'));
     }
 }

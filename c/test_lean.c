@@ -107,16 +107,10 @@ static void test_order(void)
 /* Functions of eight tokens and four records each, as many as 131,072 tokens allow, and what comes of one word or one token more or less. */
 static void test_tokens(void)
 {
-    static const char each[] = "fn f(){a;}";
-    enum { BYTES = sizeof each - 1, FUNCTIONS = TOGMELIC_LARGE_TOKENS / 8, LINES = 1 + 4 * FUNCTIONS };
     static const uint32_t starts[] = {0, 3, 4, 5, 6, 7, 8, 9};
-    static char draft[BYTES * FUNCTIONS + 1];
+    const char *draft = functions();
     struct room room = {TOGMELIC_LARGE_START_WORDS, LINES * TOGMELIC_RECORD_WORDS, TOGMELIC_LONG_LINE - 1};
     size_t at;
-    for (at = 0; at < FUNCTIONS; at++) {
-        memcpy(draft + BYTES * at, each, BYTES);
-    }
-    draft[BYTES * FUNCTIONS] = ';';
     CHECK(called(draft, BYTES * FUNCTIONS, room) == 0);
     for (at = 0; at < TOGMELIC_LARGE_TOKENS && tokens[at] == BYTES * (at / 8) + starts[at % 8]; at++)
         ;
@@ -145,21 +139,18 @@ static void test_one_array(void)
 /* The same lines and the same tree as with togmelic_list_large, and of its tokens the second words. */
 static void test_other_entry(void)
 {
-    static const char *const drafts[] = {
-        "", "fn f(){}", "fn f(){fold(x)}", "type A=(u8,[A;2]);fn f(){}", "fn f(){match x{}}", "/*\xCE\xB1*/", "//\x80", "/*/**/", "simc", "#",
-        "fn f(){match match a{true=>1,false=>2,}{true=>[1,2,3],false=>match c{Some(d:u1)=>e,None=>f,},}}", "type A=[u8;18446744073709551616];"};
     static uint32_t whole[600], its_tree[800], starts[200];
     static unsigned char lines[5000];
     struct words its_starts = {starts, 200}, its_records = {its_tree, 800};
     size_t at, token, used;
-    for (at = 0; at < sizeof drafts / sizeof *drafts; at++) {
-        size_t length = strlen(drafts[at]);
+    for (at = 0; at < sizeof DRAFTS / sizeof *DRAFTS; at++) {
+        size_t length = strlen(DRAFTS[at]);
         struct room room = {200, 800, sizeof lines};
-        used = togmelic_list_large((const unsigned char *)drafts[at], length, whole, 600, its_tree, 800, lines, sizeof lines);
+        used = togmelic_list_large((const unsigned char *)DRAFTS[at], length, whole, 600, its_tree, 800, lines, sizeof lines);
         for (token = 0; token < 200; token++) {
             starts[token] = whole[TOGMELIC_TOKEN_WORDS * token + 1];
         }
-        CHECK(called(drafts[at], length, room) == used && memcmp(out, lines, sizeof lines) == 0);
+        CHECK(called(DRAFTS[at], length, room) == used && memcmp(out, lines, sizeof lines) == 0);
         CHECK(holds(tokens, 200, its_starts) && holds(tree, 800, its_records));
     }
 }

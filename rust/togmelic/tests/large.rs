@@ -1,5 +1,8 @@
 //! The large limits: both sides of each, and what is read beyond the small ones.
 
+mod common;
+
+use common::DRAFTS;
 use std::ops::Range;
 use togmelic::{
     listing, listing_within, read, read_within, records, Kind, Limits, Record, Refusal, LONG_LINE,
@@ -137,17 +140,7 @@ fn forms_of_lines() {
 /// Drafts within the small limits have the same answers within the large ones.
 #[test]
 fn small_drafts() {
-    let drafts = [
-        "",
-        "fn f(){}",
-        "fn f(){fold(x)}",
-        "type A=(u8,[A;2]);fn f(){}",
-        "fn f(){match match a{true=>1,false=>2,}{true=>[1,2,3],false=>match c{Some(d:u1)=>e,None=>f,},}}",
-        "/*α*/ pub fn g(a:u8,b:A)->A{Left(Left(1,),match b{A::B=>match c{None=>1,Some(_:u8)=>2,},})}fn h(){}",
-        "fn f(){match x{}}",
-        "/*/**/",
-    ];
-    for draft in drafts.map(str::as_bytes) {
+    for draft in DRAFTS.map(str::as_bytes) {
         assert_eq!(listing_within(draft, Limits::Large), listing(draft));
         assert_eq!(read_within(draft, Limits::Large), read(draft));
         assert_eq!(listing_within(draft, Limits::Small), listing(draft));

@@ -3,7 +3,7 @@
 
 mod common;
 
-use common::{padded, refusal, Entry, DRAFT, LINES, TREE};
+use common::{padded, refusal, Entry, DRAFT, DRAFTS, LINES, TREE};
 use togmelic::{
     list_large, list_lean, records, Limits, NoRecord, LINE, LONG_LINE, RECORD_WORDS, START_WORDS,
     TOKEN_WORDS,
@@ -174,23 +174,11 @@ fn most_tokens() {
 /// Lines, tree and refusals are those of `list_large`, and the starts the second words of its tokens.
 #[test]
 fn as_list_large() {
-    let drafts = [
-        "",
-        "fn f(){}",
-        "fn f(){fold(x)}",
-        "type A=(u8,[A;2]);fn f(){}",
-        "fn f(){match match a{true=>1,false=>2,}{true=>[1,2,3],false=>match c{Some(d:u1)=>e,None=>f,},}}",
-        "/*α*/ pub fn g(a:u8,b:A)->A{Left(Left(1,),match b{A::B=>match c{None=>1,Some(_:u8)=>2,},})}fn h(){}",
-        "fn f(){0x_1;assert!(jet::eq_8(witness::A,0b1_0))}// end",
-        "fn f(){match x{}}",
-        "fn f(){list![1,2],}",
-        "/*/**/",
-    ];
     let large = Entry {
         call: list_large,
         tokens: &[],
     };
-    for draft in drafts.map(str::as_bytes) {
+    for draft in DRAFTS.map(str::as_bytes) {
         let words = draft.len();
         let of_large = large.left(
             draft,

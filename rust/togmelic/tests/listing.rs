@@ -1,22 +1,11 @@
 //! The wrapper's answers against documents 01 and 02: the example, a refusal, files, and buffers of every telling length.
 //! Buffers are filled with 0xAA before each call, so that a byte that is not written shows.
 
+mod common;
+
+use common::{DRAFT, LINES};
 use togmelic::{list, listing, LINE, MOST_BYTES, MOST_LINES};
 
-const DRAFT: &[u8] = b"fn f(){match b{true=>1,false=>2,}}";
-/// As document 01 prints it, "The listing program", with the program's line on top.
-const LINES: &[u8] = b"\
-29 0000 0022 00000000 00000000 000A 0000
-01 0000 0022 00000000 00000000 0009 0001
-02 0003 0004 00000000 00000000 0001 0001
-12 0006 0022 00000001 00000000 0007 0002
-23 0007 0021 00000000 00000000 0006 0001
-1D 000D 000E 00000000 00000000 0001 0001
-25 0017 0020 00000005 00000000 0002 0002
-18 001E 001F 00000000 00000000 0001 0001
-25 000F 0017 00000006 00000000 0002 0004
-18 0015 0016 00000000 00000000 0001 0001
-";
 const REFUSED: &[u8] = b"fn f(){match x{true=>1,false=>2}}";
 const REFUSAL: &[u8] = b"00 001F 001F 00000008 00000000 0001 0000\n";
 

@@ -1,5 +1,8 @@
-//! What the tests of the two entries with lent buffers share: the example of document 01, and what a call leaves in buffers that are filled with garbage
-//! before, so that what is not written shows.
+//! What tests share: the example of document 01, drafts within the small limits, and what a call of one of the two entries with lent buffers leaves in
+//! buffers that are filled with garbage before, so that what is not written shows.
+
+// Each test program uses a part of it.
+#![allow(dead_code)]
 
 const GARBAGE: u32 = 0xAAAA_AAAA;
 
@@ -31,6 +34,20 @@ pub const TREE: [u32; 70] = [
     37, 15, 23, 6, 0, 2, 4,
     24, 21, 22, 0, 0, 1, 1,
 ];
+/// Drafts within the small limits, accepted and refused.
+pub const DRAFTS: [&str; 10] = [
+    "",
+    "fn f(){}",
+    "fn f(){fold(x)}",
+    "type A=(u8,[A;2]);fn f(){}",
+    "fn f(){match match a{true=>1,false=>2,}{true=>[1,2,3],false=>match c{Some(d:u1)=>e,None=>f,},}}",
+    "/*α*/ pub fn g(a:u8,b:A)->A{Left(Left(1,),match b{A::B=>match c{None=>1,Some(_:u8)=>2,},})}fn h(){}",
+    "fn f(){0x_1;assert!(jet::eq_8(witness::A,0b1_0))}// end",
+    "fn f(){match x{}}",
+    "fn f(){list![1,2],}",
+    "/*/**/",
+];
+
 /// A line that is refused so, at a place that four digits hold.
 pub fn refusal(number: u32, place: usize) -> Vec<u8> {
     format!("00 {place:04X} {place:04X} {number:08X} 00000000 0001 0000\n").into_bytes()
