@@ -114,4 +114,27 @@ static const char *functions(void)
     return draft;
 }
 
+/* One word of the records less than the functions need in this room, one word of a token less, and then one token more than the limit. */
+static void test_too_much(const char *draft, struct room room)
+{
+    room.tree--;
+    CHECK(refuses(draft, BYTES * FUNCTIONS, room, refusal(15, 0)));
+    room.tokens--;
+    CHECK(refuses(draft, BYTES * FUNCTIONS, room, "00 027FFF 027FFF 00000006 00000000 000001 000000\n"));
+    CHECK(refuses(draft, BYTES * FUNCTIONS + 1, MOST, "00 028000 028000 00000006 00000000 000001 000000\n"));
+}
+
+/* What is kept of the example's tokens, and its tree, in one array, one behind the other, with nothing between. */
+static void test_one_array(struct words kept)
+{
+    uint32_t *records = tree + kept.count;
+    size_t used;
+    memset(tree, FILL, sizeof tree);
+    memset(out, FILL, sizeof out);
+    used = ENTRY((const unsigned char *)EXAMPLE, 34, tree, kept.count, records, EXAMPLE_WORDS, out, EXAMPLE_BYTES);
+    CHECK(wrote(used, EXAMPLE_BYTES, EXAMPLE_LINES));
+    CHECK(memcmp(tree, kept.words, kept.count * sizeof *tree) == 0);
+    CHECK(holds(records, EXAMPLE_WORDS, THE_RECORDS));
+}
+
 #endif

@@ -170,23 +170,7 @@ static void test_tokens(void)
     room.out--;
     CHECK(wrote(called(draft, BYTES * FUNCTIONS, room), room.out, ""));
     CHECK(memcmp(words, tree, LINES * TOGMELIC_RECORD_WORDS * sizeof *words) == 0);
-    room.tree--;
-    CHECK(refuses(draft, BYTES * FUNCTIONS, room, refusal(15, 0)));
-    room.tokens--;
-    CHECK(refuses(draft, BYTES * FUNCTIONS, room, "00 027FFF 027FFF 00000006 00000000 000001 000000\n"));
-    CHECK(refuses(draft, BYTES * FUNCTIONS + 1, MOST, "00 028000 028000 00000006 00000000 000001 000000\n"));
-}
-
-/* The tokens and the tree in one array, one behind the other, with nothing between. */
-static void test_one_array(void)
-{
-    size_t used;
-    memset(tree, FILL, sizeof tree);
-    memset(out, FILL, sizeof out);
-    used = togmelic_list_large((const unsigned char *)EXAMPLE, 34, tree, TOKEN_WORDS, tree + TOKEN_WORDS, EXAMPLE_WORDS, out, EXAMPLE_BYTES);
-    CHECK(wrote(used, EXAMPLE_BYTES, EXAMPLE_LINES));
-    CHECK(memcmp(tree, EXAMPLE_TOKENS, sizeof EXAMPLE_TOKENS) == 0);
-    CHECK(holds(tree + TOKEN_WORDS, EXAMPLE_WORDS, THE_RECORDS));
+    test_too_much(draft, room);
 }
 
 /* Drafts within the small limits have the lines that togmelic_list writes. */
@@ -211,7 +195,7 @@ int main(void)
     test_bytes();
     test_forms();
     test_tokens();
-    test_one_array();
+    test_one_array(THE_TOKENS);
     test_small_drafts();
     return finish("list_large");
 }

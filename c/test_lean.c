@@ -117,23 +117,7 @@ static void test_tokens(void)
     CHECK(at == TOGMELIC_LARGE_TOKENS && tokens[at] == 0xAAAAAAAA);
     CHECK(tree[5] == LINES && tree[LINES * TOGMELIC_RECORD_WORDS - 1] == 1 && tree[(LINES - 4) * TOGMELIC_RECORD_WORDS + TOGMELIC_UP] == LINES - 4);
     room.out++;
-    room.tree--;
-    CHECK(refuses(draft, BYTES * FUNCTIONS, room, refusal(15, 0)));
-    room.tokens--;
-    CHECK(refuses(draft, BYTES * FUNCTIONS, room, "00 027FFF 027FFF 00000006 00000000 000001 000000\n"));
-    CHECK(refuses(draft, BYTES * FUNCTIONS + 1, MOST, "00 028000 028000 00000006 00000000 000001 000000\n"));
-}
-
-/* The starts and the tree in one array, one behind the other, with nothing between. */
-static void test_one_array(void)
-{
-    size_t used;
-    memset(tree, FILL, sizeof tree);
-    memset(out, FILL, sizeof out);
-    used = togmelic_list_lean((const unsigned char *)EXAMPLE, 34, tree, TOKENS, tree + TOKENS, EXAMPLE_WORDS, out, EXAMPLE_BYTES);
-    CHECK(wrote(used, EXAMPLE_BYTES, EXAMPLE_LINES));
-    CHECK(memcmp(tree, EXAMPLE_STARTS, sizeof EXAMPLE_STARTS) == 0);
-    CHECK(holds(tree + TOKENS, EXAMPLE_WORDS, THE_RECORDS));
+    test_too_much(draft, room);
 }
 
 /* The same lines and the same tree as with togmelic_list_large, and of its tokens the second words. */
@@ -163,7 +147,7 @@ int main(void)
     test_lengths();
     test_order();
     test_tokens();
-    test_one_array();
+    test_one_array(THE_STARTS);
     test_other_entry();
     return finish("list_lean");
 }
