@@ -21,8 +21,6 @@ PAGE, PICTURE = os.path.join(ROOT, "docs", "ARCHITECTURE.md"), os.path.join(ROOT
 BEGIN, END = "<!-- promises: made by tools/architecture.py -->\n", "<!-- end -->\n"
 WIDTH, HEIGHT = 900, 1322
 PROVED = 140  # the line between what is proved and what is not
-# What a crate may stand on that is none of this repository: the kit brings it.
-KIT = {"anyhow"}
 
 # The stages of the data, from the top of the picture downwards, and the columns: left edge and width.
 STAGES = {"around": 56, "entries": 160, "reader": 232, "bytes": 312, "lexer": 372, "tokens": 522, "parse": 582, "records": 714, "up": 774, "ways": 870,
@@ -94,6 +92,7 @@ WAYS = {
     ("reader_cases", "reader"): "R30 L30", ("lexer_cases", "lexer"): "R29 L29", ("lexer_speed", "lexer"): "R29 L97", ("load_cases", "load"): "R36 L54",
     ("words_cases", "words"): "L20 R20", ("num_cases", "num"): "L20 R6", ("num_speed", "num"): "L20 R56",
     ("reader_cases", "cases"): "L30 x13 L33", ("lexer_cases", "cases"): "L29 x13 L33", ("load_cases", "cases"): "T56 B56",
+    ("lexer_speed", "cases"): "L29 x13 L33", ("words_cases", "cases"): "R20 x862 y515 x13 L33",
 }
 # What stands around the proved code, and calls it.
 AROUND = {
@@ -120,7 +119,7 @@ def crates():
     """The crates of crates.txt, each with those of them that it stands on."""
     text = re.sub(r"#.*", "", open(os.path.join(ROOT, "crates.txt"), encoding="utf-8").read())
     rows = [line.split(":") for line in text.splitlines() if line.strip()]
-    return {head.split()[0]: set(on.split()) - KIT for head, on in rows}
+    return {head.split()[0]: set(on.split()) for head, on in rows}
 
 
 def direct(on):

@@ -11,6 +11,8 @@ import functools, itertools, pathlib, re, sys
 
 from paper_lexer import BRACKETS, KEYWORDS, LARGE, LIMITS, MARKS, MATCHES, RULE_WORDS, SMALL, WORDS, answer
 
+INPUT = 65536  # bytes that the program reads
+
 
 def bytes_of(text):
     return re.sub(rb"\\([0-9a-f]{2})", lambda m: bytes([int(m[1], 16)]), text.encode())
@@ -345,6 +347,7 @@ def write_cases():
 
 def main():
     cases = write_cases()
+    assert sum(len(line) + 1 for line in cases.lines) <= INPUT, "more cases than the program reads"
     folder = pathlib.Path(__file__).resolve().parent.parent / "crates/lexer_cases"
     bad = False
     for name, lines in (("stdin", cases.lines), ("stdout", cases.answers)):

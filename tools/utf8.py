@@ -7,7 +7,7 @@ tools/paper_lexer.py, which asks the decoder.
 """
 import itertools, subprocess
 
-from lexer_cases import Cases
+from lexer_cases import INPUT, Cases
 from program import finish, program
 
 # Bytes of marks and line ends, and both sides of each edge in RFC 3629's table.
@@ -34,6 +34,18 @@ def all_cases():
     return cases
 
 
+def parts(lines):
+    """The lines in as few parts as the program can read, each at once."""
+    part, size = [], 0
+    for line in lines:
+        if size + len(line) + 1 > INPUT:
+            yield part
+            part, size = [], 0
+        part.append(line)
+        size += len(line) + 1
+    yield part
+
+
 def said(lines):
     """What the program writes for these cases."""
     asked = "".join(line + "\n" for line in lines)
@@ -42,7 +54,7 @@ def said(lines):
 
 def main():
     cases = all_cases()
-    found = said(cases.lines)
+    found = [answer for part in parts(cases.lines) for answer in said(part)]
     faults = [f"the lexer says {here}, and by Python's decoder it is {right}" for here, right in zip(found, cases.answers) if here != right]
     if len(found) != len(cases.answers):
         faults.insert(0, f"{len(found)} answers for {len(cases.answers)} drafts")

@@ -2,7 +2,7 @@
 // the text behind; then the text and a line end.
 #![tactic(auto)]
 
-ghost use Rattle.std.specs.Prelude.{◌≡◌, [], ◌∷◌, ◌++◌, ◌<◌, ◌*◌, Some, drop, length, true, cond, codes, All, None, IfSome, MatchOption, MatchResult};
+ghost use Rattle.std.specs.Prelude.{◌≡◌, [], ◌∷◌, ◌++◌, ◌≤◌, ◌<◌, ◌*◌, Some, drop, length, true, cond, codes, All, None, IfSome, MatchOption, MatchResult};
 ghost use Rattle.std.specs.Iterator.{at_most};
 ghost use Rattle.std.specs.Bool.{Decides};
 ghost use Rattle.std.specs.Simd.{first_chunks};
@@ -10,6 +10,7 @@ ghost use Rattle.cases.specs.Stream.{StartsWith, Within};
 
 use std::error::Error;
 use std::fmt;
+use std::io::Read;
 
 /// A case: the numbers of its line, and its text.
 #[derive(Clone, Copy, Debug)]
@@ -55,6 +56,20 @@ fn numbers<const N: usize>(line: &[u8]) -> Option<[usize; N]> {
         *value = number(fields.next()?)?;
     }
     fields.next().is_none().then_some(numbers)
+}
+
+/// What comes in, as far as the buffer holds it: a reading that fails ends it, and what came before counts.
+pub fn input<'a>(source: &mut impl Read, buf: &'a mut [u8]) -> &'a [u8]
+    ensures { length result.now ≤ length buf.old }
+{
+    let mut done = 0;
+    while done < buf.len() {
+        match source.read(&mut buf[done..]) {
+            Ok(0) | Err(_) => break,
+            Ok(more) => done += more,
+        }
+    }
+    &buf[..done]
 }
 
 /// What a word or a byte of a lent buffer holds before, so that one that is not written shows.

@@ -168,11 +168,11 @@ impl Scanner<'_> {
         ensures { result ≡ lexeme_at self.entry.draft.now self.entry.at }
     {
         let b = peek(self.draft, self.at + 1);
-        if b == b'/' {
-            return self.line();
-        }
         if b == b'*' {
             return self.block();
+        }
+        if b == b'/' {
+            return self.line();
         }
         self.refused(Refusal::NoLexeme)
     }

@@ -1,15 +1,17 @@
 // Lexes the drafts that its input lists and writes one line a case.
 #![tactic(auto)]
 
-use anyhow::Result;
 use cases::{UNWRITTEN, front, is_zero, zeros};
 use drafts::Case;
 use std::alloc::Global;
 use std::io;
-use std::io::{BufRead, BufReader, BufWriter, Write};
+use std::io::{BufWriter, Write};
 use text::TOKEN_WORDS;
 
 mod drafts;
+
+// Of longer input these bytes count.
+const MOST_BYTES: usize = 65536;
 
 // The tokens are shown where there are no more.
 const MOST_SHOWN: usize = 24;
@@ -53,14 +55,22 @@ fn write_case(out: &mut impl Write, alloc: Global, case: &Case) -> io::Result<()
     }
 }
 
-fn main(rt: HostRuntime) -> Result<()> {
+// Each line, and its answer where it is a case.
+fn run(rt: &HostRuntime, lines: &[u8]) -> io::Result<()> {
     let alloc = rt.alloc();
-    let mut out = BufWriter::new(alloc, io::writer(&rt))?;
-    for line in BufReader::new(alloc, rt.reader())?.lines(alloc) {
-        let line = line?;
-        write!(out, "{line}")?;
-        write_case(&mut out, alloc, &Case::parse(alloc, line.as_str())?)?;
+    let mut out = BufWriter::new(alloc, io::writer(rt))?;
+    for line in lines.split_inclusive(|byte| *byte == b'\n') {
+        let line = line.strip_suffix(b"\n").unwrap_or(line);
+        out.write_all(line)?;
+        if let Some(case) = Case::parse(alloc, line)? {
+            write_case(&mut out, alloc, &case)?;
+        }
     }
-    out.flush()?;
-    Ok(())
+    out.flush()
+}
+
+// What cannot be written is lost: nothing is said of it, and the status is 0.
+fn main(rt: HostRuntime) {
+    let mut buf = [0; MOST_BYTES];
+    let _ = run(&rt, cases::input(&mut rt.stdin(), &mut buf));
 }

@@ -3,13 +3,29 @@
 // would try again.
 #![tactic(auto)]
 
-ghost use Rattle.std.specs.Prelude.{length};
+ghost use Rattle.std.specs.Prelude.{◌≡◌, ◌+◌, ◌≤◌, length, IfOk};
+ghost use Rattle.lexer.specs.Limits.{small_limits};
+ghost use Rattle.reader.specs.Fits.{enough};
 ghost use Rattle.listing.specs.Within.{Within};
 
 use lexer::SMALL_BYTES;
 use reader::entry::LISTING_BYTES;
 use std::io::{ErrorKind, Read, Write};
 use std::{fmt, io};
+
+// One byte more than a draft may have is kept: more need not be, since the length alone refuses it.
+fn draft_buffer() -> [u8; SMALL_BYTES + 1]
+    ensures { small_limits.bytes + 1 ≡ length result }
+{
+    [0; SMALL_BYTES + 1]
+}
+
+// Room for the lines of every draft within the small limits, which the program keeps. It is an array: memory that is asked for might not be there.
+fn line_buffer() -> [u8; LISTING_BYTES]
+    ensures { enough ≡ length result }
+{
+    [0; LISTING_BYTES]
+}
 
 // The system's text for an error, without the number that std puts behind it.
 fn without_number(text: &str) -> &str {
@@ -77,7 +93,9 @@ fn drain(input: &mut impl Read, buf: &mut [u8]) -> io::Result<()> {
 }
 
 // Reads the whole input, as far as the buffer keeps it.
-fn read_draft<'a>(rt: &HostRuntime, buf: &'a mut [u8]) -> io::Result<&'a [u8]> {
+fn read_draft<'a>(rt: &HostRuntime, buf: &'a mut [u8]) -> io::Result<&'a [u8]>
+    ensures { IfOk result (λ draft. length draft.now ≤ length buf.old) }
+{
     let mut input = rt.stdin();
     let bytes = fill(&mut input, buf)?;
     if bytes == buf.len() {
@@ -98,17 +116,15 @@ fn put(out: &mut impl Write, bytes: &[u8]) -> io::Result<()> {
     Ok(())
 }
 
-// Writes the lines of a draft. Its buffer, as that of `run`, has the size that is enough for every draft within the small limits, which the program keeps:
-// memory that is asked for might not be there.
+// Writes the lines of a draft.
 fn list(rt: &HostRuntime, draft: &[u8]) -> io::Result<()> {
-    let mut lines = [0; LISTING_BYTES];
+    let mut lines = line_buffer();
     let used = reader::entry::list_draft(draft, &mut lines);
     put(&mut rt.stdout(), &lines[..used])
 }
 
-// One byte more than a draft may have is kept: more need not be, since the length alone refuses it.
 fn run(rt: &HostRuntime) -> Result<(), Failed> {
-    let mut buf = [0; SMALL_BYTES + 1];
+    let mut buf = draft_buffer();
     let draft = read_draft(rt, &mut buf).map_err(Failed::Read)?;
     list(rt, draft).map_err(Failed::Write)
 }

@@ -15,6 +15,12 @@ use text::refusal::Refused;
 // The words of the longest buffer that a case may ask.
 const MOST_WORDS: usize = 16384;
 
+// The longest text that a case may give.
+const MOST_TEXT: usize = 1_000_009;
+
+// Of a longer stream these bytes count.
+const MOST_INPUT: u64 = 2_097_152;
+
 // Whether lines of 36 bytes are those of 41 without the way up and the space before it.
 fn is_wider(listing: &[u8], lines: &[u8]) -> bool {
     let (short, left) = listing.as_chunks::<SIX_BYTES>();
@@ -84,16 +90,21 @@ fn write_case(out: &mut impl Write, alloc: Global, listing: &[u8], words: usize)
 }
 
 // No case is run after one that is wrong: `Cases` ends there.
-fn main(rt: HostRuntime) -> io::Result<()> {
+fn run(rt: &HostRuntime, stream: &[u8]) -> io::Result<()> {
     let alloc = rt.alloc();
-    let mut stream = Vec::new(alloc);
-    rt.stdin().read_to_end(&mut stream)?;
-    let mut out = BufWriter::new(alloc, io::writer(&rt))?;
-    for case in Cases::within(&stream, [MOST_WORDS, usize::MAX]) {
+    let mut out = BufWriter::new(alloc, io::writer(rt))?;
+    for case in Cases::within(stream, [MOST_WORDS, MOST_TEXT]) {
         match case {
             Ok(case) => write_case(&mut out, alloc, case.text, case.numbers[0])?,
             Err(bad) => writeln!(out, "{bad}")?,
         }
     }
     out.flush()
+}
+
+// A read that fails ends the stream. What cannot be written is lost: nothing is said of it, and the status is 0.
+fn main(rt: HostRuntime) {
+    let mut stream = Vec::new(rt.alloc());
+    let _ = rt.stdin().take(MOST_INPUT).read_to_end(&mut stream);
+    let _ = run(&rt, &stream);
 }

@@ -5,7 +5,7 @@ ghost use Rattle.std.specs.Prelude.{suc, ◌-◌, length};
 ghost use Rattle.std.specs.Iterator.{at_most};
 
 use std::io;
-use std::io::{BufWriter, Write};
+use std::io::Write;
 
 // A part of a list between two spaces, by its start and its end: `num` takes these, and `split` does not give them.
 #[derive(Clone, Copy)]
@@ -216,12 +216,15 @@ fn write_good_numbers(out: &mut impl Write) -> io::Result<()> {
     Ok(())
 }
 
-fn main(rt: HostRuntime) -> io::Result<()> {
-    let mut out = BufWriter::new(rt.alloc(), io::writer(&rt))?;
-    write_numbers(&mut out)?;
-    write_digit_texts(&mut out)?;
-    write_number_parts(&mut out)?;
-    write_digit_parts(&mut out)?;
-    write_good_numbers(&mut out)?;
-    out.flush()
+fn write_cases(out: &mut impl Write) -> io::Result<()> {
+    write_numbers(out)?;
+    write_digit_texts(out)?;
+    write_number_parts(out)?;
+    write_digit_parts(out)?;
+    write_good_numbers(out)
+}
+
+// What cannot be written is lost: nothing is said of it, and the status is 0. No memory is asked for, so none can be missing.
+fn main(rt: HostRuntime) {
+    let _ = write_cases(&mut rt.stdout());
 }

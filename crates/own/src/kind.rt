@@ -55,6 +55,9 @@ pub enum Kind {
     TypeItem = 42,
 }
 
+// The kinds are 1 to this.
+pub const LAST: u32 = Kind::TypeItem as u32;
+
 // A number that no kind has.
 #[derive(Clone, Copy, PartialEq, Eq, Debug)]
 pub struct NoKind(pub u32);

@@ -25,6 +25,12 @@ const MOST_RECORD_WORDS: usize = 16384;
 
 const MOST_BYTES: usize = 90000;
 
+// The longest text that a case may give.
+const MOST_TEXT: usize = 1_000_009;
+
+// Of a longer stream these bytes count.
+const MOST_INPUT: u64 = 2_097_152;
+
 fn name(what: ReadAs) -> &'static str {
     match what {
         ReadAs::Function => "function",
@@ -258,13 +264,11 @@ fn write_listings(out: &mut impl Write, alloc: Global, case: Case<'_, 4>) -> io:
 }
 
 // No case is run after one that is wrong: `Cases` ends there.
-fn main(rt: HostRuntime) -> io::Result<()> {
+fn run(rt: &HostRuntime, stream: &[u8]) -> io::Result<()> {
     let alloc = rt.alloc();
-    let mut stream = Vec::new(alloc);
-    rt.stdin().read_to_end(&mut stream)?;
-    let mut out = BufWriter::new(alloc, io::writer(&rt))?;
-    let limits = [MOST_TOKEN_WORDS, MOST_RECORD_WORDS, MOST_BYTES, usize::MAX];
-    for case in Cases::within(&stream, limits) {
+    let mut out = BufWriter::new(alloc, io::writer(rt))?;
+    let limits = [MOST_TOKEN_WORDS, MOST_RECORD_WORDS, MOST_BYTES, MOST_TEXT];
+    for case in Cases::within(stream, limits) {
         match case {
             Ok(case) => {
                 write_readings(&mut out, alloc, case)?;
@@ -274,4 +278,11 @@ fn main(rt: HostRuntime) -> io::Result<()> {
         }
     }
     out.flush()
+}
+
+// A read that fails ends the stream. What cannot be written is lost: nothing is said of it, and the status is 0.
+fn main(rt: HostRuntime) {
+    let mut stream = Vec::new(rt.alloc());
+    let _ = rt.stdin().take(MOST_INPUT).read_to_end(&mut stream);
+    let _ = run(&rt, &stream);
 }

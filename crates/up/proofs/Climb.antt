@@ -37,6 +37,9 @@ pub record Climbs (s : ℕ → ℕ) (i p : ℕ) : Type 0 where
   pub same : back s i (suc p) ≡ way_up s i
 
 module _ {s : ℕ → ℕ} {i p : ℕ} (c : Climbs s i p) where
+  pub arrives : i - p < s p → i - p ≡ way_up s i
+  arrives h = let l = c.before in sym (found s i p (omega (arith, h, l))) ∙ c.same
+
   module _ {u : ℕ} (h : s p ≤ i - p) (e : u ≡ way_up s p) where
     next : back s i p ≡ way_up s i
     next = let l = c.before in sym (passed s i p (omega (arith, h, l))) ∙ c.same
@@ -70,6 +73,13 @@ resumes {s} {i} {p} n h e = go (dec_lt 0 (way_up s (i - 1)))
     go (yes l) = subst (Climbs s i) (sym e) (climbs c (omega (arith, h, n)) refl (λ z. omega (arith, l, z)))
     go (no k) = let g : i - 1 ≡ p = omega (arith, k, e) in subst (Climbs s i) g c
 
--- One that is held by none.
-pub held-by-none : {s : ℕ → ℕ} {i p u : ℕ} → Climbs s i p → s p ≤ i - p → u ≡ way_up s p → u ≡ 0 → i ≡ i - way_up s i
-held-by-none c h e z = omega (arith, tops c h e z)
+-- One that is held by the record before it, or by another that the way comes to; and one that is held by none.
+module _ {s : ℕ → ℕ} {i p : ℕ} (c : Climbs s i p) where
+  pub held-by : i - p < s p → p ≡ i - way_up s i
+  held-by h = let l = c.before in omega (arith, arrives c h)
+
+  pub held-by-none : {u : ℕ} → s p ≤ i - p → u ≡ way_up s p → u ≡ 0 → i ≡ i - way_up s i
+  held-by-none h e z = omega (arith, tops c h e z)
+
+pub held-before : (s : ℕ → ℕ) (i : ℕ) → 0 < i → 1 < s (i - 1) → i - 1 ≡ i - way_up s i
+held-before s i n h = held-by (starts s i (λ z. omega (arith, n, z))) (omega (arith, n, h))

@@ -69,13 +69,11 @@ fn tail(b: u8) -> bool
     (TAIL..=LAST_TAIL).contains(&b)
 }
 
-// How many bytes the sequence at i has, whose first byte b is over 127: `sequence` for a caller that has looked at the byte.
+// The answer of `wide`, whose law is proved once, of whatever is answered.
 // Byte by byte: `peek` gives 0 past the end, which is no tail, so a sequence that is cut off there needs no test of its own. The second byte comes by
 // `get`: by `peek`, Greek letters took 4 percent more instructions.
-// It is public for the lexer's loops over comments, which have looked at the byte (crates/lexer/src/trivia.rt says what `sequence` took in one), and so asks
-// for what they know: with no `requires`, i + 1 could overflow.
 #[tactic(auto, using(crate::proofs::Leads::row_under, crate::proofs::Leads::row_two, crate::proofs::Leads::row_over, crate::proofs::Leads::row_cut))]
-pub fn wide(s: &[u8], i: usize, b: u8) -> Option<usize>
+fn wide_found(s: &[u8], i: usize, b: u8) -> Option<usize>
     requires { (i < length s.now) × (b ≡ get_or s.now i 0) × (128 ≤ b) }
     ensures { result ≡ char_found (drop i s.now) }
 {
@@ -88,6 +86,17 @@ pub fn wide(s: &[u8], i: usize, b: u8) -> Option<usize>
         }
         _ => None,
     }
+}
+
+// How many bytes the sequence at i has, whose first byte b is over 127: `sequence` for a caller that has looked at the byte.
+// It is public for the lexer's loops over comments, which have looked at the byte (crates/lexer/src/trivia.rt says what `sequence` took in one), and so asks
+// for what they know: with no `requires`, i + 1 could overflow.
+pub fn wide(s: &[u8], i: usize, b: u8) -> Option<usize>
+    requires { (i < length s.now) × (b ≡ get_or s.now i 0) × (128 ≤ b) }
+    ensures answer { result ≡ char_found (drop i s.now) }
+    ensures law { Told (drop i s.now) (unwrap_or result 0) }
+{
+    wide_found(s, i, b)
 }
 
 // How many bytes the sequence at i has, if one stands there: none does at the end of the text, or past it. No crate here calls

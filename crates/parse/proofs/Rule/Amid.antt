@@ -29,7 +29,7 @@ use Rattle.parse.specs.contracts.Step.{the_type}
 use Rattle.parse.specs.Contract.{Text, classes, Read, Stuck, raw, fault_in, sooner, kept, Stands, Holds, Laid, Info, as_items, Went, Parsed, read, stuck}
 use Rattle.parse.specs.declared.State.{State}
 use Rattle.parse.specs.declared.Step.{Step}
-use Rattle.parse.specs.declared.Step.TheVariants.{Next}
+use Rattle.parse.specs.declared.Step.TheVariants.{Next, Refused}
 use Rattle.text.proofs.Sets.{sets-next}
 use Rattle.parse.proofs.Rule.Lists.{joined, sorts-joined, marks-joined, arranged-joined, sizes-joined, words-joined, each-joined, length-words, length-join, raw-join, fault-join, sooner-none, sooner-assoc}
 
@@ -47,6 +47,11 @@ inside x i pos e = go (dec_lt i (length (classes x)))
     go : Dec (i < length (classes x)) → i < length x.ts
     go (yes h) = subst (λ n. i < n) (length-classes x.ts) h
     go (no h) = let z : get_or (classes x) i 0 ≡ 0 = get_or-eq_default (classes x) 0 (omega arith) in absurd (omega arith)
+
+-- What the `else` of a `let Step::Next(..) = r else { return r; }` knows of r: that its tag is 1.
+pub refused : (r : Step) → OneOf (1 ∷ []) (tag_of the_type r) → (p : ℕ) × (r ≡ Refused p)
+refused (Next st a b) h = absurd (omega arith)
+refused (Refused p) h = (p, refl)
 
 module _ {x : Text} {σ : List Sym} {wrap : shape.Items → shape.Items} {I : Info} {st : State} {l l' : List ℕ} where
   is_read : {st' : State} {a b : ℕ} → Parsed x σ wrap I st l l' (Next st' a b) → Went x σ wrap I st l st' l' a b

@@ -19,6 +19,11 @@ joined own.none s = s
 joined (mark t r) s = mark t (joined r s)
 joined (sub k l h js r) s = sub k l h js (joined r s)
 
+pub joined-none : (r : Items) → joined r own.none ≡ r
+joined-none own.none = refl
+joined-none (mark t r) = ap (mark t) (joined-none r)
+joined-none (sub k l h js r) = ap (sub k l h js) (joined-none r)
+
 pub sorts-joined : (r s : Items) → sorts (joined r s) ≡ sorts r ++ sorts s
 sorts-joined own.none s = refl
 sorts-joined (mark t r) s = let h = sorts-joined r s in cc

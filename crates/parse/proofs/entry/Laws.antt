@@ -73,7 +73,7 @@ module _ (src : Source) where
   unfolding text
   text-is = refl
 
-  length-is : length ts ≡ n
+  pub length-is : length ts ≡ n
   length-is = length-source src
 
   -- Where a token starts, or the length at the end.

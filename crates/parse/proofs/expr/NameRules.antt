@@ -114,7 +114,7 @@ module _ {c : ℕ} where
   while-rule e =
       angled (by_rule call.whiles-rule e (call.for-whiles c e) (call.whiles-name c e) refl call.whiles-optional.flat (never ForWhileShape tt)) call.whiles-optional call.whiles-choice
 
-  generic-rule : (g : GenericCall) → Generic c g → GenericRule c
+  pub generic-rule : (g : GenericCall) → Generic c g → GenericRule c
   generic-rule generic.Typed e = typed-rule e
   generic-rule generic.Folding e = folding-rule e
   generic-rule generic.ForWhile e = while-rule e

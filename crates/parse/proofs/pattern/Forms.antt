@@ -110,7 +110,7 @@ shut_at {r = true} c e f = sym e
 shut_at {r = false} c e f = absurd (differ (sym f))
 
 -- The rows of a list that ends at both.
-both_ends : (c : ℕ) → Closes c → look (on t.RParen 1 ∷ on t.RBracket 1 ∷ []) 2 c ≡ 1
+pub both_ends : (c : ℕ) → Closes c → look (on t.RParen 1 ∷ on t.RBracket 1 ∷ []) 2 c ≡ 1
 both_ends c h = go (or_cases (eqb c t.RParen) (eqb c t.RBracket) h)
   where
     go : (eqb c t.RParen ≡ true) ⊎ (eqb c t.RBracket ≡ true) → look (on t.RParen 1 ∷ on t.RBracket 1 ∷ []) 2 c ≡ 1
@@ -121,7 +121,7 @@ both_ends c h = go (or_cases (eqb c t.RParen) (eqb c t.RBracket) h)
         both true f g = hit t.RParen 1 (on t.RBracket 1 ∷ []) 2 (eqb-true c t.RParen f)
         both false f g = miss t.RParen 1 (on t.RBracket 1 ∷ []) 2 (λ h. differ (sym f ∙ eq-eqb c t.RParen h)) (hit t.RBracket 1 [] 2 g)
 
-both-more : (c : ℕ) → (Closes c → ⊥) → look (on t.RParen 1 ∷ on t.RBracket 1 ∷ []) 2 c ≡ 2
+pub both-more : (c : ℕ) → (Closes c → ⊥) → look (on t.RParen 1 ∷ on t.RBracket 1 ∷ []) 2 c ≡ 2
 unfolding look
 both-more c h = miss t.RParen 1 (on t.RBracket 1 ∷ []) 2 (closes-not c t.RParen h (inl refl)) (miss t.RBracket 1 [] 2 (closes-not c t.RBracket h (inr refl)) refl)
 

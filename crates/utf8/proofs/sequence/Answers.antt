@@ -13,4 +13,4 @@ returns-then-b-le-LAST_ASCII-clause-law c =
     lawful _ (sym (ascii c.args.s.now c.args.i (omega (arith, e)) (omega (arith, e, c.if-b-le-LAST_ASCII.true))))
 
 pub returns-clause-law : goal.returns-clause-law
-returns-clause-law c = lawful _ c.wide.ensures
+returns-clause-law c = c.wide.ensures.law

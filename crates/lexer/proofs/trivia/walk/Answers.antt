@@ -12,16 +12,16 @@ loop-j-preserved-then-plain g c = block-past c.loop-j.invariant (omega (arith, c
 
 pub returns-in_default : goal.returns-in_default
 returns-in_default g c =
-    block-bad c.loop-j.invariant (omega (arith, c.loop-j-test.true)) (ap not (ne_eqb g.row.SEQUENCES 0 c.if-this-ne0.true)) (sym c.in_default.is ∙ c.wide.ensures)
+    block-bad c.loop-j.invariant (omega (arith, c.loop-j-test.true)) (ap not (ne_eqb g.row.SEQUENCES 0 c.if-this-ne0.true)) (sym c.in_default.is ∙ c.wide.ensures.answer)
 
 pub overflow_add-j-then-b-gt-LAST_ASCII : goal.overflow_add-j-then-b-gt-LAST_ASCII
 overflow_add-j-then-b-gt-LAST_ASCII g c =
-    let v = block-passes c.loop-j.invariant (omega (arith, c.loop-j-test.true)) _ (omega (arith, c.if-b-gt-LAST_ASCII.true)) (sym c.in-Some.is ∙ c.wide.ensures) in
+    let v = block-passes c.loop-j.invariant (omega (arith, c.loop-j-test.true)) _ (omega (arith, c.if-b-gt-LAST_ASCII.true)) (sym c.in-Some.is ∙ c.wide.ensures.answer) in
     omega (arith, v.within)
 
 pub loop-j-preserved-then-b-gt-LAST_ASCII : goal.loop-j-preserved-then-b-gt-LAST_ASCII
 loop-j-preserved-then-b-gt-LAST_ASCII g c =
-    block-passes c.loop-j.invariant (omega (arith, c.loop-j-test.true)) _ (omega (arith, c.if-b-gt-LAST_ASCII.true)) (sym c.in-Some.is ∙ c.wide.ensures)
+    block-passes c.loop-j.invariant (omega (arith, c.loop-j-test.true)) _ (omega (arith, c.if-b-gt-LAST_ASCII.true)) (sym c.in-Some.is ∙ c.wide.ensures.answer)
 
 pub loop-j-preserved-in-Opens : goal.loop-j-preserved-in-Opens
 loop-j-preserved-in-Opens g c = block-opens c.loop-j.invariant (omega (arith, c.loop-j-test.true)) (sym c.in-Opens.is ∙ c.edge_at.ensures)

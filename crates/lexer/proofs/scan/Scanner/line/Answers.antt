@@ -16,16 +16,16 @@ returns-then-b-le-LAST_ASCII c =
 
 pub returns-in_default : goal.returns-in_default
 returns-in_default c =
-    line-bad c.requires c.loop-j.invariant c.loop-j-test.true (omega (arith, c.if-b-le-LAST_ASCII.false)) (sym c.in_default.is ∙ c.wide.ensures)
+    line-bad c.requires c.loop-j.invariant c.loop-j-test.true (omega (arith, c.if-b-le-LAST_ASCII.false)) (sym c.in_default.is ∙ c.wide.ensures.answer)
 
 pub overflow_add-j-in-loop-j : goal.overflow_add-j-in-loop-j
 overflow_add-j-in-loop-j c =
-    let v = line-passes c.loop-j.invariant c.loop-j-test.true _ (omega (arith, c.if-b-le-LAST_ASCII.false)) (sym c.in-Some.is ∙ c.wide.ensures) in
+    let v = line-passes c.loop-j.invariant c.loop-j-test.true _ (omega (arith, c.if-b-le-LAST_ASCII.false)) (sym c.in-Some.is ∙ c.wide.ensures.answer) in
     omega (arith, v.within)
 
 pub loop-j-preserved : goal.loop-j-preserved
 loop-j-preserved c =
-    line-passes c.loop-j.invariant c.loop-j-test.true _ (omega (arith, c.if-b-le-LAST_ASCII.false)) (sym c.in-Some.is ∙ c.wide.ensures)
+    line-passes c.loop-j.invariant c.loop-j-test.true _ (omega (arith, c.if-b-le-LAST_ASCII.false)) (sym c.in-Some.is ∙ c.wide.ensures.answer)
 
 pub returns : goal.returns
 returns c = line-over c.requires c.loop-j.invariant c.loop-j-test.false
