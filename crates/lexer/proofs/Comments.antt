@@ -66,6 +66,16 @@ module _ (b : ℕ) where
       go false true e f = and-false (leb b 127) ∙ is-lf (eqb-true b 10 f)
       go false false e f = ap (λ t. leb b 127 && t) (sym (neither-end b (eqb-false b 10 f) (eqb-false b 13 e)))
 
+  -- by the bytes that end a line
+  pub line-cr : b ≡ 13 → plain_beside 13 10 b ≡ false
+  line-cr e = plain-line ∙ sym (is-cr e)
+
+  pub line-lf : b ≡ 10 → plain_beside 13 10 b ≡ false
+  line-lf e = plain-line ∙ sym (is-lf e)
+
+  pub line-other : b ≤ 127 → (b ≡ 13 → ⊥) → (b ≡ 10 → ⊥) → plain_beside 13 10 b ≡ true
+  line-other l c f = plain-line ∙ simp (le-leb b 127 l, neither-end b f c)
+
   pub line_plain : plain_in_line b ≡ true → (b ≤ 127) × (in_line b ≡ true)
   line_plain e = (leb-true b 127 (both_left (leb b 127) (in_line b) e), both_right (leb b 127) (in_line b) e)
 

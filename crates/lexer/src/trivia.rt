@@ -17,20 +17,24 @@ pub(crate) enum Edge {
     Neither,
 }
 
-// Whether a byte in a comment is a sequence of its own and none of the two that mean something there: CR and LF in a line comment, `/` and `*` in a block.
-// Most bytes are past both, and each loop asks this first: by `&&` of the three comparisons a block comment of one letter took 31 percent more
-// instructions, a line comment 21 and stars 9; only Greek letters took 13 less.
+// Whether a byte is a sequence of its own and none of two others: in a block comment, `/` and `*`.
+// Most bytes are past both, and that is asked first, by one comparison of signed bytes as the compiler makes it: by `b > LARGER` and then `b <=
+// utf8::LAST_ASCII` a comment of letters took 27 percent more instructions. The two have a `return` each: joined with the last test by `&&`, they came
+// behind bytes over 127, and stars took 17 percent more, nested comments 8, Greek letters 15 less.
 fn plain<const LARGER: u8, const SMALLER: u8>(b: u8) -> bool
     requires { (SMALLER < LARGER) × (LARGER ≤ 127) }
     ensures { result ≡ plain_beside LARGER SMALLER b }
 {
-    if b > LARGER {
-        return b <= utf8::LAST_ASCII;
+    if LARGER < b && b <= utf8::LAST_ASCII {
+        return true;
+    }
+    if b == SMALLER {
+        return false;
     }
     if b == LARGER {
         return false;
     }
-    b != SMALLER
+    b <= utf8::LAST_ASCII
 }
 
 // What the two bytes at j do. The second is read behind a first that may begin a mark: a `match` over both reads two at each byte, and a comment of stars
@@ -70,19 +74,10 @@ fn walk<const SEQUENCES: bool>(s: &[u8], from: usize, inner: usize) -> Walked
     let mut j = from;
     let mut depth = inner;
     while j < last {
-        if SEQUENCES {
-            let b = s[j];
-            if plain::<b'/', b'*'>(b) {
-                j += 1;
-                continue;
-            }
-            if b > utf8::LAST_ASCII {
-                let Some(n) = utf8::wide(s, j, b) else {
-                    return Walked::Bad { place: j, depth };
-                };
-                j += n;
-                continue;
-            }
+        let b = s[j];
+        if plain::<b'/', b'*'>(b) {
+            j += 1;
+            continue;
         }
         match edge_at(s, j) {
             Edge::Opens => {
@@ -97,6 +92,13 @@ fn walk<const SEQUENCES: bool>(s: &[u8], from: usize, inner: usize) -> Walked
                 j += 2;
             }
             Edge::Neither => {
+                if SEQUENCES && b > utf8::LAST_ASCII {
+                    let Some(n) = utf8::wide(s, j, b) else {
+                        return Walked::Bad { place: j, depth };
+                    };
+                    j += n;
+                    continue;
+                }
                 j += 1;
             }
         }
@@ -121,8 +123,8 @@ fn broken(s: &[u8], i: usize, k: usize, inner: usize) -> Step
 
 impl Scanner<'_> {
     // The line comment here: it runs to before CR, LF or the end. The loops over comments step by sequences and marks of one to four bytes, so they count the
-    // place themselves. This is a loop of its own beside `walk`: one byte ends it, nothing nests, and the draft's last byte is of it too. Inlined, its refusal
-    // was made ready at every sequence.
+    // place themselves. This is a loop of its own beside `walk`: one byte ends it, nothing nests, and the draft's last byte is of it too. Most bytes are past
+    // CR, and most others over 127, so that is asked in this order. Inlined, its refusal was made ready at every sequence.
     #[inline(never)]
     fn line(self) -> Step
         requires { CommentAt self.draft.now self.at 47 }
@@ -132,20 +134,24 @@ impl Scanner<'_> {
         let mut j = self.at + 2;
         while j < s.len() {
             let b = s[j];
-            if plain::<b'\r', b'\n'>(b) {
+            if b'\r' < b && b <= utf8::LAST_ASCII {
                 j += 1;
                 continue;
             }
-            if b <= utf8::LAST_ASCII {
+            if b > utf8::LAST_ASCII {
+                let Some(n) = utf8::wide(s, j, b) else {
+                    return Step::Refused(Refused {
+                        refusal: Refusal::NotUtf8,
+                        place: j,
+                    });
+                };
+                j += n;
+                continue;
+            }
+            if b == b'\r' || b == b'\n' {
                 return Step::Trivia { end: j };
             }
-            let Some(n) = utf8::wide(s, j, b) else {
-                return Step::Refused(Refused {
-                    refusal: Refusal::NotUtf8,
-                    place: j,
-                });
-            };
-            j += n;
+            j += 1;
         }
         Step::Trivia { end: j }
     }

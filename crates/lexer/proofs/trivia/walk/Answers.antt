@@ -5,7 +5,7 @@ use borrow.Author.Tests.{ne_eqb, eq-eqb}
 use Rattle.text.proofs.Same.{differ}
 use Rattle.lexer.proofs.CommentWalks.{block-never, block-on, block-past, block-passes, block-bad, block-opens, block-closes, block-closed}
 use Rattle.lexer.proofs.trivia.walk.Goals as goal
-use Rattle.lexer.proofs.trivia.walk.Goals.{then-this-ne0+else-plain+else-b-gt-LAST_ASCII, else-this-ne0}
+use Rattle.lexer.proofs.trivia.walk.Goals.{else-this-ne0-via-then-this-ne0+else-b-gt-LAST_ASCII, else-this-ne0-via-else-this-ne0}
 
 pub loop-j-preserved-then-plain : goal.loop-j-preserved-then-plain
 loop-j-preserved-then-plain g c = block-past c.loop-j.invariant (omega (arith, c.loop-j-test.true)) (sym c.plain.ensures ∙ c.if-plain.true)
@@ -37,9 +37,9 @@ loop-j-preserved-in-Closes g c =
 pub loop-j-preserved : goal.loop-j-preserved
 loop-j-preserved g c =
     block-on c.loop-j.invariant (omega (arith, c.loop-j-test.true)) (sym c.in-Neither.is ∙ c.edge_at.ensures)
-    (λ w. elim c.if-this-ne0.branch [
-      | then-this-ne0+else-plain+else-b-gt-LAST_ASCII b ↦ omega (arith, b.if-b-gt-LAST_ASCII.false)
-      | else-this-ne0 b ↦ differ (sym (ap not (eq-eqb g.row.SEQUENCES 0 b.if-this-ne0.false)) ∙ w)
+    (λ w. elim c.else-this-ne0.branch [
+      | else-this-ne0-via-then-this-ne0+else-b-gt-LAST_ASCII b ↦ omega (arith, b.if-b-gt-LAST_ASCII.false)
+      | else-this-ne0-via-else-this-ne0 b ↦ differ (sym (ap not (eq-eqb g.row.SEQUENCES 0 b.if-this-ne0.false)) ∙ w)
     ])
 
 pub returns : goal.returns
